@@ -1,0 +1,134 @@
+-- The loops that write: the bytes of a number, and bits copied word by word.
+use mathlib.Core.Path.{_≡_, refl, sym, ap, _∙_, subst}
+use mathlib.Core.List.{List, [], _∷_, _++_}
+use Prim.Native.Nat.{ℕ, zero, suc, _+_, _-_, _*_, _/_, _%_, _^_, _<_, _≤_, min}
+use native.Mathlib.Nat.{zero-add, add-zero, mul-zero, sub-zero, suc-add, lt-of-lt-of-le, mod-eq-of-lt, div-eq-of-lt}
+use native.Mathlib.Omega.{arith}
+use lib.ListN.{length, set, length-set}
+use native.Mathlib.Decide.{decLt}
+use lib.Pow.{pow-mono}
+use Rattle.vrf_bitio.specs.Bits.{bitsOf, bytesOf, packedBits, bytesFor}
+use Rattle.vrf_bitio.specs.BitsLaws.{bits-lt, bits-low, bits-high}
+use Rattle.vrf_bitio.specs.WindowLaws.{bytes-length}
+use Rattle.vrf_bitio.specs.Number.{lowBytes}
+use Rattle.vrf_bitio.specs.NumberLaws.{lowBytes-length}
+use Rattle.vrf_bitio.specs.Pasted.{pasted}
+use Rattle.vrf_bitio.specs.PastedLaws.{pasted-nil, pasted-cons, pasted-length, pasted-append}
+
+-- `put_bytes` after k of t bytes: l is the list at the start, m the list now, left what is still to be written
+pub record Putting (l m : List ℕ) (at v t k left : ℕ) : Type 0 where
+  pub few : k ≤ t
+  pub long : length m ≡ length l
+  pub same : pasted m (at + k) (lowBytes (t - k) left) ≡ pasted l at (lowBytes t v)
+
+pub put-start : (l : List ℕ) (at v t : ℕ) → Putting l l at v t 0 v
+put-start l at v t =
+    let e : at + 0 ≡ at = omega arith in
+    let n : t - 0 ≡ t = omega arith in
+    record { few = omega arith; long = refl; same = rw (e, n) }
+
+module _ (l m : List ℕ) (at v t k left : ℕ) (i : Putting l m at v t k left) where
+  pub put-step : k < t → at + t ≤ length l → Putting l (set m (at + k) (left % 256)) at v t (k + 1) (left / 256)
+  unfolding lowBytes
+  put-step h fits =
+      let inside : at + k < length m = omega (arith, i .long) in
+      let one : t - k ≡ suc (t - (k + 1)) = omega arith in
+      let next : at + (k + 1) ≡ at + k + 1 = omega arith in
+      record {
+        few = omega arith;
+        long = length-set m (at + k) (left % 256) ∙ i .long;
+        same = rw next (sym (pasted-cons m (at + k) (left % 256) (lowBytes (t - (k + 1)) (left / 256)) inside) ∙ rw one at (i .same));
+      }
+
+  pub put-end : t ≤ k → m ≡ pasted l at (lowBytes t v)
+  unfolding lowBytes
+  put-end h =
+      let none : t - k ≡ 0 = omega arith in
+      sym (pasted-nil m (at + k)) ∙ rw none at (i .same)
+
+-- one of the two orders
+by-order : {A : Type 0} (a b : ℕ) → (a < b → A) → (b ≤ a → A) → A
+by-order a b f g = elim (decLt a b) [ yes h ↦ f h | no h ↦ g (omega arith) ]
+
+no-bits : (s : List ℕ) (p : ℕ) → bitsOf s p 0 ≡ 0
+unfolding bitsOf
+no-bits s p = refl
+
+-- the bytes of a run of bits are the low bytes of its number
+bytes-low : (s : List ℕ) (p k : ℕ) → bytesOf s p k ≡ lowBytes k (bitsOf s p (8 * k))
+unfolding bytesOf lowBytes
+bytes-low s p zero = refl
+bytes-low s p (suc k) =
+    let e : 8 * suc k ≡ 8 + 8 * k = omega arith in
+    rw (e, bits-low s p 8 (8 * k), bits-high s p 8 (8 * k), bytes-low s (p + 8) k)
+
+bytes-append : (s : List ℕ) (p a b : ℕ) → bytesOf s p (a + b) ≡ bytesOf s p a ++ bytesOf s (p + 8 * a) b
+unfolding bytesOf
+bytes-append s p zero b = rw (zero-add, mul-zero, add-zero)
+bytes-append s p (suc a) b =
+    let e : p + 8 + 8 * a ≡ p + 8 * suc a = omega arith in
+    rw (suc-add a b, bytes-append s (p + 8) a b, e)
+
+-- whole bytes, and then what is left of the bits
+packed-split : (s : List ℕ) (p n a b : ℕ) → 8 * a ≤ n → packedBits s p n (a + b) ≡ bytesOf s p a ++ packedBits s (p + 8 * a) (n - 8 * a) b
+unfolding packedBits bytesOf
+packed-split s p n zero b h = rw (zero-add, mul-zero, add-zero, sub-zero)
+packed-split s p n (suc a) b h =
+    let e : p + 8 + 8 * a ≡ p + 8 * suc a = omega arith in
+    let n8 : n - 8 - 8 * a ≡ n - 8 * suc a = omega arith in
+    let full : min 8 n ≡ 8 = omega arith in
+    let h′ : 8 * a ≤ n - 8 = omega arith in
+    rw (suc-add a b, full, packed-split s (p + 8) (n - 8) a b h′, e, n8)
+
+-- one byte of a copy and the bytes above it, where the byte is the last and where it is not
+module _ (s : List ℕ) (q k m : ℕ) (ih : packedBits s (q + 8) (m - 8) k ≡ lowBytes k (bitsOf s (q + 8) (m - 8))) where
+  last-byte : m < 8 → bitsOf s q (min 8 m) ∷ packedBits s (q + 8) (m - 8) k ≡ bitsOf s q m % 256 ∷ lowBytes k (bitsOf s q m / 256)
+  last-byte few =
+      let all : min 8 m ≡ m = omega arith in
+      let none : m - 8 ≡ 0 = omega arith in
+      let small : bitsOf s q m < 256 = lt-of-lt-of-le (bits-lt s q m) (pow-mono {i = m} {j = 8} (omega arith)) in
+      rw (all, mod-eq-of-lt small, div-eq-of-lt small, ih, none) (ap (λ (x : ℕ). bitsOf s q m ∷ lowBytes k x) (no-bits s (q + 8)))
+
+  whole-byte : 8 ≤ m → bitsOf s q (min 8 m) ∷ packedBits s (q + 8) (m - 8) k ≡ bitsOf s q m % 256 ∷ lowBytes k (bitsOf s q m / 256)
+  whole-byte many =
+      let full : min 8 m ≡ 8 = omega arith in
+      let back : m ≡ 8 + (m - 8) = omega arith in
+      let high : bitsOf s q m / 256 ≡ bitsOf s (q + 8) (m - 8) = ap (λ (w : ℕ). bitsOf s q w / 256) back ∙ bits-high s q 8 (m - 8) in
+      let low : bitsOf s q m % 256 ≡ bitsOf s q 8 = ap (λ (w : ℕ). bitsOf s q w % 256) back ∙ bits-low s q 8 (m - 8) in
+      rw (full, high, low, ih)
+
+-- fewer bits than bytes hold: the low bytes of their number
+packed-low : (s : List ℕ) (q k m : ℕ) → m ≤ 8 * k → packedBits s q m k ≡ lowBytes k (bitsOf s q m)
+unfolding packedBits lowBytes
+packed-low s q zero m h = refl
+packed-low s q (suc k) m h =
+    let ih = packed-low s (q + 8) k (m - 8) (omega arith) in
+    by-order m 8 (last-byte s q k m ih) (whole-byte s q k m ih)
+
+-- `copy_bits` before its first word
+pub copy-start : (s d : List ℕ) (p : ℕ) → d ≡ pasted d 0 (bytesOf s p (8 * 0))
+unfolding bytesOf
+copy-start s d p = sym (pasted-nil d 0)
+
+-- `copy_bits` after k words: d is the target at the start, m the target now
+module _ (s d m : List ℕ) (p k w : ℕ) (e : w ≡ bitsOf s (p + 64 * k) 64) where
+  pub copy-step : m ≡ pasted d 0 (bytesOf s p (8 * k)) → 8 * (k + 1) ≤ length d → pasted m (8 * k) (lowBytes 8 w) ≡ pasted d 0 (bytesOf s p (8 * (k + 1)))
+  copy-step i fits =
+      let word : lowBytes 8 w ≡ bytesOf s (p + 64 * k) 8 = ap (lowBytes 8) e ∙ sym (bytes-low s (p + 64 * k) 8) in
+      let at : 8 * k ≡ 0 + length (bytesOf s p (8 * k)) = rw bytes-length (omega arith) in
+      let room : 8 * k + length (bytesOf s (p + 64 * k) 8) ≤ length d = rw bytes-length (omega arith) in
+      let next : 8 * (k + 1) ≡ 8 * k + 8 = omega arith in
+      let bit : 64 * k ≡ 8 * (8 * k) = omega arith in
+      rw (i, word) (pasted-append (bytesOf s p (8 * k)) (bytesOf s (p + 64 * k) 8) d 0 (8 * k) at room ∙ ap (pasted d 0) (rw (next, bytes-append s p (8 * k) 8, bit)))
+
+-- and at its end: the bits that are left, in as many bytes as they take
+pub copy-end : (s d m : List ℕ) (p n w : ℕ) → w ≡ bitsOf s (p + 64 * (n / 64)) (n % 64) → m ≡ pasted d 0 (bytesOf s p (8 * (n / 64))) → bytesFor n ≤ length d
+    → pasted m (8 * (n / 64)) (lowBytes ((n % 64 + 7) / 8) w) ≡ pasted d 0 (packedBits s p n (bytesFor n))
+copy-end s d m p n w e i fits =
+    let at : 8 * (n / 64) ≡ 0 + length (bytesOf s p (8 * (n / 64))) = rw bytes-length (omega arith) in
+    let room : 8 * (n / 64) + length (lowBytes ((n % 64 + 7) / 8) w) ≤ length d = rw lowBytes-length (omega arith) in
+    let count : bytesFor n ≡ 8 * (n / 64) + (n % 64 + 7) / 8 = omega arith in
+    let left : n - 8 * (8 * (n / 64)) ≡ n % 64 = omega arith in
+    let bit : p + 8 * (8 * (n / 64)) ≡ p + 64 * (n / 64) = omega arith in
+    rw i (pasted-append (bytesOf s p (8 * (n / 64))) (lowBytes ((n % 64 + 7) / 8) w) d 0 (8 * (n / 64)) at room
+    ∙ ap (pasted d 0) (rw (count, packed-split s p n (8 * (n / 64)) ((n % 64 + 7) / 8) (omega arith), left, bit, packed-low s (p + 64 * (n / 64)) ((n % 64 + 7) / 8) (n % 64) (omega arith), e)))

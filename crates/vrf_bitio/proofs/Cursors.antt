@@ -1,0 +1,130 @@
+-- What the cursor's functions need: each of their answers as what the definition yields.
+use mathlib.Core.Path.{_≡_, refl, sym, ap, _∙_, subst}
+use mathlib.Core.Bool.{Bool, true, false, cond}
+use mathlib.Core.List.{List, []}
+use Prim.Native.Nat.{ℕ, zero, suc, _+_, _-_, _*_, _/_, _%_, _^_, _<_, _≤_, min}
+use native.Mathlib.Nat.{mod-lt}
+use native.Mathlib.Omega.{arith}
+use borrow.Author.Tests.{lt-ltb, le-ltb, ltb-true, ltb-false}
+use lib.Dec.{ltb, eqb}
+use lib.ListN.{length, getD}
+use Rattle.vrf_bitio.specs.Bits.{bitsOf, bytesOf, packedBits, bytesFor}
+use Rattle.vrf_bitio.specs.BitsLaws.{bits-inside}
+use Rattle.vrf_bitio.specs.Reading.{Read, ok, refused, handOn}
+use Rattle.vrf_bitio.specs.Window.{rest, bits, window, inner, copied}
+use Rattle.vrf_bitio.specs.WindowLaws.{byte-found, byte-lacks, word-found, word-lacks}
+use Rattle.vrf_bitio.specs.Number.{byte, word32}
+use Rattle.vrf_bitio.specs.Answers.{restOf, readAt, Gave}
+use Rattle.vrf_bitio.specs.declared.Cursor.{Cursor}
+
+-- what `lacks` answered, as an order
+pub lacking : (c : Cursor) (n : ℕ) {b : Bool} → b ≡ ltb (c .count - c .pos) n → b ≡ true → c .count - c .pos < n
+lacking c n e t = ltb-true (c .count - c .pos) n (sym e ∙ t)
+
+pub enough : (c : Cursor) (n : ℕ) {b : Bool} → b ≡ ltb (c .count - c .pos) n → b ≡ false → n ≤ c .count - c .pos
+enough c n e t = ltb-false (c .count - c .pos) n (sym e ∙ t)
+
+two : (x : ℕ) → x < 2 → cond (eqb x 1) 1 0 ≡ x
+two zero h = refl
+two (suc zero) h = refl
+two (suc (suc x)) h = absurd (omega arith)
+
+module _ (s : List ℕ) (c : Cursor) (w : ℕ) where
+  pub bits-lacking : w ≤ 64 → c .count - c .pos < w → bits s (c .first) (c .count) w (c .pos) ≡ refused 10 (c .pos) w
+  unfolding bits
+  bits-lacking h64 h = rw (le-ltb 64 w h64, lt-ltb (c .count - c .pos) w h)
+
+  -- the cursor after w bits
+  abbrev after : Cursor
+  after = record { first = c .first; count = c .count; pos = c .pos + w }
+
+  pub bits-gave : w ≤ 64 → w ≤ c .count - c .pos → {v : ℕ} → v ≡ bitsOf s (c .first + c .pos) w → Gave s c (bits s (c .first) (c .count) w (c .pos)) v after
+  unfolding bits
+  bits-gave h64 h e = record { read = rw (le-ltb 64 w h64, le-ltb (c .count - c .pos) w h, e); first = refl; count = refl }
+
+module _ (s : List ℕ) (c : Cursor) where
+  pub byte-gave : 8 ≤ c .count - c .pos → {v : ℕ} → v ≡ bitsOf s (c .first + c .pos) 8 → Gave s c (readAt s c byte) v (after s c 8)
+  byte-gave h e = record { read = rw e (byte-found s (c .first) (c .count) (c .pos) h); first = refl; count = refl }
+
+  pub word-gave : 32 ≤ c .count - c .pos → {v : ℕ} → v ≡ bitsOf s (c .first + c .pos) 32 → Gave s c (readAt s c word32) v (after s c 32)
+  word-gave h e = record { read = rw e (word-found s (c .first) (c .count) (c .pos) h); first = refl; count = refl }
+
+-- one bit, as a flag
+pub flag : (s : List ℕ) (p q b : ℕ) → b ≡ getD s (p / 8) 0 → p ≡ q → cond (eqb (b / 2 ^ (p % 8) % 2) 1) 1 0 ≡ bitsOf s q 1
+flag s p q b e eq = rw (e, ← eq, back) (sym (bits-inside s (p / 8) (p % 8) 1 (omega arith)) ∙ ap (λ (k : ℕ). bitsOf s k 1) whole)
+  where
+    x : ℕ
+    x = getD s (p / 8) 0 / 2 ^ (p % 8) % 2
+
+    whole : 8 * (p / 8) + p % 8 ≡ p
+    whole = omega arith
+
+    back : cond (eqb x 1) 1 0 ≡ x
+    back = two x (mod-lt _ (omega arith))
+
+module _ (s : List ℕ) (first count : ℕ) where
+  pub window-large : 268435456 < length s → window s first count ≡ refused 43 0 0
+  unfolding window
+  window-large h = rw (lt-ltb 268435456 (length s) h)
+
+  module _ (h : length s ≤ 268435456) where
+    pub window-short : (left : ℕ) → left ≡ 8 * length s - first → left < count → window s first count ≡ refused 15 count left
+    unfolding window
+    window-short left e short = rw (le-ltb 268435456 (length s) h, ← e, lt-ltb left count short)
+
+    pub window-opens : count ≤ 8 * length s - first → first ≤ 8 * length s → window s first count ≡ ok (first, count) 0 (rest s first count 0)
+    unfolding window
+    window-opens h15 inside =
+        let same : min first (8 * length s) ≡ first = omega arith in
+        rw (le-ltb 268435456 (length s) h, le-ltb (8 * length s - first) count h15, same)
+
+    -- an empty window past the end
+    pub window-empty : (end : ℕ) → end ≡ 8 * length s → end ≤ first → count ≤ 0 → window s first count ≡ ok (end, 0) 0 (rest s end 0 0)
+    unfolding window rest bytesOf
+    window-empty end e past none =
+        let zero : count ≡ 0 = omega arith in
+        let here : min first (8 * length s) ≡ end = omega arith in
+        let fits : count ≤ 8 * length s - first = omega arith in
+        rw (le-ltb 268435456 (length s) h, le-ltb (8 * length s - first) count fits, here, zero)
+
+module _ (s : List ℕ) (c : Cursor) (n : ℕ) where
+  pub inner-lacking : c .count - c .pos < n → inner s (c .first) (c .count) n (c .pos) ≡ refused 10 (c .pos) n
+  unfolding inner
+  inner-lacking h = rw (lt-ltb (c .count - c .pos) n h)
+
+  module _ (h : n ≤ c .count - c .pos) where
+    pub inner-refused : {k a b : ℕ} → window s (c .first + c .pos) n ≡ refused k a b → inner s (c .first) (c .count) n (c .pos) ≡ refused k a b
+    unfolding inner handOn
+    inner-refused e = rw (le-ltb (c .count - c .pos) n h, e)
+
+    pub inner-gave : {w : ℕ × ℕ} {p : ℕ} {l : List ℕ} → window s (c .first + c .pos) n ≡ ok w p l → Gave s c (inner s (c .first) (c .count) n (c .pos)) w (after s c n)
+    unfolding inner handOn
+    inner-gave e = record { read = rw (le-ltb (c .count - c .pos) n h, e); first = refl; count = refl }
+
+-- a window opens at its position 0
+pub window-start : (s : List ℕ) (first count : ℕ) {w : ℕ × ℕ} {p : ℕ} {l : List ℕ} → window s first count ≡ ok w p l → p ≡ 0
+unfolding window
+window-start s first count {w} {p} {l} e = ap position (sym e) ∙ cases (ltb 268435456 (length s)) (ltb (8 * length s - first) count)
+  where
+    position : Read (ℕ × ℕ) → ℕ
+    position (ok a q m) = q
+    position (refused k a b) = 0
+
+    cases : (x y : Bool) → position (cond x (refused 43 0 0) (cond y (refused 15 count (8 * length s - first)) (ok (min first (8 * length s), count) 0 (rest s first count 0)))) ≡ 0
+    cases true y = refl
+    cases false true = refl
+    cases false false = refl
+
+module _ (s : List ℕ) (c : Cursor) (m n : ℕ) where
+  pub copy-short : m < bytesFor n → copied s (c .first) (c .count) m n (c .pos) ≡ refused 15 n (8 * m)
+  unfolding copied
+  copy-short h = rw (lt-ltb m (bytesFor n) h)
+
+  module _ (room : bytesFor n ≤ m) where
+    pub copy-lacking : c .count - c .pos < n → copied s (c .first) (c .count) m n (c .pos) ≡ refused 10 (c .pos) n
+    unfolding copied
+    copy-lacking h = rw (le-ltb m (bytesFor n) room, lt-ltb (c .count - c .pos) n h)
+
+    pub copy-gave : n ≤ c .count - c .pos → Gave s c (copied s (c .first) (c .count) m n (c .pos)) (packedBits s (c .first + c .pos) n (bytesFor n)) (after s c n)
+    unfolding copied
+    copy-gave h = record { read = rw (le-ltb m (bytesFor n) room, le-ltb (c .count - c .pos) n h); first = refl; count = refl }

@@ -1,0 +1,5 @@
+pub mod Words
+pub mod Cursors
+pub mod Signed
+pub mod Packed
+pub mod Copies

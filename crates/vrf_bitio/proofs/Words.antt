@@ -1,0 +1,113 @@
+-- What the loads of a word need: bytes put together, low byte first.
+use mathlib.Core.Path.{_≡_, refl, sym, ap, _∙_, subst}
+use mathlib.Core.List.{List}
+use Prim.Native.Nat.{ℕ, suc, _+_, _-_, _*_, _/_, _%_, _^_, _<_, _≤_}
+use native.Mathlib.Nat.{lt-of-lt-of-le, mod-lt, one-mul, mul-comm, div-one, mod-eq-of-lt}
+use native.Mathlib.Omega.{arith}
+use lib.ListN.{getD}
+use lib.Pow.{pow-pos, pow-lt, pow-mono, field, shl-shr, shl-exact}
+use Rattle.vrf_bitio.specs.Bits.{bitsOf}
+use Rattle.vrf_bitio.specs.BitsLaws.{bits-cons, bits-byte, bits-lt, bits-split, bits-high, bits-low, bits-inside}
+
+-- four bytes
+pub half : (s : List ℕ) (i a b c d : ℕ)
+    → (a ≡ getD s i 0) × (a < 256) → (b ≡ getD s (i + 1) 0) × (b < 256) → (c ≡ getD s (i + 2) 0) × (c < 256) → (d ≡ getD s (i + 3) 0) × (d < 256)
+    → a + b * 256 + c * 65536 + d * 16777216 ≡ bitsOf s (8 * i) 32
+half s i a b c d ha hb hc hd =
+    let e1 : i + 1 + 1 ≡ i + 2 = omega arith in
+    let e2 : i + 2 + 1 ≡ i + 3 = omega arith in
+    let h0 : getD s i 0 < 256 = omega arith in
+    let h1 : getD s (i + 1) 0 < 256 = omega arith in
+    let h2 : getD s (i + 2) 0 < 256 = omega arith in
+    let h3 : getD s (i + 3) 0 < 256 = omega arith in
+    rw (bits-cons s i 24, bits-cons s (i + 1) 16, e1, bits-cons s (i + 2) 8, e2, bits-byte s (i + 3)) (omega arith)
+
+-- two halves
+pub whole : (s : List ℕ) (i a b : ℕ) → a ≡ bitsOf s (8 * i) 32 → b ≡ bitsOf s (8 * (i + 4)) 32 → a + b * 4294967296 ≡ bitsOf s (8 * i) 64
+whole s i a b ha hb =
+    let next : 8 * i + 32 ≡ 8 * (i + 4) = omega arith in
+    rw (bits-split s (8 * i) 32 32, next) (omega arith)
+
+-- one byte more below what is put together so far
+pub below : (s : List ℕ) (i k word b : ℕ) → 0 < k → k ≤ 8 → word ≡ bitsOf s (8 * (i + k)) (64 - 8 * k)
+    → (b ≡ getD s (i + (k - 1)) 0) × (b < 256) → word * 256 + b ≡ bitsOf s (8 * (i + (k - 1))) (64 - 8 * (k - 1))
+below s i k word b h0 h8 e hb =
+    let w : 64 - 8 * (k - 1) ≡ 8 + (64 - 8 * k) = omega arith in
+    let n : i + (k - 1) + 1 ≡ i + k = omega arith in
+    let h : getD s (i + (k - 1)) 0 < 256 = omega arith in
+    rw (w, bits-cons s (i + (k - 1)) (64 - 8 * k), n) (omega arith)
+
+-- at the start nothing is put together, at the end all of it
+pub start : (s : List ℕ) (i : ℕ) → 0 ≡ bitsOf s (8 * (i + 8)) (64 - 8 * 8)
+unfolding bitsOf
+start s i = refl
+
+pub end : (s : List ℕ) (i k word : ℕ) → k ≤ 0 → word ≡ bitsOf s (8 * (i + k)) (64 - 8 * k) → word ≡ bitsOf s (8 * i) 64
+end s i k word h e =
+    let k0 : k ≡ 0 = omega arith in
+    let i0 : i + 0 ≡ i = omega arith in
+    rw (k0, i0) at e
+
+-- w bits fit wherever w bits do
+pub bits-below : (s : List ℕ) (p w n : ℕ) → w ≤ n → bitsOf s p w < 2 ^ n
+bits-below s p w n h = lt-of-lt-of-le (bits-lt s p w) (pow-mono h)
+
+-- and it fits a word
+pub fits : (s : List ℕ) (i k word : ℕ) → 0 < k → word ≡ bitsOf s (8 * (i + k)) (64 - 8 * k) → word < 2 ^ 56
+fits s i k word h e = rw e (bits-below s (8 * (i + k)) (64 - 8 * k) 56 (omega arith))
+
+-- the low w of 64 bits, by two shifts
+pub low : (x w : ℕ) → w ≤ 64 → x * 2 ^ (64 - w) % 2 ^ 64 / 2 ^ (64 - w) ≡ x % 2 ^ w
+low x w h =
+    let e : w + (64 - w) ≡ 64 = omega arith in
+    subst (λ (n : ℕ). x * 2 ^ (64 - w) % 2 ^ n / 2 ^ (64 - w) ≡ x % 2 ^ w) e (field (x * 2 ^ (64 - w)) w (64 - w) ∙ ap (λ (y : ℕ). y % 2 ^ w) (shl-shr x (64 - w)))
+
+-- a load at p's byte, shifted to p
+aligned : (s : List ℕ) (p word : ℕ) → word ≡ bitsOf s (8 * (p / 8)) 64 → word / 2 ^ (p % 8) ≡ bitsOf s p (64 - p % 8)
+aligned s p word e =
+    let e64 : p % 8 + (64 - p % 8) ≡ 64 = omega arith in
+    let ep : 8 * (p / 8) + p % 8 ≡ p = omega arith in
+    rw e (subst (λ (n : ℕ). bitsOf s (8 * (p / 8)) n / 2 ^ (p % 8) ≡ bitsOf s p (64 - p % 8)) e64
+    (bits-high s (8 * (p / 8)) (p % 8) (64 - p % 8) ∙ ap (λ (q : ℕ). bitsOf s q (64 - p % 8)) ep))
+
+-- bits that one load holds
+pub within : (s : List ℕ) (p w word : ℕ) → word ≡ bitsOf s (8 * (p / 8)) 64 → w ≤ 64 - p % 8 → word / 2 ^ (p % 8) % 2 ^ w ≡ bitsOf s p w
+within s p w word e h = rw shifted (subst (λ (n : ℕ). bitsOf s p n % 2 ^ w ≡ bitsOf s p w) left (bits-low s p w (64 - p % 8 - w)))
+  where
+    left : w + (64 - p % 8 - w) ≡ 64 - p % 8
+    left = omega arith
+
+    shifted : word / 2 ^ (p % 8) ≡ bitsOf s p (64 - p % 8)
+    shifted = aligned s p word e
+
+-- bits that one load and one byte more hold
+pub across : (s : List ℕ) (p w word b : ℕ) → word ≡ bitsOf s (8 * (p / 8)) 64 → 64 - p % 8 < w → w ≤ 64 → b ≡ getD s (p / 8 + 8) 0
+    → word / 2 ^ (p % 8) + b % (1 * 2 ^ (w - (64 - p % 8)) % 2 ^ 64) * 2 ^ (64 - p % 8) % 2 ^ 64 ≡ bitsOf s p w
+across s p w word b e h h64 eb =
+    rw (aligned s p word e, mask, shl-exact (w - (64 - p % 8)) (64 - p % 8) 64 (mod-lt b (pow-pos (w - (64 - p % 8)))) (omega arith), eb) (sym joined ∙ ap (bitsOf s p) whole-w)
+  where
+    whole-w : (64 - p % 8) + (w - (64 - p % 8)) ≡ w
+    whole-w = omega arith
+
+    mask : 1 * 2 ^ (w - (64 - p % 8)) % 2 ^ 64 ≡ 2 ^ (w - (64 - p % 8))
+    mask = rw one-mul (mod-eq-of-lt (pow-lt {i = w - (64 - p % 8)} {j = 64} (omega arith)))
+
+    next : p + (64 - p % 8) ≡ 8 * (p / 8 + 8) + 0
+    next = omega arith
+
+    joined : bitsOf s p ((64 - p % 8) + (w - (64 - p % 8))) ≡ bitsOf s p (64 - p % 8) + getD s (p / 8 + 8) 0 % 2 ^ (w - (64 - p % 8)) * 2 ^ (64 - p % 8)
+    joined = rw (bits-split s p (64 - p % 8) (w - (64 - p % 8)), next, bits-inside s (p / 8 + 8) 0 (w - (64 - p % 8)) (omega arith), div-one) (ap (λ (x : ℕ). bitsOf s p (64 - p % 8) + x) (mul-comm (2 ^ (64 - p % 8)) _))
+
+-- and they fit a word
+pub across-fits : (s : List ℕ) (p w word b : ℕ) → word ≡ bitsOf s (8 * (p / 8)) 64 → 64 - p % 8 < w → w ≤ 64 → b ≡ getD s (p / 8 + 8) 0
+    → word / 2 ^ (p % 8) + b % (1 * 2 ^ (w - (64 - p % 8)) % 2 ^ 64) * 2 ^ (64 - p % 8) % 2 ^ 64 < 2 ^ 64
+across-fits s p w word b e h h64 eb = rw (across s p w word b e h h64 eb) (bits-below s p w 64 h64)
+
+-- a mask of fewer than 64 bits is not 0
+pub mask-pos : (k : ℕ) → k < 64 → 0 < 1 * 2 ^ k % 2 ^ 64
+mask-pos k h = rw (one-mul, mod-eq-of-lt (pow-lt {i = k} {j = 64} h)) (pow-pos k)
+
+-- no bits make 0
+pub none : (s : List ℕ) (p w : ℕ) → w ≡ 0 → 0 ≡ bitsOf s p w
+unfolding bitsOf
+none s p w e = rw e

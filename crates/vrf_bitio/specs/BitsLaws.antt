@@ -1,0 +1,62 @@
+-- Laws of the bits of a slice: how a run of bits splits, what a whole byte is, and how bytes follow one another.
+use mathlib.Core.Path.{_≡_, refl, sym, ap, _∙_, subst}
+use mathlib.Core.List.{List, [], _∷_, _++_}
+use Prim.Native.Nat.{ℕ, zero, suc, _+_, _-_, _*_, _/_, _%_, _^_, _<_, _≤_, min, zero-le}
+use native.Mathlib.Nat.{add-zero, zero-add, mul-zero, add-assoc, pow-succ', mod-lt, add-mul-div-left, mul-add-mod-self-left, mod-eq-of-lt, div-eq-of-lt, add-suc, suc-add, add-mul-mod-self-left, div-div-eq-div-mul, div-add-mod, mod-one, div-one}
+use native.Mathlib.Numerals.{add-one}
+use native.Mathlib.Omega.{arith}
+use lib.ListN.{length, getD, take, drop}
+use lib.Pow.{pow-pos, pow-add, mod-pow-add}
+use Rattle.vrf_bitio.specs.Bits.{bitOf, bitsOf, bytesOf, packedBits}
+
+pub bitOf-lt : (s : List ℕ) (i : ℕ) → bitOf s i < 2
+unfolding bitOf
+bitOf-lt s i = mod-lt _ (omega arith)
+
+-- w bits make a number below 2^w
+pub bits-lt : (s : List ℕ) (p w : ℕ) → bitsOf s p w < 2 ^ w
+unfolding bitsOf
+bits-lt s p zero = omega arith
+bits-lt s p (suc w) = rw (pow-succ' 2 w) (omega (arith, bitOf-lt s p, bits-lt s (p + 1) w))
+
+-- a run of bits is its first bits and, above them, the others
+pub bits-split : (s : List ℕ) (p v w : ℕ) → bitsOf s p (v + w) ≡ bitsOf s p v + 2 ^ v * bitsOf s (p + v) w
+unfolding bitsOf
+bits-split s p zero w = rw (zero-add, add-zero) (omega arith)
+bits-split s p (suc v) w = rw (suc-add v w, pow-succ' 2 v, bits-split s (p + 1) v w, moved) (omega arith)
+  where
+    moved : p + 1 + v ≡ p + suc v
+    moved = omega arith
+
+-- the bits above the first v of them, and the first v of them
+pub bits-high : (s : List ℕ) (p v w : ℕ) → bitsOf s p (v + w) / 2 ^ v ≡ bitsOf s (p + v) w
+bits-high s p v w = rw bits-split (add-mul-div-left (bitsOf s p v) (bitsOf s (p + v) w) (pow-pos v) ∙ rw (div-eq-of-lt (bits-lt s p v)) (zero-add _))
+
+pub bits-low : (s : List ℕ) (p v w : ℕ) → bitsOf s p (v + w) % 2 ^ v ≡ bitsOf s p v
+bits-low s p v w = rw bits-split (add-mul-mod-self-left (bitsOf s p v) (2 ^ v) (bitsOf s (p + v) w) ∙ mod-eq-of-lt (bits-lt s p v))
+
+-- bits inside one byte
+pub bits-inside : (s : List ℕ) (i k w : ℕ) → k + w ≤ 8 → bitsOf s (8 * i + k) w ≡ getD s i 0 / 2 ^ k % 2 ^ w
+unfolding bitsOf bitOf
+bits-inside s i k zero h = sym (mod-one (getD s i 0 / 2 ^ k))
+bits-inside s i k (suc w) h =
+    let h′ : (k + 1) + w ≤ 8 = omega arith in
+    let here : (8 * i + k) / 8 ≡ i = omega arith in
+    let at : (8 * i + k) % 8 ≡ k = omega arith in
+    let next : 8 * i + k + 1 ≡ 8 * i + (k + 1) = omega arith in
+    rw (here, at, next, bits-inside s i (k + 1) w h′, pow-add 2 k 1, ← div-div-eq-div-mul) (regroup (getD s i 0 / 2 ^ k) w)
+  where
+    regroup : (x w : ℕ) → x % 2 + 2 * (x / 2 % 2 ^ w) ≡ x % 2 ^ suc w
+    regroup x w = rw (← add-one w, mod-pow-add x w 1) (omega arith)
+
+-- eight bits at a byte's start are that byte
+pub bits-byte : (s : List ℕ) (i : ℕ) → getD s i 0 < 256 → bitsOf s (8 * i) 8 ≡ getD s i 0
+bits-byte s i h =
+    let start : 8 * i + 0 ≡ 8 * i = omega arith in
+    rw (← start, bits-inside s i 0 8 (omega arith), div-one) (mod-eq-of-lt h)
+
+-- a byte and, above it, what follows
+pub bits-cons : (s : List ℕ) (i w : ℕ) → getD s i 0 < 256 → bitsOf s (8 * i) (8 + w) ≡ getD s i 0 + 256 * bitsOf s (8 * (i + 1)) w
+bits-cons s i w h =
+    let next : 8 * i + 8 ≡ 8 * (i + 1) = omega arith in
+    rw (bits-split s (8 * i) 8 w, bits-byte s i h, next)
