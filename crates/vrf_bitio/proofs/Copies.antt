@@ -116,7 +116,7 @@ module _ (s d m : List ℕ) (p k w : ℕ) (e : w ≡ bitsOf s (p + 64 * k) 64) w
   copy-step i fits =
       let word : lowBytes 8 w ≡ bytesOf s (p + 64 * k) 8 = ap (lowBytes 8) e ∙ sym (bytes-low s (p + 64 * k) 8) in
       let at : 8 * k ≡ 0 + length (bytesOf s p (8 * k)) = rw bytes-length (omega arith) in
-      let room : 8 * k + length (bytesOf s (p + 64 * k) 8) ≤ length d = rw bytes-length (omega arith) in
+      let room : 8 * k ≤ length d = omega arith in
       let next : 8 * (k + 1) ≡ 8 * k + 8 = omega arith in
       let bit : 64 * k ≡ 8 * (8 * k) = omega arith in
       rw (i, word) (pasted-append (bytesOf s p (8 * k)) (bytesOf s (p + 64 * k) 8) d 0 (8 * k) at room ∙ ap (pasted d 0) (rw (next, bytes-append s p (8 * k) 8, bit)))
@@ -126,7 +126,7 @@ pub copy-end : (s d m : List ℕ) (p n w : ℕ) → w ≡ bitsOf s (p + 64 * (n 
     → pasted m (8 * (n / 64)) (lowBytes ((n % 64 + 7) / 8) w) ≡ pasted d 0 (packedBits s p n (bytesFor n))
 copy-end s d m p n w e i fits =
     let at : 8 * (n / 64) ≡ 0 + length (bytesOf s p (8 * (n / 64))) = rw bytes-length (omega arith) in
-    let room : 8 * (n / 64) + length (lowBytes ((n % 64 + 7) / 8) w) ≤ length d = rw lowBytes-length (omega arith) in
+    let room : 8 * (n / 64) ≤ length d = omega arith in
     let count : bytesFor n ≡ 8 * (n / 64) + (n % 64 + 7) / 8 = omega arith in
     let left : n - 8 * (8 * (n / 64)) ≡ n % 64 = omega arith in
     let bit : p + 8 * (8 * (n / 64)) ≡ p + 64 * (n / 64) = omega arith in

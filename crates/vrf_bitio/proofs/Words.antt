@@ -4,10 +4,10 @@ use mathlib.Core.List.{List}
 use Prim.Native.Nat.{ℕ, suc, _+_, _-_, _*_, _/_, _%_, _^_, _<_, _≤_}
 use native.Mathlib.Nat.{lt-of-lt-of-le, mod-lt, one-mul, mul-comm, div-one, mod-eq-of-lt}
 use native.Mathlib.Omega.{arith}
-use lib.ListN.{getD}
+use lib.ListN.{length, getD}
 use lib.Pow.{pow-pos, pow-lt, pow-mono, field, shl-shr, shl-exact}
 use Rattle.vrf_bitio.specs.Bits.{bitsOf}
-use Rattle.vrf_bitio.specs.BitsLaws.{bits-cons, bits-byte, bits-lt, bits-split, bits-high, bits-low, bits-inside}
+use Rattle.vrf_bitio.specs.BitsLaws.{bits-cons, bits-byte, bits-lt, bits-split, bits-high, bits-low, bits-inside, bits-past}
 
 -- four bytes
 pub half : (s : List ℕ) (i a b c d : ℕ)
@@ -37,10 +37,9 @@ below s i k word b h0 h8 e hb =
     let h : getD s (i + (k - 1)) 0 < 256 = omega arith in
     rw (w, bits-cons s (i + (k - 1)) (64 - 8 * k), n) (omega arith)
 
--- at the start nothing is put together, at the end all of it
-pub start : (s : List ℕ) (i : ℕ) → 0 ≡ bitsOf s (8 * (i + 8)) (64 - 8 * 8)
-unfolding bitsOf
-start s i = refl
+-- at the start nothing is put together, since nothing is left; at the end all of it is
+pub start : (s : List ℕ) (i k : ℕ) → k ≡ length s - i → 0 ≡ bitsOf s (8 * (i + k)) (64 - 8 * k)
+start s i k e = sym (bits-past s (8 * (i + k)) (64 - 8 * k) (omega arith))
 
 pub end : (s : List ℕ) (i k word : ℕ) → k ≤ 0 → word ≡ bitsOf s (8 * (i + k)) (64 - 8 * k) → word ≡ bitsOf s (8 * i) 64
 end s i k word h e =

@@ -2,10 +2,11 @@
 use mathlib.Core.Path.{_≡_, refl, sym, ap, _∙_, subst}
 use mathlib.Core.List.{List, [], _∷_, _++_}
 use Prim.Native.Nat.{ℕ, zero, suc, _+_, _-_, _*_, _/_, _%_, _^_, _<_, _≤_, min, zero-le}
-use native.Mathlib.Nat.{add-zero, zero-add, mul-zero, add-assoc, pow-succ', mod-lt, add-mul-div-left, mul-add-mod-self-left, mod-eq-of-lt, div-eq-of-lt, add-suc, suc-add, add-mul-mod-self-left, div-div-eq-div-mul, div-add-mod, mod-one, div-one}
+use native.Mathlib.Nat.{add-zero, zero-add, mul-zero, add-assoc, pow-succ', mod-lt, add-mul-div-left, mul-add-mod-self-left, mod-eq-of-lt, div-eq-of-lt, add-suc, suc-add, add-mul-mod-self-left, div-div-eq-div-mul, div-add-mod, mod-one, div-one, zero-div}
 use native.Mathlib.Numerals.{add-one}
 use native.Mathlib.Omega.{arith}
-use lib.ListN.{length, getD, take, drop}
+use lib.ListN.{length, getD, take, drop, List·getD-eq-default}
+use lib.Seq.{drop-cons}
 use lib.Pow.{pow-pos, pow-add, mod-pow-add}
 use Rattle.vrf_bitio.specs.Bits.{bitOf, bitsOf, bytesOf, packedBits}
 
@@ -60,3 +61,23 @@ pub bits-cons : (s : List ℕ) (i w : ℕ) → getD s i 0 < 256 → bitsOf s (8 
 bits-cons s i w h =
     let next : 8 * i + 8 ≡ 8 * (i + 1) = omega arith in
     rw (bits-split s (8 * i) 8 w, bits-byte s i h, next)
+
+-- past the end every bit is 0
+pub bits-past : (s : List ℕ) (p w : ℕ) → 8 * length s ≤ p → bitsOf s p w ≡ 0
+unfolding bitsOf bitOf
+bits-past s p zero h = refl
+bits-past s p (suc w) h =
+    let past : length s ≤ p / 8 = omega arith in
+    rw (List·getD-eq-default s 0 past, zero-div (2 ^ (p % 8)), bits-past s (p + 1) w (omega arith))
+
+-- a list of bytes, as every `&[u8]` holds one
+abbrev pub Bytes : List ℕ → Type 0
+Bytes s = (i : ℕ) → getD s i 0 < 256
+
+-- whole bytes from a byte on are the bytes that stand there
+pub bytes-aligned : (s : List ℕ) → Bytes s → (n i : ℕ) → i + n ≤ length s → bytesOf s (8 * i) n ≡ take n (drop i s)
+unfolding bytesOf
+bytes-aligned s h zero i fits = refl
+bytes-aligned s h (suc n) i fits =
+    let next : 8 * i + 8 ≡ 8 * suc i = omega arith in
+    rw (drop-cons s i 0 (omega arith), bits-byte s i (h i), next, bytes-aligned s h n (suc i) (omega arith))

@@ -1,6 +1,6 @@
 -- Readings one after another.
-use mathlib.Core.Path.{_≡_, refl, sym, ap, _∙_}
-use mathlib.Core.List.{List, [], _++_, append-assoc}
+use mathlib.Core.Path.{_≡_, refl, sym, ap, _∙_, subst}
+use mathlib.Core.List.{List, [], _++_, append-assoc, append-nil}
 use Prim.Native.Nat.{ℕ, _+_, _*_}
 use native.Mathlib.Nat.{add-zero}
 use native.Mathlib.Omega.{arith}
@@ -29,3 +29,7 @@ pub decodes-then : {A B : Type 0} (r : Reader A) (f : A → Reader B) {a : A} {b
 decodes-then r f {a} {b} e e′ d d′ pos tail =
     let place : pos + 8 * length e + 8 * length e′ ≡ pos + 8 * length (e ++ e′) = rw length-append (omega arith) in
     rw append-assoc (bind-ok r f pos (e ++ (e′ ++ tail)) (d pos (e′ ++ tail)) ∙ d′ (pos + 8 * length e) tail ∙ ap (λ (p : ℕ). ok b p tail) place)
+
+-- and where nothing more is read
+pub decodes-last : {A B : Type 0} (r : Reader A) (f : A → Reader B) {a : A} {b : B} (e : List ℕ) → Decodes r e a → Decodes (f a) [] b → Decodes (r >>= f) e b
+decodes-last r f {a} {b} e d d′ = subst (λ (l : List ℕ). Decodes (r >>= f) l b) (append-nil e) (decodes-then r f e [] d d′)

@@ -1,14 +1,16 @@
 -- Laws of windows: the bytes left at a position, and what readings of whole bytes find there.
 use mathlib.Core.Path.{_≡_, refl, sym, ap, _∙_, subst}
 use mathlib.Core.List.{List, [], _∷_}
-use Prim.Native.Nat.{ℕ, zero, suc, _+_, _-_, _*_, _/_, _%_, _^_, _<_, _≤_}
+use Prim.Native.Nat.{ℕ, zero, suc, _+_, _-_, _*_, _/_, _%_, _^_, _<_, _≤_, min}
 use native.Mathlib.Nat.{div-eq-of-lt}
 use native.Mathlib.Omega.{arith}
+use borrow.Author.Tests.{le-ltb}
 use lib.ListN.{length}
+use lib.Seq.{take-length}
 use Rattle.vrf_bitio.specs.Bits.{bitsOf, bytesOf}
-use Rattle.vrf_bitio.specs.BitsLaws.{bits-split}
+use Rattle.vrf_bitio.specs.BitsLaws.{bits-split, Bytes, bytes-aligned}
 use Rattle.vrf_bitio.specs.Reading.{Read, ok, refused}
-use Rattle.vrf_bitio.specs.Window.{rest}
+use Rattle.vrf_bitio.specs.Window.{rest, window}
 use Rattle.vrf_bitio.specs.Number.{byte, word32}
 
 pub bytes-length : (s : List ℕ) (p n : ℕ) → length (bytesOf s p n) ≡ n
@@ -77,3 +79,13 @@ module _ (s : List ℕ) (first count pos : ℕ) where
 
   pub word-lacks : count - pos < 32 → word32 pos (rest s first count pos) ≡ refused 10 pos 32
   word-lacks h = word-short pos (rest s first count pos) (rw rest-length (omega arith))
+
+-- the window of all of a slice's bits, from its first on
+pub window-whole : (s : List ℕ) → Bytes s → length s ≤ 268435456 → window s 0 (8 * length s) ≡ ok (0, 8 * length s) 0 s
+unfolding window rest
+window-whole s h fits =
+    let all : (8 * length s - 0) / 8 ≡ length s = omega arith in
+    let none : min 0 (8 * length s) ≡ 0 = omega arith in
+    let room : 8 * length s ≤ 8 * length s - 0 = omega arith in
+    let bytes : bytesOf s (8 * 0) (length s) ≡ s = bytes-aligned s h (length s) 0 (omega arith) ∙ take-length s in
+    rw (le-ltb 268435456 (length s) fits, le-ltb (8 * length s - 0) (8 * length s) room, all, none) (ap (λ (l : List ℕ). ok (0, 8 * length s) 0 l) bytes)

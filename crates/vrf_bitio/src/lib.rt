@@ -117,13 +117,20 @@ fn whole_word(s: &[u8], i: usize) -> u64
     half_word(s, i) + half_word(s, i + 4) * 0x1_0000_0000
 }
 
-// The same where fewer than eight bytes may be left: what is past the end is 0.
+// How many of n bytes stand from place i on.
+fn left_from(n: usize, i: usize) -> usize
+    ensures { λ r. ⌜ r ≡ n - i ⌝ }
+{
+    if i < n { n - i } else { 0 }
+}
+
+// The same where fewer than eight bytes are left: what is past the end is 0.
 fn load_u64_padded(s: &[u8], i: usize) -> u64
-    requires { ⌜ i < 2 ^ 61 ⌝ }
+    requires { ⌜ (i < 2 ^ 61) × (length (now s) < i + 8) ⌝ }
     ensures { λ r. ⌜ r ≡ bitsOf (now (s .entry)) (8 * i) 64 ⌝ }
 {
     let mut word: u64 = 0;
-    let mut k: usize = 8;
+    let mut k = left_from(s.len(), i);
     while 0 < k {
         k -= 1;
         word = word * 0x100 + byte_or_zero(s, i + k);

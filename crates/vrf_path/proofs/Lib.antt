@@ -1,0 +1,6 @@
+-- Pure lemmas of the proofs, by subject.
+pub mod Texts
+pub mod Keys
+pub mod Stems
+pub mod Names
+pub mod Signed

@@ -1,0 +1,85 @@
+-- What the functions that render names need.
+use mathlib.Core.Path.{_≡_, sym, _∙_, refl}
+use mathlib.Core.List.{List, [], _∷_, _++_}
+use Prim.Native.Nat.{ℕ, suc, _+_, _/_, _%_, _<_, _≤_}
+use native.Mathlib.Nat.{add-zero, zero-add}
+use native.Mathlib.Numerals.{add-one}
+use native.Mathlib.Omega.{arith}
+use lib.IntN.{ℤ}
+use lib.ListN.{length, getD, drop, set, drop-of-length-le, length-append, length-set}
+use lib.Seq.{drop-cons}
+use Rattle.vrf_bitio.specs.Pasted.{pasted}
+use Rattle.vrf_path.specs.Names.{decimal, suffix, rendered}
+use Rattle.vrf_path.specs.Answers.{suffixText}
+use Rattle.vrf_path.specs.NamesLaws.{decimal-one, decimal-more, more-length}
+use Rattle.vrf_bitio.specs.PastedLaws.{pasted-nil, pasted-cons, pasted-snoc, pasted-append, pasted-front}
+use Rattle.vrf_path.specs.declared.Suffix.{Suffix}
+use Rattle.vrf_path.specs.declared.Suffix.the-variants.{Empty, Plain, Minus}
+
+-- a text put into a buffer: what is left of it, from place i on
+module _ (text out : List ℕ) (at i : ℕ) where
+  pub text-begun : pasted out at text ≡ pasted out (at + 0) (drop 0 text)
+  text-begun = rw add-zero
+
+  pub text-next : i < length text → at + i < length out → pasted out (at + i) (drop i text) ≡ pasted (set out (at + i) (getD text i 0)) (at + (i + 1)) (drop (i + 1) text)
+  text-next hi ho =
+      let n : at + (i + 1) ≡ at + i + 1 = omega arith in
+      let c : drop i text ≡ getD text i 0 ∷ drop (i + 1) text = rw add-one (drop-cons text i 0 hi) in
+      rw (n, c) (pasted-cons out (at + i) (getD text i 0) (drop (i + 1) text) ho)
+
+  pub text-ended : length text ≤ i → pasted out (at + i) (drop i text) ≡ out
+  text-ended h = rw (drop-of-length-le text h) (pasted-nil out (at + i))
+
+-- a number put into a buffer: what is left of it, its last digit at place end
+module _ (out : List ℕ) (at rest end : ℕ) (e : end + 1 ≡ at + length (decimal rest)) (h : end < length out) where
+  pub digit-next : 10 ≤ rest → pasted out at (decimal rest) ≡ pasted (set out end (48 + rest % 10)) at (decimal (rest / 10))
+  digit-next l =
+      let p : end ≡ at + length (decimal (rest / 10)) = omega (arith, more-length rest l) in
+      let b : at + length (decimal (rest / 10)) < length out = omega arith in
+      rw (p, decimal-more rest l) (pasted-snoc out at (48 + rest % 10) (decimal (rest / 10)) b)
+
+  pub digit-last : rest < 10 → pasted out at (decimal rest) ≡ set out end (48 + rest)
+  digit-last l =
+      let n : length (decimal rest) ≡ 1 = rw (decimal-one rest l) in
+      let p : end ≡ at = omega arith in
+      let b : at < length out = omega arith in
+      rw (p, decimal-one rest l) (pasted-cons out at (48 + rest) [] b ∙ pasted-nil (set out at (48 + rest)) (at + 1))
+
+-- what a number adds, put into a buffer
+module _ (out : List ℕ) (at : ℕ) {s : Suffix} where
+  pub put-empty : s ≡ Empty → out ≡ pasted out at (suffixText s)
+  put-empty e = rw e (sym (pasted-nil out at))
+
+  module _ {n : ℕ} (h : at + length (suffixText s) ≤ length out) where
+    pub plain-room : s ≡ Plain n → at + (1 + length (decimal n)) ≤ length out
+    plain-room e = let g : at + suc (length (decimal n)) ≤ length out = rw e at h in omega arith
+
+    pub put-plain : s ≡ Plain n → {o : List ℕ} → o ≡ pasted (set out at 95) (at + 1) (decimal n) → o ≡ pasted out at (suffixText s)
+    put-plain e eo = eo ∙ rw e (sym (pasted-cons out at 95 (decimal n) (omega (arith, plain-room e))))
+
+    pub minus-room : s ≡ Minus n → at + (2 + length (decimal n)) ≤ length out
+    minus-room e = let g : at + suc (suc (length (decimal n))) ≤ length out = rw e at h in omega arith
+
+    pub put-minus : s ≡ Minus n → {o : List ℕ} → o ≡ pasted (set (set out at 95) (at + 1) 45) (at + 2) (decimal n) → o ≡ pasted out at (suffixText s)
+    put-minus e eo =
+        let two : at + 2 ≡ at + 1 + 1 = omega arith in
+        let a : at < length out = omega (arith, minus-room e) in
+        let b : at + 1 < length (set out at 95) = rw length-set (omega (arith, minus-room e)) in
+        eo ∙ rw (e, two) (sym (pasted-cons out at 95 (45 ∷ decimal n) a ∙ pasted-cons (set out at 95) (at + 1) 45 (decimal n) b))
+
+-- a text at the front of a buffer
+pub put-front : (out t : List ℕ) {o : List ℕ} {n : ℕ} → n ≡ length t → o ≡ pasted out 0 t → o ≡ t ++ drop n out
+put-front out t en eo = eo ∙ pasted-front out t ∙ rw en
+
+-- a base text and what its number adds
+module _ (base out : List ℕ) (z : ℤ) (s : Suffix) (e : suffixText s ≡ suffix z) {r : ℕ} (er : r ≡ length (suffixText s)) where
+  pub rendered-length : length base + r ≡ length (rendered base z)
+  unfolding rendered
+  rendered-length = rw (er, e) (sym (length-append base (suffix z)))
+
+  pub put-rendered : length base + r ≤ length out → {o p : List ℕ} → o ≡ pasted out 0 base → p ≡ pasted o (length base) (suffixText s) → p ≡ rendered base z ++ drop (length base + r) out
+  unfolding rendered
+  put-rendered h eo ep = put-front out (base ++ suffix z) rendered-length (ep ∙ rw (eo, e) both)
+    where
+      both : pasted (pasted out 0 base) (length base) (suffix z) ≡ pasted out 0 (base ++ suffix z)
+      both = rw zero-add at (pasted-append base (suffix z) out 0 (0 + length base) refl (omega arith))

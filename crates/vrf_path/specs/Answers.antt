@@ -1,0 +1,100 @@
+-- What the code's answers stand for.
+use mathlib.Core.Path.{_≡_}
+use mathlib.Core.Bool.{Bool, true, false}
+use mathlib.Core.List.{List, [], _∷_, _++_}
+use mathlib.Core.Option.{Option, none, some, Option·getD}
+use Prim.Native.Nat.{ℕ, _+_, _<_, _≤_}
+use lib.ListN.{length, take, drop}
+use Rattle.vrf_path.specs.Keys.{defaultPrefix, charactersCore}
+use Rattle.vrf_path.specs.Leaf.{leaf}
+use Rattle.vrf_path.specs.Toggle.{classNetCache, toggle}
+use Rattle.vrf_path.specs.Stems.{cutsBelow, digitsFrom, digitStems, capitalStems}
+use Rattle.vrf_path.specs.Names.{decimal}
+use Rattle.vrf_path.specs.declared.Found.{Found}
+use Rattle.vrf_path.specs.declared.Found.the-variants.{At as FoundAt, Nowhere}
+use Rattle.vrf_path.specs.declared.Key.{Key}
+use Rattle.vrf_path.specs.declared.Key.the-variants.{Itself, Stripped, Prefixed, Cut, Inserted, Absent}
+use Rattle.vrf_path.specs.declared.Leaf.{Leaf}
+use Rattle.vrf_path.specs.declared.Leaf.the-variants.{At as LeafAt, Absent as NoLeaf}
+use Rattle.vrf_path.specs.declared.Toggle.{Toggle}
+use Rattle.vrf_path.specs.declared.Toggle.the-variants.{Stripped as WithoutSuffix, Appended, Absent as NoToggle}
+use Rattle.vrf_path.specs.declared.Phase.{Phase}
+use Rattle.vrf_path.specs.declared.Phase.the-variants.{Underscore, Digits, Capital}
+use Rattle.vrf_path.specs.declared.Stem.{Stem}
+use Rattle.vrf_path.specs.declared.Stem.the-variants.{At as StemAt, End}
+use Rattle.vrf_path.specs.declared.Suffix.{Suffix}
+use Rattle.vrf_path.specs.declared.Suffix.the-variants.{Empty, Plain, Minus}
+use Rattle.vrf_path.specs.declared.Rendered.{Rendered}
+use Rattle.vrf_path.specs.declared.Rendered.the-variants.{Length, TooLong, Short}
+
+-- a place, if there is one
+abbrev pub place : Found → Option ℕ
+place (FoundAt i) = some i
+place Nowhere = none
+
+-- the key of the path t that is spelled so
+abbrev pub spelled : List ℕ → Key → Option (List ℕ)
+spelled t Itself = some t
+spelled t Stripped = some (drop 9 t)
+spelled t Prefixed = some (defaultPrefix ++ t)
+spelled t (Cut i) = some (take i t ++ (47 ∷ drop (i + 7) t))
+spelled t Inserted = some (charactersCore ++ drop 17 t)
+spelled t Absent = none
+
+-- whether there is no such key
+abbrev pub absent : Key → Bool
+absent Itself = false
+absent Stripped = false
+absent Prefixed = false
+absent (Cut i) = false
+absent Inserted = false
+absent Absent = true
+
+-- its bytes
+abbrev pub keyBytes : List ℕ → Key → List ℕ
+keyBytes t k = Option·getD (spelled t k) []
+
+-- where the leaf starts
+abbrev pub LeafAnswer : List ℕ → Leaf → Type 0
+LeafAnswer t (LeafAt i) = (leaf t ≡ some (drop i t)) × (i < length t)
+LeafAnswer t NoLeaf = leaf t ≡ none
+
+-- the toggle of the key t
+abbrev pub ToggleAnswer : List ℕ → Toggle → Type 0
+ToggleAnswer t (WithoutSuffix n) = (toggle t ≡ some (take n t)) × (n ≤ length t)
+ToggleAnswer t Appended = toggle t ≡ some (t ++ classNetCache)
+ToggleAnswer t NoToggle = toggle t ≡ none
+
+-- the stems that follow the first n bytes of a name, by the rule that made this stem
+abbrev pub stemsAfter : List ℕ → ℕ → Phase → List (List ℕ)
+stemsAfter name n Underscore = cutsBelow name n ++ digitStems name (digitsFrom name (length name))
+stemsAfter name n Digits = capitalStems name n
+stemsAfter name n Capital = []
+
+-- a stem and those that follow it
+abbrev pub stemsFrom : List ℕ → Stem → List (List ℕ)
+stemsFrom name (StemAt n phase) = take n name ∷ stemsAfter name n phase
+stemsFrom name End = []
+
+-- how many bytes a stem has
+abbrev pub stemLength : Stem → ℕ
+stemLength (StemAt n phase) = n
+stemLength End = 0
+
+-- the stems l are this one and those that follow it
+pub record StemAnswer (name : List ℕ) (l : List (List ℕ)) (s : Stem) : Type 0 where
+  pub stems : l ≡ stemsFrom name s
+  pub within : stemLength s ≤ length name
+
+-- what a number adds to a name
+abbrev pub suffixText : Suffix → List ℕ
+suffixText Empty = []
+suffixText (Plain n) = 95 ∷ decimal n
+suffixText (Minus n) = 95 ∷ 45 ∷ decimal n
+
+-- A rendered text of at most 4,096 bytes stands at the front of the buffer, and behind it what stood there. Where it has more, how many
+-- (41), or where the buffer is too short for it, the buffer is as it was.
+abbrev pub RenderedAnswer : List ℕ → List ℕ → List ℕ → Rendered → Type 0
+RenderedAnswer text before after (Length n) = (n ≡ length text) × (n ≤ 4096) × (n ≤ length before) × (after ≡ text ++ drop n before)
+RenderedAnswer text before after (TooLong n) = (n ≡ length text) × (4096 < n) × (after ≡ before)
+RenderedAnswer text before after Short = (length before < length text) × (length text ≤ 4096) × (after ≡ before)

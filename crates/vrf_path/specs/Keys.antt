@@ -1,0 +1,65 @@
+-- Document 01, Keys: a path's keys are itself, its default alias and its core alias.
+use mathlib.Core.Bool.{Bool, false, cond, _||_}
+use mathlib.Core.List.{List, [], _∷_, _++_, Option·toList}
+use mathlib.Core.Option.{Option, none, some}
+use Prim.Native.Nat.{ℕ, _+_}
+use lib.Dec.{eqb}
+use lib.ListN.{length, take, drop}
+use Rattle.vrf_path.specs.Text.{same, startsWith, firstFrom}
+
+-- `Default__`
+unfoldable pub defaultPrefix : List ℕ
+defaultPrefix = 68 ∷ 101 ∷ 102 ∷ 97 ∷ 117 ∷ 108 ∷ 116 ∷ 95 ∷ 95 ∷ []
+
+-- `/_Core/`
+unfoldable pub coreSegment : List ℕ
+coreSegment = 47 ∷ 95 ∷ 67 ∷ 111 ∷ 114 ∷ 101 ∷ 47 ∷ []
+
+-- `/Game/Characters/`
+unfoldable pub charactersRoot : List ℕ
+charactersRoot = 47 ∷ 71 ∷ 97 ∷ 109 ∷ 101 ∷ 47 ∷ 67 ∷ 104 ∷ 97 ∷ 114 ∷ 97 ∷ 99 ∷ 116 ∷ 101 ∷ 114 ∷ 115 ∷ 47 ∷ []
+
+-- `/Game/Characters/_Core/`
+unfoldable pub charactersCore : List ℕ
+charactersCore = 47 ∷ 71 ∷ 97 ∷ 109 ∷ 101 ∷ 47 ∷ 67 ∷ 104 ∷ 97 ∷ 114 ∷ 97 ∷ 99 ∷ 116 ∷ 101 ∷ 114 ∷ 115 ∷ 47 ∷ 95 ∷ 67 ∷ 111 ∷ 114 ∷ 101 ∷ 47 ∷ []
+
+-- one of `/ . :`
+unfoldable pub isSeparator : ℕ → Bool
+isSeparator b = eqb b 47 || (eqb b 46 || eqb b 58)
+
+unfoldable pub hasSeparator : List ℕ → Bool
+hasSeparator [] = false
+hasSeparator (b ∷ t) = isSeparator b || hasSeparator t
+
+-- default alias: without a leading `Default__`; else, if it has none of `/ . :`, with `Default__` before it
+unfoldable pub defaultAlias : List ℕ → Option (List ℕ)
+defaultAlias t =
+    cond (startsWith defaultPrefix t) (some (drop (length defaultPrefix) t))
+    (cond (hasSeparator t) none
+    (some (defaultPrefix ++ t)))
+
+-- core alias: the first `/_Core/`, at place i, becomes `/` (47); else a leading `/Game/Characters/` becomes `/Game/Characters/_Core/`; else none
+unfoldable pub coreAliasAt : List ℕ → Option ℕ → Option (List ℕ)
+coreAliasAt t (some i) = some (take i t ++ (47 ∷ drop (i + length coreSegment) t))
+coreAliasAt t none = cond (startsWith charactersRoot t) (some (charactersCore ++ drop (length charactersRoot) t)) none
+
+unfoldable pub coreAlias : List ℕ → Option (List ℕ)
+coreAlias t = coreAliasAt t (firstFrom coreSegment 0 t)
+
+-- a path's keys: itself, its default alias and its core alias
+unfoldable pub keys : List ℕ → List (List ℕ)
+keys t = t ∷ (Option·toList (defaultAlias t) ++ Option·toList (coreAlias t))
+
+-- whether k is one of some texts
+unfoldable pub isOneOf : List ℕ → List (List ℕ) → Bool
+isOneOf k [] = false
+isOneOf k (t ∷ ts) = same t k || isOneOf k ts
+
+-- whether a text is one of a path's keys
+unfoldable pub hasKey : List ℕ → List ℕ → Bool
+hasKey path key = isOneOf key (keys path)
+
+-- whether a text that may be missing is there and is k
+unfoldable pub isThe : Option (List ℕ) → List ℕ → Bool
+isThe none k = false
+isThe (some t) k = same t k

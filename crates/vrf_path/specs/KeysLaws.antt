@@ -1,0 +1,149 @@
+-- Laws of keys: the aliases by cases, their lengths, and what is a key of a path.
+use mathlib.Core.Path.{_≡_, refl, sym, ap, _∙_}
+use mathlib.Core.Bool.{Bool, true, false, _||_, or-false, or-true}
+use mathlib.Core.Logic.{_⊎_, inl, inr, ⊎-elim}
+use mathlib.Core.List.{List, _∷_, _++_, Option·toList}
+use mathlib.Core.Option.{Option, none, some}
+use Prim.Native.Nat.{ℕ, _+_, _<_, _≤_}
+use native.Mathlib.Numerals.{add-one}
+use native.Mathlib.Omega.{arith}
+use lib.ListN.{length, getD, take, drop, drop-of-length-le, length-append, length-take, length-drop}
+use lib.Seq.{drop-cons}
+use Rattle.vrf_path.specs.Text.{same, startsWith, firstFrom}
+use Rattle.vrf_path.specs.Keys.{isSeparator, hasSeparator, defaultPrefix, charactersRoot, charactersCore, coreSegment, defaultAlias, coreAliasAt, coreAlias, keys, isOneOf, hasKey, isThe}
+use Rattle.vrf_path.specs.TextLaws.{same-lengths, same-refl, same-true, starts-length, first-within}
+
+-- separators from a place on
+module _ (t : List ℕ) (i : ℕ) (h : i < length t) where
+  pub separator-here : isSeparator (getD t i 0) ≡ true → hasSeparator (drop i t) ≡ true
+  unfolding hasSeparator
+  separator-here e = rw (drop-cons t i 0 h, e)
+
+  pub separator-later : isSeparator (getD t i 0) ≡ false → hasSeparator (drop i t) ≡ hasSeparator (drop (i + 1) t)
+  unfolding hasSeparator
+  separator-later e = rw (add-one, drop-cons t i 0 h, e)
+
+pub separator-nowhere : (t : List ℕ) (i : ℕ) → length t ≤ i → hasSeparator (drop i t) ≡ false
+unfolding hasSeparator
+separator-nowhere t i h = rw (drop-of-length-le t h)
+
+-- the default alias by cases
+module _ (t : List ℕ) where
+  pub default-stripped : startsWith defaultPrefix t ≡ true → defaultAlias t ≡ some (drop 9 t)
+  unfolding defaultAlias defaultPrefix
+  default-stripped e = rw e
+
+  module _ (e : startsWith defaultPrefix t ≡ false) where
+    pub default-none : hasSeparator t ≡ true → defaultAlias t ≡ none
+    unfolding defaultAlias
+    default-none h = rw (e, h)
+
+    pub default-prefixed : hasSeparator t ≡ false → defaultAlias t ≡ some (defaultPrefix ++ t)
+    unfolding defaultAlias
+    default-prefixed h = rw (e, h)
+
+-- the core alias by cases
+module _ (t : List ℕ) where
+  pub core-cut : {i : ℕ} → firstFrom coreSegment 0 t ≡ some i → coreAlias t ≡ some (take i t ++ (47 ∷ drop (i + 7) t))
+  unfolding coreAlias coreAliasAt coreSegment
+  core-cut e = rw e
+
+  module _ (e : firstFrom coreSegment 0 t ≡ none) where
+    pub core-inserted : startsWith charactersRoot t ≡ true → coreAlias t ≡ some (charactersCore ++ drop 17 t)
+    unfolding coreAlias coreAliasAt charactersRoot
+    core-inserted h = rw (e, h)
+
+    pub core-none : startsWith charactersRoot t ≡ false → coreAlias t ≡ none
+    unfolding coreAlias coreAliasAt
+    core-none h = rw (e, h)
+
+-- how long an alias is: `Default__` has 9 bytes and `_Core/` has 6
+pub default-length : (t : List ℕ) {k : List ℕ} → defaultAlias t ≡ some k → (length k + 9 ≡ length t) ⊎ (length k ≡ length t + 9)
+unfolding defaultPrefix
+default-length t {k} e = by (startsWith defaultPrefix t) refl (hasSeparator t) refl
+  where
+    by : (x : Bool) → startsWith defaultPrefix t ≡ x → (y : Bool) → hasSeparator t ≡ y → (length k + 9 ≡ length t) ⊎ (length k ≡ length t + 9)
+    by true ex y ey =
+        let ek : k ≡ drop 9 t = cc (default-stripped t ex) in
+        inl (rw (ek, length-drop) (omega (arith, starts-length defaultPrefix t ex)))
+    by false ex true ey = absurd (let z : _≡_ {A = ℕ} 0 1 = cc (default-none t ex ey) in omega arith)
+    by false ex false ey =
+        let ek : k ≡ defaultPrefix ++ t = cc (default-prefixed t ex ey) in
+        inr (rw ek (omega arith))
+
+pub core-length : (t : List ℕ) {k : List ℕ} → coreAlias t ≡ some k → (length k + 6 ≡ length t) ⊎ (length k ≡ length t + 6)
+unfolding coreSegment charactersRoot charactersCore
+core-length t {k} e = by (firstFrom coreSegment 0 t) refl (startsWith charactersRoot t) refl
+  where
+    by : (x : Option ℕ) → firstFrom coreSegment 0 t ≡ x → (y : Bool) → startsWith charactersRoot t ≡ y → (length k + 6 ≡ length t) ⊎ (length k ≡ length t + 6)
+    by (some i) ex y ey =
+        let ek : k ≡ take i t ++ (47 ∷ drop (i + 7) t) = cc (core-cut t ex) in
+        inl (rw ek (simp (length-append, length-take, length-drop) (omega (arith, first-within coreSegment t 0 ex))))
+    by none ex true ey =
+        let ek : k ≡ charactersCore ++ drop 17 t = cc (core-inserted t ex ey) in
+        inr (rw ek (simp length-drop (omega (arith, starts-length charactersRoot t ey))))
+    by none ex false ey = absurd (let z : _≡_ {A = ℕ} 0 1 = cc (core-none t ex ey) in omega arith)
+
+-- a text of another length is not the core alias
+pub core-other : (t k : List ℕ) → (length k + 6 ≡ length t → ⊥) → (length t + 6 ≡ length k → ⊥) → isThe (coreAlias t) k ≡ false
+unfolding isThe
+core-other t k hl hs = by (coreAlias t) refl
+  where
+    by : (o : Option (List ℕ)) → coreAlias t ≡ o → isThe o k ≡ false
+    by none e = refl
+    by (some s) e = same-lengths s k (λ es. ⊎-elim (λ h. hl (omega arith)) (λ h. hs (omega arith)) (core-length t e))
+
+-- a text is a path's key if it is the path, its default alias or its core alias
+module _ (t k : List ℕ) where
+  among-option : (o : Option (List ℕ)) (l : List (List ℕ)) → isOneOf k (Option·toList o ++ l) ≡ (isThe o k || isOneOf k l)
+  unfolding isOneOf isThe Option·toList
+  among-option none l = refl
+  among-option (some s) l = refl
+
+  among-last : (o : Option (List ℕ)) → isOneOf k (Option·toList o) ≡ isThe o k
+  unfolding isOneOf isThe Option·toList
+  among-last none = refl
+  among-last (some s) = or-false (same s k)
+
+  pub has-by-parts : hasKey t k ≡ (same t k || (isThe (defaultAlias t) k || isThe (coreAlias t) k))
+  unfolding hasKey keys isOneOf
+  has-by-parts = rw (among-option (defaultAlias t) (Option·toList (coreAlias t)), among-last (coreAlias t))
+
+pub the-true : (o : Option (List ℕ)) (k : List ℕ) → isThe o k ≡ true → o ≡ some k
+unfolding isThe
+the-true none k h = absurd (let z : _≡_ {A = ℕ} 0 1 = cc in omega arith)
+the-true (some s) k h = ap some (same-true s k h)
+
+the-some : {o : Option (List ℕ)} (k : List ℕ) → o ≡ some k → isThe o k ≡ true
+unfolding isThe
+the-some k e = rw e (same-refl k)
+
+module _ (t k : List ℕ) where
+  pub has-cases : hasKey t k ≡ true → (t ≡ k) ⊎ ((defaultAlias t ≡ some k) ⊎ (coreAlias t ≡ some k))
+  has-cases e = by (same t k) refl (isThe (defaultAlias t) k) refl (isThe (coreAlias t) k) refl
+    where
+      by : (x : Bool) → same t k ≡ x → (y : Bool) → isThe (defaultAlias t) k ≡ y → (z : Bool) → isThe (coreAlias t) k ≡ z
+          → (t ≡ k) ⊎ ((defaultAlias t ≡ some k) ⊎ (coreAlias t ≡ some k))
+      by true ex y ey z ez = inl (same-true t k ex)
+      by false ex true ey z ez = inr (inl (the-true (defaultAlias t) k ey))
+      by false ex false ey true ez = inr (inr (the-true (coreAlias t) k ez))
+      by false ex false ey false ez = absurd (let n : _≡_ {A = ℕ} 0 1 = cc (sym (rw (ex, ey, ez) at (has-by-parts t k)) ∙ e) in omega arith)
+
+  pub has-itself : t ≡ k → hasKey t k ≡ true
+  has-itself e = has-by-parts t k ∙ rw (e, same-refl k)
+
+  pub has-default : defaultAlias t ≡ some k → hasKey t k ≡ true
+  has-default e = has-by-parts t k ∙ rw (the-some k e) (or-true (same t k))
+
+  pub has-core : coreAlias t ≡ some k → hasKey t k ≡ true
+  has-core e = has-by-parts t k ∙ rw (the-some k e, or-true (isThe (defaultAlias t) k)) (or-true (same t k))
+
+  -- a key is at most 9 bytes longer than the path
+  pub key-length : hasKey t k ≡ true → length k ≤ length t + 9
+  key-length e = ⊎-elim (λ h. omega (arith, ap length h)) (⊎-elim by-default by-core) (has-cases e)
+    where
+      by-default : defaultAlias t ≡ some k → length k ≤ length t + 9
+      by-default h = ⊎-elim (λ a. omega arith) (λ a. omega arith) (default-length t h)
+
+      by-core : coreAlias t ≡ some k → length k ≤ length t + 9
+      by-core h = ⊎-elim (λ a. omega arith) (λ a. omega arith) (core-length t h)

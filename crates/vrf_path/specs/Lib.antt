@@ -1,0 +1,16 @@
+-- Document 01, section Keys and the names of section Text, as definitions. Read them in this order.
+pub mod Text
+pub mod Keys
+pub mod Leaf
+pub mod Toggle
+pub mod Stems
+pub mod Names
+pub mod Answers
+pub mod Examples
+pub mod TextLaws
+pub mod KeysLaws
+pub mod LeafLaws
+pub mod ToggleLaws
+pub mod StemsLaws
+pub mod NamesLaws
+pub mod AnswersLaws

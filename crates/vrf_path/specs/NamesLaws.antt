@@ -1,0 +1,51 @@
+-- Laws of decimal numbers: one digit at a time, and how many digits there are.
+use mathlib.Core.Path.{_≡_, refl, ap}
+use mathlib.Core.Bool.{Bool, true, false, cond}
+use mathlib.Core.List.{List, [], _∷_, _++_}
+use Prim.Native.Nat.{ℕ, zero, suc, _+_, _*_, _/_, _%_, _^_, _<_, _≤_}
+use native.Mathlib.Nat.{pow-succ'}
+use native.Mathlib.Omega.{arith}
+use borrow.Author.Tests.{lt-ltb, le-ltb, ltb-true, ltb-false}
+use lib.Dec.{ltb}
+use lib.ListN.{length, length-append}
+use Rattle.vrf_path.specs.Names.{digits, decimal}
+
+-- any bound above the number gives the same digits
+digits-enough : (a b n : ℕ) → n < a → n < b → digits a n ≡ digits b n
+unfolding digits
+digits-enough zero b n ha hb = absurd (omega arith)
+digits-enough (suc a) zero n ha hb = absurd (omega arith)
+digits-enough (suc a) (suc b) n ha hb = by (ltb n 10) refl (digits-enough a b (n / 10))
+  where
+    by : (x : Bool) → ltb n 10 ≡ x → (n / 10 < a → n / 10 < b → digits a (n / 10) ≡ digits b (n / 10))
+        → cond x ((48 + n) ∷ []) (digits a (n / 10) ++ ((48 + n % 10) ∷ [])) ≡ cond x ((48 + n) ∷ []) (digits b (n / 10) ++ ((48 + n % 10) ∷ []))
+    by true e rest = refl
+    by false e rest = let h : 10 ≤ n = ltb-false n 10 e in rw (rest (omega arith) (omega arith))
+
+module _ (n : ℕ) where
+  pub decimal-one : n < 10 → decimal n ≡ (48 + n) ∷ []
+  unfolding decimal digits
+  decimal-one h = rw (lt-ltb n 10 h)
+
+  pub decimal-more : 10 ≤ n → decimal n ≡ decimal (n / 10) ++ ((48 + n % 10) ∷ [])
+  unfolding decimal digits
+  decimal-more h = rw (le-ltb n 10 h) (ap (λ (l : List ℕ). l ++ ((48 + n % 10) ∷ [])) (digits-enough n (suc (n / 10)) (n / 10) (omega arith) (omega arith)))
+
+  pub more-length : 10 ≤ n → length (decimal n) ≡ length (decimal (n / 10)) + 1
+  more-length h = rw (decimal-more h, length-append)
+
+pub decimal-some : (n : ℕ) → 0 < length (decimal n)
+decimal-some n = by (ltb n 10) refl
+  where
+    by : (x : Bool) → ltb n 10 ≡ x → 0 < length (decimal n)
+    by true e = rw (decimal-one n (ltb-true n 10 e)) (omega arith)
+    by false e = rw (more-length n (ltb-false n 10 e)) (omega arith)
+
+-- a number below 10 to the k has at most k digits
+pub decimal-length : (k n : ℕ) → n < 10 ^ suc k → length (decimal n) ≤ suc k
+decimal-length zero n h = rw (decimal-one n h) (omega arith)
+decimal-length (suc k) n h = by (ltb n 10) refl (decimal-length k (n / 10))
+  where
+    by : (x : Bool) → ltb n 10 ≡ x → (n / 10 < 10 ^ suc k → length (decimal (n / 10)) ≤ suc k) → length (decimal n) ≤ suc (suc k)
+    by true e rest = rw (decimal-one n (ltb-true n 10 e)) (omega arith)
+    by false e rest = let p : n < 10 * 10 ^ suc k = rw (pow-succ' 10 (suc k)) at h in rw (more-length n (ltb-false n 10 e)) (omega (arith, rest (omega arith)))

@@ -1,0 +1,36 @@
+-- Texts are lists of bytes.
+use mathlib.Core.Bool.{Bool, true, false, cond, _&&_}
+use mathlib.Core.List.{List, [], _∷_, _++_}
+use mathlib.Core.Option.{Option, none, some}
+use Prim.Native.Nat.{ℕ, zero, suc, _+_, _-_}
+use lib.Dec.{eqb}
+use lib.ListN.{length, getD, take, drop}
+
+-- whether two texts are the same
+unfoldable pub same : List ℕ → List ℕ → Bool
+same [] [] = true
+same [] (b ∷ t) = false
+same (a ∷ s) [] = false
+same (a ∷ s) (b ∷ t) = eqb a b && same s t
+
+-- whether t starts with p, and whether it ends with p
+unfoldable pub startsWith : List ℕ → List ℕ → Bool
+startsWith p t = same (take (length p) t) p
+
+unfoldable pub endsWith : List ℕ → List ℕ → Bool
+endsWith p t = same (drop (length t - length p) t) p
+
+-- the first place at which p occurs in a text, of which t is what is left at place i
+unfoldable pub firstFrom : List ℕ → ℕ → List ℕ → Option ℕ
+firstFrom p i [] = none
+firstFrom p i (b ∷ t) = cond (startsWith p (b ∷ t)) (some i) (firstFrom p (i + 1) t)
+
+-- the last place below n at which the byte b stands in t
+unfoldable pub lastBelow : ℕ → List ℕ → ℕ → Option ℕ
+lastBelow b t zero = none
+lastBelow b t (suc i) = cond (eqb (getD t i 0) b) (some i) (lastBelow b t i)
+
+-- a text, unless it is empty
+unfoldable pub nonEmpty : List ℕ → Option (List ℕ)
+nonEmpty [] = none
+nonEmpty (b ∷ t) = some (b ∷ t)

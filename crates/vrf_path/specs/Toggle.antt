@@ -1,0 +1,24 @@
+-- The `_ClassNetCache` toggle of a key, and the keys that `find_class_net_cache_key` tries (path.rs).
+use mathlib.Core.Bool.{cond}
+use mathlib.Core.List.{List, [], _∷_, _++_, Option·toList}
+use mathlib.Core.Option.{Option, some}
+use Prim.Native.Nat.{ℕ, _-_}
+use lib.ListN.{length, take}
+use Rattle.vrf_path.specs.Text.{endsWith, nonEmpty}
+use Rattle.vrf_path.specs.Keys.{keys}
+
+-- `_ClassNetCache`
+unfoldable pub classNetCache : List ℕ
+classNetCache = 95 ∷ 67 ∷ 108 ∷ 97 ∷ 115 ∷ 115 ∷ 78 ∷ 101 ∷ 116 ∷ 67 ∷ 97 ∷ 99 ∷ 104 ∷ 101 ∷ []
+
+-- the suffix removed if present, appended if absent; removed to the empty text it is no key
+unfoldable pub toggle : List ℕ → Option (List ℕ)
+toggle k = cond (endsWith classNetCache k) (nonEmpty (take (length k - length classNetCache) k)) (some (k ++ classNetCache))
+
+-- each key, followed by its toggle
+unfoldable pub withToggles : List (List ℕ) → List (List ℕ)
+withToggles [] = []
+withToggles (k ∷ ks) = k ∷ (Option·toList (toggle k) ++ withToggles ks)
+
+unfoldable pub classNetCacheKeys : List ℕ → List (List ℕ)
+classNetCacheKeys path = withToggles (keys path)

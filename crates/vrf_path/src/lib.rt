@@ -1,0 +1,597 @@
+// Path keys, leaves, stems and rendered names of document 01. Names follow path.rs, resolve.rs and export.rs.
+ghost use mathlib.Core.Path.{_≡_};
+ghost use Prim.Native.Nat.{_+_, _-_, _<_, _≤_};
+ghost use lib.ListN.{length, getD};
+ghost use Rattle.vrf_path.specs.Text.{same, startsWith, endsWith, firstFrom, lastBelow};
+ghost use Rattle.vrf_bitio.specs.Pasted.{pasted};
+ghost use Rattle.vrf_path.specs.Keys.{isSeparator, hasSeparator, defaultAlias, coreAlias, hasKey, isThe};
+ghost use Rattle.vrf_path.specs.Stems.{isDigit, isCapital, digitsFrom, digitStems, capitalStems, stems};
+ghost use Rattle.vrf_path.specs.Names.{decimal, suffix, rendered};
+ghost use Rattle.vrf_path.specs.Answers.{
+  place,
+  spelled,
+  keyBytes,
+  absent,
+  LeafAnswer,
+  ToggleAnswer,
+  StemAnswer,
+  stemsAfter,
+  suffixText,
+  RenderedAnswer,
+};
+
+// A place in a text.
+enum Found {
+    At(usize),
+    Nowhere,
+}
+
+// How one of a path's keys is spelled, from the bytes of the path: a key is compared and hashed without being built.
+pub enum Key {
+    // The path.
+    Itself,
+    // Without the leading `Default__`.
+    Stripped,
+    // With `Default__` before it.
+    Prefixed,
+    // With `/` for the `/_Core/` at this place.
+    Cut(usize),
+    // With `/Game/Characters/_Core/` for the leading `/Game/Characters/`.
+    Inserted,
+    // The path has no such key.
+    Absent,
+}
+
+// Where a path's leaf starts.
+pub enum Leaf {
+    At(usize),
+    Absent,
+}
+
+// A key's `_ClassNetCache` toggle: so many of its first bytes, or the key with the suffix behind it.
+pub enum Toggle {
+    Stripped(usize),
+    Appended,
+    Absent,
+}
+
+// By which rule a stem was made: cut at `_`, without the trailing digits, or also without a capital.
+pub enum Phase {
+    Underscore,
+    Digits,
+    Capital,
+}
+
+// A stem of a name: so many of its first bytes. From `first_stem` by `next_stem` to the end one meets `stems name`, in order.
+pub enum Stem {
+    At(usize, Phase),
+    End,
+}
+
+// What a number adds to a name: nothing, or `_` and a number that may have a minus sign.
+enum Suffix {
+    Empty,
+    Plain(u32),
+    Minus(u32),
+}
+
+// A rendered name's length; that length, where it is above 4,096 bytes (refusal 41); or that the buffer is too short.
+pub enum Rendered {
+    Length(usize),
+    TooLong(usize),
+    Short,
+}
+
+// Whether two texts are the same.
+pub fn same(a: &[u8], b: &[u8]) -> bool
+    ensures { λ r. ⌜ r ≡ same (now (a .entry)) (now (b .entry)) ⌝ }
+{
+    if a.len() != b.len() {
+        return false;
+    }
+    let mut i = 0;
+    while i < a.len() {
+        if a[i] != b[i] {
+            return false;
+        }
+        i += 1;
+    }
+    true
+}
+
+// Whether a text starts with p.
+fn starts_with(text: &[u8], p: &[u8]) -> bool
+    ensures { λ r. ⌜ r ≡ startsWith (now (p .entry)) (now (text .entry)) ⌝ }
+{
+    let n = p.len();
+    if text.len() < n {
+        return false;
+    }
+    same(&text[..n], p)
+}
+
+// Whether a text ends with p.
+fn ends_with(text: &[u8], p: &[u8]) -> bool
+    ensures { λ r. ⌜ r ≡ endsWith (now (p .entry)) (now (text .entry)) ⌝ }
+{
+    if text.len() < p.len() {
+        return false;
+    }
+    let from = text.len() - p.len();
+    same(&text[from..], p)
+}
+
+// The first place at which a text has p.
+fn find(text: &[u8], p: &[u8]) -> Found
+    ensures { λ r. ⌜ place r ≡ firstFrom (now (p .entry)) 0 (now (text .entry)) ⌝ }
+{
+    let mut i = 0;
+    while i < text.len() {
+        if starts_with(&text[i..], p) {
+            return Found::At(i);
+        }
+        i += 1;
+    }
+    Found::Nowhere
+}
+
+// The last place below n at which a text has the byte b.
+fn rfind(text: &[u8], b: u8, n: usize) -> Found
+    requires { ⌜ n ≤ length (now text) ⌝ }
+    ensures { λ r. ⌜ place r ≡ lastBelow b (now (text .entry)) n ⌝ }
+{
+    let mut i = n;
+    while 0 < i {
+        i -= 1;
+        if text[i] == b {
+            return Found::At(i);
+        }
+    }
+    Found::Nowhere
+}
+
+// One of `/ . :`.
+fn is_separator(b: u8) -> bool
+    ensures { λ r. ⌜ r ≡ isSeparator b ⌝ }
+{
+    if b == b'/' {
+        return true;
+    }
+    if b == b'.' {
+        return true;
+    }
+    b == b':'
+}
+
+// Whether a text is a qualified path and no bare name.
+pub fn has_path_separator(text: &[u8]) -> bool
+    ensures { λ r. ⌜ r ≡ hasSeparator (now (text .entry)) ⌝ }
+{
+    let mut i = 0;
+    while i < text.len() {
+        if is_separator(text[i]) {
+            return true;
+        }
+        i += 1;
+    }
+    false
+}
+
+// The default alias: the `Default__` prefix toggled.
+pub fn default_object_alias(path: &[u8]) -> Key
+    ensures { λ r. ⌜ spelled (now (path .entry)) r ≡ defaultAlias (now (path .entry)) ⌝ }
+{
+    if starts_with(path, b"Default__") {
+        return Key::Stripped;
+    }
+    if has_path_separator(path) {
+        return Key::Absent;
+    }
+    Key::Prefixed
+}
+
+// The core alias: the first `/_Core/` as `/`, or `_Core/` put in after a leading `/Game/Characters/`.
+pub fn core_alias(path: &[u8]) -> Key
+    ensures { λ r. ⌜ spelled (now (path .entry)) r ≡ coreAlias (now (path .entry)) ⌝ }
+{
+    match find(path, b"/_Core/") {
+        Found::At(i) => Key::Cut(i),
+        Found::Nowhere => {
+            if starts_with(path, b"/Game/Characters/") {
+                return Key::Inserted;
+            }
+            Key::Absent
+        }
+    }
+}
+
+// Whether there is no such key.
+pub fn is_absent(key: Key) -> bool
+    ensures { λ r. ⌜ r ≡ absent key ⌝ }
+{
+    match key {
+        Key::Absent => true,
+        Key::Itself => false,
+        Key::Stripped => false,
+        Key::Prefixed => false,
+        Key::Cut(_) => false,
+        Key::Inserted => false,
+    }
+}
+
+// n less k, and 0 where k is more.
+fn left(n: usize, k: usize) -> usize
+    ensures { λ r. ⌜ r ≡ n - k ⌝ }
+{
+    if k <= n { n - k } else { 0 }
+}
+
+// The byte at i, 0 past the end.
+fn byte_at(text: &[u8], i: usize) -> u8
+    ensures { λ r. ⌜ r ≡ getD (now (text .entry)) i 0 ⌝ }
+{
+    if i < text.len() { text[i] } else { 0 }
+}
+
+// The byte a few places behind i, 0 past the end.
+fn byte_behind(text: &[u8], i: usize, skip: usize) -> u8
+    requires { ⌜ skip < 32 ⌝ }
+    ensures { λ r. ⌜ r ≡ getD (now (text .entry)) (i + skip) 0 ⌝ }
+{
+    if i < text.len() {
+        return byte_at(text, i + skip);
+    }
+    0
+}
+
+// How many bytes a path's key has.
+pub fn key_len(path: &[u8], key: Key) -> usize
+    ensures { λ r. ⌜ r ≡ length (keyBytes (now (path .entry)) key) ⌝ }
+{
+    let n = path.len();
+    match key {
+        Key::Itself => n,
+        Key::Stripped => left(n, 9),
+        Key::Prefixed => 9 + n,
+        Key::Cut(i) => {
+            if n <= i {
+                return n + 1;
+            }
+            i + 1 + left(n, i + 7)
+        }
+        Key::Inserted => 23 + left(n, 17),
+        Key::Absent => 0,
+    }
+}
+
+// The byte at i of a path with `/` for its `/_Core/` at this place.
+fn cut_byte(path: &[u8], at: usize, i: usize) -> u8
+    ensures { λ r. ⌜ r ≡ getD (keyBytes (now (path .entry)) (Key.Cut at)) i 0 ⌝ }
+{
+    let n = path.len();
+    if n < at {
+        return if i == n { b'/' } else { byte_at(path, i) };
+    }
+    if i < at {
+        return byte_at(path, i);
+    }
+    if i == at {
+        return b'/';
+    }
+    byte_behind(path, i, 6)
+}
+
+// The byte at i of a path's key, 0 past its end.
+pub fn key_byte(path: &[u8], key: Key, i: usize) -> u8
+    ensures { λ r. ⌜ r ≡ getD (keyBytes (now (path .entry)) key) i 0 ⌝ }
+{
+    match key {
+        Key::Itself => byte_at(path, i),
+        Key::Stripped => byte_behind(path, i, 9),
+        Key::Prefixed => {
+            if i < 9 {
+                return byte_at(b"Default__", i);
+            }
+            byte_at(path, i - 9)
+        }
+        Key::Cut(at) => cut_byte(path, at, i),
+        Key::Inserted => {
+            if i < 23 {
+                return byte_at(b"/Game/Characters/_Core/", i);
+            }
+            byte_behind(path, i - 23, 17)
+        }
+        Key::Absent => 0,
+    }
+}
+
+// Whether the bytes of a path's key are this text.
+fn same_key(path: &[u8], key: Key, text: &[u8]) -> bool
+    ensures { λ r. ⌜ r ≡ same (keyBytes (now (path .entry)) key) (now (text .entry)) ⌝ }
+{
+    if key_len(path, key) != text.len() {
+        return false;
+    }
+    let mut i = 0;
+    while i < text.len() {
+        if key_byte(path, key, i) != text[i] {
+            return false;
+        }
+        i += 1;
+    }
+    true
+}
+
+// Whether a path's key is there and is this text.
+pub fn is_key(path: &[u8], key: Key, text: &[u8]) -> bool
+    ensures { λ r. ⌜ r ≡ isThe (spelled (now (path .entry)) key) (now (text .entry)) ⌝ }
+{
+    if is_absent(key) {
+        return false;
+    }
+    same_key(path, key, text)
+}
+
+// Whether a text is one of a path's keys. The core alias is 6 bytes longer or shorter than the path, so most texts need no search for it.
+pub fn has_key(path: &[u8], text: &[u8]) -> bool
+    ensures { λ r. ⌜ r ≡ hasKey (now (path .entry)) (now (text .entry)) ⌝ }
+{
+    if same(path, text) {
+        return true;
+    }
+    if is_key(path, default_object_alias(path), text) {
+        return true;
+    }
+    if text.len() + 6 == path.len() {
+        return is_key(path, core_alias(path), text);
+    }
+    if path.len() + 6 == text.len() {
+        return is_key(path, core_alias(path), text);
+    }
+    false
+}
+
+// Where a path's leaf starts, the non-empty text after its last dot.
+pub fn leaf_at(path: &[u8]) -> Leaf
+    ensures { λ r. ⌜ LeafAnswer (now (path .entry)) r ⌝ }
+{
+    let n = path.len();
+    match rfind(path, b'.', n) {
+        Found::Nowhere => Leaf::Absent,
+        Found::At(i) => {
+            if i + 1 < n {
+                return Leaf::At(i + 1);
+            }
+            Leaf::Absent
+        }
+    }
+}
+
+// A key's `_ClassNetCache` toggle: the suffix removed if present, appended if absent. Removed to nothing it is no key.
+pub fn strip_class_net_cache(key: &[u8]) -> Toggle
+    ensures { λ r. ⌜ ToggleAnswer (now (key .entry)) r ⌝ }
+{
+    if ends_with(key, b"_ClassNetCache") {
+        if 14 < key.len() {
+            return Toggle::Stripped(key.len() - 14);
+        }
+        return Toggle::Absent;
+    }
+    Toggle::Appended
+}
+
+// An ASCII digit.
+fn is_digit(b: u8) -> bool
+    ensures { λ r. ⌜ r ≡ isDigit b ⌝ }
+{
+    if b < b'0' {
+        return false;
+    }
+    b <= b'9'
+}
+
+// An ASCII capital.
+fn is_capital(b: u8) -> bool
+    ensures { λ r. ⌜ r ≡ isCapital b ⌝ }
+{
+    if b < b'A' {
+        return false;
+    }
+    b <= b'Z'
+}
+
+// How many bytes a name has before its trailing digits.
+fn digits_from(name: &[u8]) -> usize
+    ensures { λ r. ⌜ (r ≡ digitsFrom (now (name .entry)) (length (now (name .entry)))) × (r ≤ length (now (name .entry))) ⌝ }
+{
+    let mut i = name.len();
+    while 0 < i {
+        if !is_digit(name[i - 1]) {
+            return i;
+        }
+        i -= 1;
+    }
+    0
+}
+
+// The stem without the trailing digits, if some went and something is left.
+fn digit_stem(name: &[u8]) -> Stem
+    ensures { λ r. ⌜ StemAnswer (now (name .entry)) (digitStems (now (name .entry)) (digitsFrom (now (name .entry)) (length (now (name .entry))))) r ⌝ }
+{
+    let n = digits_from(name);
+    if n == 0 {
+        return Stem::End;
+    }
+    if n < name.len() {
+        return Stem::At(n, Phase::Digits);
+    }
+    Stem::End
+}
+
+// The stem of n bytes without one trailing capital, if something is left.
+fn capital_stem(name: &[u8], n: usize) -> Stem
+    ensures { λ r. ⌜ StemAnswer (now (name .entry)) (capitalStems (now (name .entry)) n) r ⌝ }
+{
+    if n < 2 {
+        return Stem::End;
+    }
+    if name.len() < n {
+        return Stem::End;
+    }
+    if is_capital(name[n - 1]) {
+        return Stem::At(n - 1, Phase::Capital);
+    }
+    Stem::End
+}
+
+// The stem cut at the last `_` below place n and above place 0, or else the first of the stems that follow the cuts.
+fn cut_stem(name: &[u8], n: usize) -> Stem
+    requires { ⌜ n ≤ length (now name) ⌝ }
+    ensures { λ r. ⌜ StemAnswer (now (name .entry)) (stemsAfter (now (name .entry)) n Phase.Underscore) r ⌝ }
+{
+    match rfind(name, b'_', n) {
+        Found::Nowhere => digit_stem(name),
+        Found::At(i) => {
+            if 0 < i {
+                return Stem::At(i, Phase::Underscore);
+            }
+            digit_stem(name)
+        }
+    }
+}
+
+// The first stem of a name: the name.
+pub fn first_stem(name: &[u8]) -> Stem
+    ensures { λ r. ⌜ StemAnswer (now (name .entry)) (stems (now (name .entry))) r ⌝ }
+{
+    Stem::At(name.len(), Phase::Underscore)
+}
+
+// The stem that follows the one of so many bytes, made by this rule.
+pub fn next_stem(name: &[u8], len: usize, phase: Phase) -> Stem
+    ensures { λ r. ⌜ StemAnswer (now (name .entry)) (stemsAfter (now (name .entry)) len phase) r ⌝ }
+{
+    match phase {
+        Phase::Underscore => {
+            if name.len() < len {
+                return cut_stem(name, name.len());
+            }
+            cut_stem(name, len)
+        }
+        Phase::Digits => capital_stem(name, len),
+        Phase::Capital => Stem::End,
+    }
+}
+
+// Writes a text into a buffer, from a place on.
+fn put_text(text: &[u8], out: &mut [u8], at: usize)
+    requires { ⌜ at + length (now text) ≤ length (now out) ⌝ }
+    ensures { λ _. ⌜ now (out .exit) ≡ pasted (now (out .entry)) at (now (text .entry)) ⌝ }
+{
+    let mut i = 0;
+    while i < text.len() {
+        out[at + i] = text[i];
+        i += 1;
+    }
+}
+
+// How many digits a number has.
+fn decimal_len(n: u32) -> usize
+    ensures { λ r. ⌜ (r ≡ length (decimal n)) × (r ≤ 10) ⌝ }
+{
+    let mut rest = n;
+    let mut len: usize = 1;
+    while 10 <= rest {
+        rest /= 10;
+        len += 1;
+    }
+    len
+}
+
+// Writes a number in decimal into a buffer, from a place on, the last digit first.
+fn put_decimal(n: u32, out: &mut [u8], at: usize)
+    requires { ⌜ at + length (decimal n) ≤ length (now out) ⌝ }
+    ensures { λ _. ⌜ now (out .exit) ≡ pasted (now (out .entry)) at (decimal n) ⌝ }
+{
+    let mut rest = n;
+    let mut end = at + decimal_len(n) - 1;
+    while 10 <= rest {
+        out[end] = b'0' + (rest % 10) as u8;
+        rest /= 10;
+        end -= 1;
+    }
+    out[end] = b'0' + rest as u8;
+}
+
+// The number in decimal, at the front of a buffer.
+pub fn render_index(n: u32, out: &mut [u8]) -> Rendered
+    ensures { λ r. ⌜ RenderedAnswer (decimal n) (now (out .entry)) (now (out .exit)) r ⌝ }
+{
+    let len = decimal_len(n);
+    if out.len() < len {
+        return Rendered::Short;
+    }
+    put_decimal(n, out, 0);
+    Rendered::Length(len)
+}
+
+// What a number adds to a name. The lowest number has no positive counterpart, so one is added before it is negated, and after.
+fn suffix_of(number: i32) -> Suffix
+    ensures { λ r. ⌜ suffixText r ≡ suffix number ⌝ }
+{
+    if number == 0 {
+        return Suffix::Empty;
+    }
+    if 0 < number {
+        return Suffix::Plain((number - 1) as u32);
+    }
+    Suffix::Minus((-(number + 1)) as u32 + 1)
+}
+
+// How many bytes that has.
+fn suffix_len(s: Suffix) -> usize
+    ensures { λ r. ⌜ (r ≡ length (suffixText s)) × (r ≤ 12) ⌝ }
+{
+    match s {
+        Suffix::Empty => 0,
+        Suffix::Plain(n) => 1 + decimal_len(n),
+        Suffix::Minus(n) => 2 + decimal_len(n),
+    }
+}
+
+// Writes it into a buffer, from a place on.
+fn put_suffix(s: Suffix, out: &mut [u8], at: usize)
+    requires { ⌜ at + length (suffixText s) ≤ length (now out) ⌝ }
+    ensures { λ _. ⌜ now (out .exit) ≡ pasted (now (out .entry)) at (suffixText s) ⌝ }
+{
+    match s {
+        Suffix::Empty => {}
+        Suffix::Plain(n) => {
+            out[at] = b'_';
+            put_decimal(n, out, at + 1);
+        }
+        Suffix::Minus(n) => {
+            out[at] = b'_';
+            out[at + 1] = b'-';
+            put_decimal(n, out, at + 2);
+        }
+    }
+}
+
+// A base text with its number, at the front of a buffer.
+pub fn render_fname(base: &[u8], number: i32, out: &mut [u8]) -> Rendered
+    ensures { λ r. ⌜ RenderedAnswer (rendered (now (base .entry)) number) (now (out .entry)) (now (out .exit)) r ⌝ }
+{
+    let s = suffix_of(number);
+    let n = base.len();
+    let len = n + suffix_len(s);
+    if 4096 < len {
+        return Rendered::TooLong(len);
+    }
+    if out.len() < len {
+        return Rendered::Short;
+    }
+    put_text(base, out, 0);
+    put_suffix(s, out, n);
+    Rendered::Length(len)
+}

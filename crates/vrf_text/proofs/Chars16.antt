@@ -1,0 +1,108 @@
+-- One character of UTF-16, by the word that holds its units: 0 stands past the end of a text, and 0 is no low surrogate.
+use mathlib.Core.List.{List, [], _∷_}
+use mathlib.Core.Option.{Option, none, some}
+use mathlib.Core.Path.{_≡_, refl, sym, ap, ap₂, _∙_}
+use Prim.Native.Nat.{ℕ, zero, suc, _+_, _*_, _/_, _%_, _≤_, _<_}
+use native.Mathlib.Omega.{arith}
+use lib.ListN.{length, getD, drop}
+use borrow.Author.Tests.{le-leb, lt-leb}
+use Rattle.vrf_text.specs.Cases.{at-most}
+use Rattle.vrf_text.specs.Utf16.{Kind, single, high, low, kind, pair, before, utf16From, utf16}
+use Rattle.vrf_text.specs.Steps.{Holds16, Taken, Step16}
+
+-- two constructors are never equal
+clash : {A : Type 0} → _≡_ {A = ℕ} 0 1 → A
+clash z = absurd (omega arith)
+
+-- ---- what a unit is
+
+module _ (a : ℕ) where
+  kind-below : a < 0xD800 → kind a ≡ single
+  unfolding kind
+  kind-below h = rw (le-leb a 0xD7FF (omega arith))
+
+  kind-above : 0xDFFF < a → kind a ≡ single
+  unfolding kind
+  kind-above h = rw (lt-leb a 0xD7FF (omega arith), lt-leb a 0xDBFF (omega arith), lt-leb a 0xDFFF h)
+
+  kind-high : 0xD800 ≤ a → a ≤ 0xDBFF → kind a ≡ high
+  unfolding kind
+  kind-high h k = rw (lt-leb a 0xD7FF h, le-leb a 0xDBFF k)
+
+  kind-low : 0xDBFF < a → a ≤ 0xDFFF → kind a ≡ low
+  unfolding kind
+  kind-low h k = rw (lt-leb a 0xD7FF (omega arith), lt-leb a 0xDBFF h, le-leb a 0xDFFF k)
+
+  pub low-range : kind a ≡ low → (0xDC00 ≤ a) × (a ≤ 0xDFFF)
+  unfolding kind
+  low-range =
+      let P : Kind → Type 0 = λ k. k ≡ low → (0xDC00 ≤ a) × (a ≤ 0xDFFF) in
+      at-most P a 0xD7FF (λ _ e. clash (cc)) λ _.
+      at-most P a 0xDBFF (λ _ e. clash (cc)) λ p.
+      at-most P a 0xDFFF (λ q _. (p, q)) λ _ e. clash (cc)
+
+-- ---- what begins a list of units
+
+module _ (a : ℕ) (l : List ℕ) where
+  one : kind a ≡ single → utf16 (a ∷ l) ≡ before a (utf16 l)
+  unfolding utf16 utf16From
+  one e = rw (e, utf16From)
+
+  stray : kind a ≡ low → utf16 (a ∷ l) ≡ none
+  unfolding utf16 utf16From
+  stray e = rw (e, utf16From)
+
+  paired : kind a ≡ high → utf16 (a ∷ l) ≡ utf16From (some a) l
+  unfolding utf16 utf16From
+  paired e = rw (e, utf16From)
+
+two : (a : ℕ) (l : List ℕ) → kind (getD l 0 0) ≡ low → utf16From (some a) l ≡ before (pair a (getD l 0 0)) (utf16 (drop 1 l))
+unfolding utf16 utf16From kind
+two a [] e = clash (cc)
+two a (b ∷ l) e = rw (e, utf16From)
+
+alone : (a : ℕ) (l : List ℕ) → (kind (getD l 0 0) ≡ low → ⊥) → utf16From (some a) l ≡ none
+unfolding utf16From
+alone a [] h = refl
+alone a (b ∷ l) h = go (kind b) h
+  where
+    go : (k : Kind) → (k ≡ low → ⊥) → _≡_ {A = Option (List ℕ)} (elim k [ single ↦ none | high ↦ none | low ↦ before (pair a b) (utf16From none l) ]) none
+    go single h = refl
+    go high h = refl
+    go low h = absurd (h refl)
+
+-- ---- the character that begins a word
+
+module _ (w : ℕ) where
+  abbrev pub unit : ℕ
+  unit = w % 0x10000
+
+  abbrev pub next : ℕ
+  next = w / 0x10000 % 0x10000
+
+  -- from the first unit of the word to that of the list
+  begun : (u k : ℕ) → k ≤ 2 → u < 0x110000 → ((l : List ℕ) → getD l 0 0 ≡ next → Taken (unit ∷ l) u k) → Step16 w u k
+  begun u k few h f = record { few = few; scalar = h; taken = go }
+    where
+      go : (ws : List ℕ) → Holds16 w ws → Taken ws u k
+      go [] q = absurd (omega (arith, q .any))
+      go (a ∷ l) q = rw (q .first) (f l (q .second))
+
+  pub below : unit < 0xD800 → Step16 w unit 1
+  below h = begun unit 1 (omega arith) (omega arith) λ l _. one unit l (kind-below unit h)
+
+  pub above : 0xDFFF < unit → Step16 w unit 1
+  above h = begun unit 1 (omega arith) (omega arith) λ l _. one unit l (kind-above unit h)
+
+  pub low-first : 0xDBFF < unit → unit ≤ 0xDFFF → Step16 w 0 0
+  low-first h k = begun 0 0 (omega arith) (omega arith) λ l _. stray unit l (kind-low unit h k)
+
+  module _ (h : 0xD800 ≤ unit) (k : unit ≤ 0xDBFF) where
+    pub no-low : (kind next ≡ low → ⊥) → Step16 w 0 0
+    no-low f = begun 0 0 (omega arith) (omega arith) λ l e.
+        paired unit l (kind-high unit h k) ∙ alone unit l (λ q. f (ap kind (sym e) ∙ q))
+
+    pub pair-of : 0xDC00 ≤ next → next ≤ 0xDFFF → Step16 w (0x10000 + (unit % 0x400 * 0x400 + next % 0x400)) 2
+    unfolding pair
+    pair-of p q = begun _ 2 (omega arith) (omega arith) λ l e.
+        paired unit l (kind-high unit h k) ∙ two unit l (ap kind e ∙ kind-low next p q) ∙ rw e

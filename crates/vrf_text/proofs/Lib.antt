@@ -1,0 +1,11 @@
+pub mod Runs
+pub mod Chars
+pub mod Ascii
+pub mod Walks
+pub mod Chars16
+pub mod Puts
+pub mod Decoding
+pub mod Signs
+pub mod Texts
+pub mod Words
+pub mod Takes

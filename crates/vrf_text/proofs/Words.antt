@@ -1,0 +1,130 @@
+-- The length word of a text: read as a signed number, it is the word of the definition, and says what the rest is.
+use mathlib.Core.Bool.{cond}
+use mathlib.Core.List.{List, []}
+use mathlib.Core.Path.{_≡_, refl, sym, ap, _∙_, subst}
+use Prim.Native.Nat.{ℕ, zero, suc, _+_, _-_, _*_, _^_, _≤_, _<_}
+use native.Mathlib.Omega.{arith}
+use lib.Dec.{ltb, eqb}
+use lib.IntN.{ℤ, pos, negsuc}
+use lib.Signed.{mag}
+use mir.Syntax.{w32}
+use mir.Val.{toZ, ofZ}
+use mir.Facts.{toZ-ofZ}
+use borrow.Author.Tests.{lt-ltb, le-ltb, ltb-true, ltb-false, eq-eqb, ne-eqb}
+use Rattle.vrf_bitio.specs.Bits.{bitsOf, bytesOf}
+use Rattle.vrf_bitio.specs.BitsLaws.{bits-lt}
+use Rattle.vrf_bitio.specs.Reading.{Read, ok, refused, Reader, return, _>>=_}
+use Rattle.vrf_bitio.specs.ReadingLaws.{bind-ok, bind-refused}
+use Rattle.vrf_bitio.specs.Window.{rest}
+use Rattle.vrf_bitio.specs.WindowLaws.{word-found, word-lacks}
+use Rattle.vrf_bitio.specs.Number.{word32, int32, signed}
+use Rattle.vrf_bitio.specs.Answers.{restOf, readAt, Gave, Refuses}
+use Rattle.vrf_bitio.specs.AnswersLaws.{gave-return}
+use Rattle.vrf_bitio.specs.declared.Cursor.{Cursor}
+use Rattle.vrf_bitio.specs.declared.Refusal.{Refusal}
+use Rattle.vrf_text.specs.Cases.{by-cond, by-order}
+use Rattle.vrf_text.specs.Text.{text8, text16, textOf, fstring}
+use Rattle.vrf_text.specs.TextLaws.{fstring-at}
+use Rattle.vrf_text.specs.Steps.{bitAt, LengthOf, FoundAnswer}
+use Rattle.vrf_text.specs.declared.Length.{Length}
+use Rattle.vrf_text.specs.declared.Found.{Found}
+use Rattle.vrf_text.specs.declared.Found.the-variants.{Bytes, Units, Refused}
+
+clash : {A : Type 0} → _≡_ {A = ℕ} 0 1 → A
+clash z = absurd (omega arith)
+
+-- what a call says of a signed number that was passed to it, at the variant that it answered
+pub told : (v : ℤ) {r r′ : Length} → mag v < 2147483648 → r ≡ r′ → LengthOf (toZ w32 (ofZ w32 v)) r → LengthOf v r′
+told v {r} {r′} h e l = subst (LengthOf v) e (subst (λ (z : ℤ). LengthOf z r) (toZ-ofZ (record { sfits = h })) l)
+
+-- the word of a signed number that was read
+pub record Worded (s : List ℕ) (c : Cursor) (v : ℤ) (at : Cursor) : Type 0 where
+  pub w : ℕ
+  pub small : w < 4294967296
+  pub word : Gave s c (readAt s c word32) w at
+  pub is : v ≡ signed w
+
+module _ (s : List ℕ) (c : Cursor) where
+  lacking : c .count - c .pos < 32 → readAt s c int32 ≡ refused 10 (c .pos) 32
+  unfolding int32
+  lacking h = bind-refused word32 _ (c .pos) (restOf s c) (word-lacks s (c .first) (c .count) (c .pos) h)
+
+  found : 32 ≤ c .count - c .pos → readAt s c int32 ≡ ok (signed (bitsOf s (bitAt c) 32)) (c .pos + 32) (rest s (c .first) (c .count) (c .pos + 32))
+  unfolding int32 return
+  found h = bind-ok word32 _ (c .pos) (restOf s c) (word-found s (c .first) (c .count) (c .pos) h)
+
+  pub worded : (v : ℤ) (at : Cursor) → Gave s c (readAt s c int32) v at → Worded s c v at
+  worded v at g = by-order (c .count - c .pos) 31
+      (λ h. let e = sym (lacking (omega arith)) ∙ g .read in clash (cc))
+      λ h. let e = sym (found h) ∙ g .read in
+      record {
+        w = bitsOf s (bitAt c) 32;
+        small = bits-lt s (bitAt c) 32;
+        word = record { read = word-found s (c .first) (c .count) (c .pos) h ∙ (cc); first = g .first; count = g .count };
+        is = cc;
+      }
+
+  pub no-word : {r : Refusal} → Refuses (readAt s c int32) r → Refuses (readAt s c fstring) r
+  no-word {r} e = by-order (c .count - c .pos) 31
+      (λ h. let e′ = sym (lacking (omega arith)) ∙ e in
+      fstring-at (c .pos) (restOf s c) ∙ bind-refused word32 _ (c .pos) (restOf s c) (word-lacks s (c .first) (c .count) (c .pos) (omega arith)) ∙ (cc))
+      λ h. let e′ = sym (found h) ∙ e in clash (cc)
+
+-- the number that a word stands for
+signed-pos : (w n : ℕ) → signed w ≡ pos n → (w ≡ n) × (w < 2147483648)
+unfolding signed
+signed-pos w n =
+    by-cond (λ (z : ℤ). z ≡ pos n → (w ≡ n) × (w < 2147483648)) (ltb w (2 ^ 31))
+    (λ t e. (cc, ltb-true w (2 ^ 31) t)) λ t e. clash (cc)
+
+signed-neg : (w n : ℕ) → signed w ≡ negsuc n → (2147483648 ≤ w) × (n ≡ 4294967296 - suc w)
+unfolding signed
+signed-neg w n =
+    by-cond (λ (z : ℤ). z ≡ negsuc n → (2147483648 ≤ w) × (n ≡ 4294967296 - suc w)) (ltb w (2 ^ 31))
+    (λ t e. clash (cc)) λ t e. (ltb-false w (2 ^ 31) t, cc)
+
+module _ (s : List ℕ) (c : Cursor) {v : ℤ} {at : Cursor} (d : Worded s c v at) where
+  then : readAt s c fstring ≡ readAt s at (textOf (c .pos) (d .w))
+  then = fstring-at (c .pos) (restOf s c) ∙ bind-ok word32 (textOf (c .pos)) (c .pos) (restOf s c) (d .word .read)
+
+  then-none : v ≡ pos 0 → readAt s c fstring ≡ readAt s at (return [])
+  unfolding textOf
+  then-none e =
+      let z : d .w ≡ 0 = signed-pos (d .w) 0 (sym (d .is) ∙ e) .0 in
+      then ∙ rw (eq-eqb (d .w) 0 z)
+
+  pub then-bytes : (n : ℕ) → v ≡ pos n → 0 < n → readAt s c fstring ≡ readAt s at (text8 (c .pos) n n)
+  unfolding textOf
+  then-bytes n e h =
+      let f = signed-pos (d .w) n (sym (d .is) ∙ e) in
+      let z : d .w ≡ 0 → ⊥ = λ q. omega arith in
+      then ∙ rw (ne-eqb (d .w) 0 z, lt-ltb (d .w) (2 ^ 31) (f .1), f .0)
+
+  module _ (n : ℕ) (e : v ≡ negsuc (n - 1)) (h : 0 < n) where
+    units-of : (2147483648 ≤ d .w) × (n - 1 ≡ 4294967296 - suc (d .w))
+    units-of = signed-neg (d .w) (n - 1) (sym (d .is) ∙ e)
+
+    pub units-few : n ≤ 2147483648
+    units-few = omega (arith, units-of, d .small)
+
+    pub then-units : readAt s c fstring ≡ readAt s at (text16 (c .pos) (4294967296 - n) n)
+    unfolding textOf
+    then-units =
+        let z : d .w ≡ 0 → ⊥ = λ q. omega (arith, units-of) in
+        let m : d .w ≡ 4294967296 - n = omega (arith, units-of, d .small) in
+        let k : 4294967296 - (4294967296 - n) ≡ n = omega (arith, units-few) in
+        then ∙ rw (ne-eqb (d .w) 0 z, le-ltb (d .w) (2 ^ 31) (units-of .0), m, k)
+
+  lift : {x y : Read (List ℕ)} {t : List ℕ} {next : Cursor} → x ≡ y → Gave s at y t next → Gave s c x t next
+  lift e g = record { read = e ∙ g .read; first = g .first ∙ d .word .first; count = g .count ∙ d .word .count }
+
+  -- what was found from there on is found from the word on
+  pub found-from : {y : Read (List ℕ)} → readAt s c fstring ≡ y → (r : Found) → FoundAnswer s at y r → FoundAnswer s c (readAt s c fstring) r
+  found-from e (Bytes from n next) f = (lift e (f .0), f .1)
+  found-from e (Units from n len next) f = (f .0, (lift e (f .1 .0), f .1 .1))
+  found-from e (Refused r) f = e ∙ f
+
+  -- no text
+  pub found-none : v ≡ pos 0 → FoundAnswer s c (readAt s c fstring) (Bytes at 0 at)
+  unfolding bytesOf
+  found-none e = (lift (then-none e) (gave-return s at []), (omega arith, omega arith))

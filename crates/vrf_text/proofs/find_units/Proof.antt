@@ -1,0 +1,118 @@
+-- `vrf_text::find_units` meets its contract: each answer by the tests that lead to it.
+use native.Mathlib.Omega.{arith}
+use denote.Ref.{now}
+use mathlib.Core.Path.{subst}
+use Prim.Native.Nat.{_-_, _*_}
+use Rattle.vrf_text.specs.Utf16.{unitsToUtf8}
+use Rattle.vrf_text.specs.Steps.{unitsOf, MeasuredAnswer, bitAt}
+use Rattle.vrf_text.proofs.Texts.{few, units-refused, units-reached, bad-text, long-text, good-text}
+use borrow.Author.Needs.{needs}
+use Rattle.vrf_text.proofs.find_units.Statement.{statement}
+use Rattle.vrf_text.proofs.find_units.Tie as tie
+
+mul-too-long : tie.Need-mul-too-long
+mul-too-long c = search needs
+
+too-long-requires : tie.Need-too-long-requires
+too-long-requires c κs = search needs
+
+sub-t16 : tie.Need-sub-t16
+sub-t16 c = search needs
+
+returns : tie.Need-returns
+returns c = units-refused (now (c .before .before .before .args .s)) (c .before .before .before .args .c) (c .before .before .before .args .start) (4294967296 - c .before .before .before .args .n) (c .before .before .before .args .n) (c .before .too-long .ensures) (c .if1 .taken)
+
+cast-p : tie.Need-cast-p
+cast-p c = search needs
+
+cast-p-2 : tie.Need-cast-p-2
+cast-p-2 c = search needs
+
+add-p : tie.Need-add-p
+add-p c = search needs
+
+sub-bits-at : tie.Need-sub-bits-at
+sub-bits-at c = search needs
+
+cast-bits-at : tie.Need-cast-bits-at
+cast-bits-at c = search needs
+
+mul-bits-at : tie.Need-mul-bits-at
+mul-bits-at c = search needs
+
+add-bits-at : tie.Need-add-bits-at
+add-bits-at c = search needs
+
+bits-at-requires : tie.Need-bits-at-requires
+bits-at-requires c κs = search needs
+
+trimmed-requires : tie.Need-trimmed-requires
+trimmed-requires c κs = search needs
+
+cast-utf16-length : tie.Need-cast-utf16-length
+cast-utf16-length c = search needs
+
+utf16-length-requires : tie.Need-utf16-length-requires
+utf16-length-requires c κs = omega (arith, few (c .before .before .before .before .before .args .c) (2 * c .before .before .before .before .before .args .n) (c .before .before .before .too-long .ensures) (c .before .before .if1 .left), c .trimmed .ensures .1)
+
+enum-told : tie.Need-enum-told
+enum-told c = search needs
+
+enum-known-len : tie.Need-enum-known-len
+enum-known-len c = search needs
+
+cast-t27 : tie.Need-cast-t27
+cast-t27 c = search needs
+
+returns-2 : tie.Need-returns-2
+returns-2 c = let m = subst (MeasuredAnswer (unitsToUtf8 (unitsOf (now (c .before .before .before .before .before .before .before .before .before .before .args .s)) (bitAt (c .before .before .before .before .before .before .before .before .before .before .args .c)) (c .before .before .before .before .before .trimmed .result)))) (c .before .before .len .given .1) (c .before .before .before .before .utf16-length .ensures) in
+    long-text _ _ _ _ _ _ (units-reached (now (c .before .before .before .before .before .before .before .before .before .before .args .s)) (c .before .before .before .before .before .before .before .before .before .before .args .c) (c .before .before .before .before .before .before .before .before .before .before .args .start) (4294967296 - c .before .before .before .before .before .before .before .before .before .before .args .n) (c .before .before .before .before .before .before .before .before .before .before .args .n) (c .before .before .before .before .before .before .before .before .too-long .ensures) (c .before .before .before .before .before .before .before .if1 .left) (c .before .before .before .before .before .before .before .before .before .before .pre .0) (c .before .before .before .before .before .before .bits-at .ensures) (c .before .before .before .before .before .trimmed .ensures .0))
+    (m .0) (m .1 .0) (m .1 .1) (c .if2 .taken)
+
+mul-t29 : tie.Need-mul-t29
+mul-t29 c = omega (arith, few (c .before .before .before .before .before .before .before .before .before .before .args .c) (2 * c .before .before .before .before .before .before .before .before .before .before .args .n) (c .before .before .before .before .before .before .before .before .too-long .ensures) (c .before .before .before .before .before .before .before .if1 .left))
+
+add-t30 : tie.Need-add-t30
+add-t30 c = omega (arith, few (c .before .before .before .before .before .before .before .before .before .before .args .c) (2 * c .before .before .before .before .before .before .before .before .before .before .args .n) (c .before .before .before .before .before .before .before .before .too-long .ensures) (c .before .before .before .before .before .before .before .if1 .left))
+
+returns-3 : tie.Need-returns-3
+returns-3 c = bad-text _ _ _ _ _ _ (units-reached (now (c .before .before .before .before .before .before .before .before .args .s)) (c .before .before .before .before .before .before .before .before .args .c) (c .before .before .before .before .before .before .before .before .args .start) (4294967296 - c .before .before .before .before .before .before .before .before .args .n) (c .before .before .before .before .before .before .before .before .args .n) (c .before .before .before .before .before .before .too-long .ensures) (c .before .before .before .before .before .if1 .left) (c .before .before .before .before .before .before .before .before .pre .0) (c .before .before .before .before .bits-at .ensures) (c .before .before .before .trimmed .ensures .0))
+    (subst (MeasuredAnswer (unitsToUtf8 (unitsOf (now (c .before .before .before .before .before .before .before .before .args .s)) (bitAt (c .before .before .before .before .before .before .before .before .args .c)) (c .before .before .before .trimmed .result)))) (c .enum-told .given .1) (c .before .before .utf16-length .ensures))
+
+returns-4 : tie.Need-returns-4
+returns-4 c = let m = subst (MeasuredAnswer (unitsToUtf8 (unitsOf (now (c .before .before .before .before .before .before .before .before .before .before .args .s)) (bitAt (c .before .before .before .before .before .before .before .before .before .before .args .c)) (c .before .before .before .before .before .trimmed .result)))) (c .before .before .len .given .1) (c .before .before .before .before .utf16-length .ensures) in (
+  m .0,
+  (
+    good-text _ _ _ _ _ _ (units-reached (now (c .before .before .before .before .before .before .before .before .before .before .args .s)) (c .before .before .before .before .before .before .before .before .before .before .args .c) (c .before .before .before .before .before .before .before .before .before .before .args .start) (4294967296 - c .before .before .before .before .before .before .before .before .before .before .args .n) (c .before .before .before .before .before .before .before .before .before .before .args .n) (c .before .before .before .before .before .before .before .before .too-long .ensures) (c .before .before .before .before .before .before .before .if1 .left) (c .before .before .before .before .before .before .before .before .before .before .pre .0) (c .before .before .before .before .before .before .bits-at .ensures) (c .before .before .before .before .before .trimmed .ensures .0))
+        (m .0) (m .1 .0) (m .1 .1) (c .if2 .left),
+    (m .1 .0, (m .1 .1, (c .if2 .left, omega (arith, few (c .before .before .before .before .before .before .before .before .before .before .args .c) (2 * c .before .before .before .before .before .before .before .before .before .before .args .n) (c .before .before .before .before .before .before .before .before .too-long .ensures) (c .before .before .before .before .before .before .before .if1 .left), c .before .before .before .before .before .trimmed .ensures .1)))),
+  ),
+)
+
+pub find-units-spec : {M : Type 1} → statement M
+find-units-spec =
+    tie.close
+    (tie.spec
+    mul-too-long
+    too-long-requires
+    sub-t16
+    returns
+    cast-p
+    cast-p-2
+    add-p
+    sub-bits-at
+    cast-bits-at
+    mul-bits-at
+    add-bits-at
+    bits-at-requires
+    trimmed-requires
+    cast-utf16-length
+    utf16-length-requires
+    enum-told
+    enum-known-len
+    cast-t27
+    returns-2
+    mul-t29
+    add-t30
+    returns-3
+    returns-4)

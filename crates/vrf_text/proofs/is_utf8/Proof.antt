@@ -1,0 +1,63 @@
+-- `vrf_text::is_utf8` meets its contract: each step passes bytes that decide nothing.
+use native.Mathlib.Omega.{arith}
+use denote.Ref.{now}
+use mathlib.Core.Path.{_≡_, refl}
+use Prim.Native.Nat.{_-_}
+use lib.ListN.{length, drop}
+use Rattle.vrf_text.specs.Utf8.{utf8}
+use Rattle.vrf_text.proofs.Walks.{bad, on, end, rest}
+use Rattle.vrf_text.proofs.is_utf8.Statement.{statement}
+use Rattle.vrf_text.proofs.is_utf8.Tie as tie
+
+abbrev Inv-loop : tie.InvT-loop
+Inv-loop t i₀ i = utf8 (drop i t) ≡ utf8 t
+
+abbrev μ-loop : tie.MeasureT-loop
+μ-loop t i₀ i = length t - i
+
+loop-holds : tie.Need-loop-holds Inv-loop μ-loop
+loop-holds c = refl
+
+sub-step-in : tie.Need-sub-step-in Inv-loop μ-loop
+sub-step-in c = omega arith
+
+part-step-in-start : tie.Need-part-step-in-start Inv-loop μ-loop
+part-step-in-start c = omega arith
+
+part-step-in-end : tie.Need-part-step-in-end Inv-loop μ-loop
+part-step-in-end c = omega arith
+
+step-in-requires : tie.Need-step-in-requires Inv-loop μ-loop
+step-in-requires c κs = tt
+
+returns : tie.Need-returns Inv-loop μ-loop
+returns c = bad (now (c .before .before .before .before .before .before .args .t)) (c .before .before .before .before .loop .i) (c .before .before .before .before .loop .inv) (c .before .step-in .result) (c .if1 .taken) (rest (now (c .before .before .before .before .before .before .args .t)) (c .before .before .before .before .loop .i) (c .before .step-in .result) (c .before .step-in .ensures .1))
+
+add-i : tie.Need-add-i Inv-loop μ-loop
+add-i c = omega arith
+
+loop-less : tie.Need-loop-less Inv-loop μ-loop
+loop-less c = omega arith
+
+loop-again : tie.Need-loop-again Inv-loop μ-loop
+loop-again c = on (now (c .before .before .before .before .before .before .args .t)) (c .before .before .before .before .loop .i) (c .before .before .before .before .loop .inv) (c .before .step-in .result) (c .if1 .left) (rest (now (c .before .before .before .before .before .before .args .t)) (c .before .before .before .before .loop .i) (c .before .step-in .result) (c .before .step-in .ensures .1))
+
+returns-2 : tie.Need-returns-2 Inv-loop μ-loop
+returns-2 c = end (now (c .before .before .before .args .t)) (c .before .loop .i) (c .before .loop .inv) (c .loop-test .left)
+
+pub is-utf8-spec : {M : Type 1} → statement M
+is-utf8-spec =
+    tie.close
+    (tie.spec
+    Inv-loop
+    μ-loop
+    loop-holds
+    sub-step-in
+    part-step-in-start
+    part-step-in-end
+    step-in-requires
+    returns
+    add-i
+    loop-less
+    loop-again
+    returns-2)

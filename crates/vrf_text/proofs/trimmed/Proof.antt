@@ -1,0 +1,18 @@
+-- `vrf_text::trimmed` meets its contract.
+use native.Mathlib.Omega.{arith}
+use borrow.Author.Tests.{eq-eqb, ne-eqb}
+use borrow.Author.Needs.{needs}
+use Rattle.vrf_text.proofs.trimmed.Statement.{statement}
+use Rattle.vrf_text.proofs.trimmed.Tie as tie
+
+sub-result : tie.Need-sub-result
+sub-result c = search needs
+
+returns : tie.Need-returns
+returns c = (rw (eq-eqb (c .before .args .last) 0 (c .if1 .taken)), omega arith)
+
+returns-2 : tie.Need-returns-2
+returns-2 c = (rw (ne-eqb (c .before .args .last) 0 (c .if1 .left)), omega arith)
+
+pub trimmed-spec : {M : Type 1} → statement M
+trimmed-spec = tie.close (tie.spec sub-result returns returns-2)

@@ -1,0 +1,81 @@
+-- `vrf_text::utf16_length` meets its contract: at each place, what is decoded so far has `len` bytes.
+use native.Mathlib.Omega.{arith}
+use denote.Ref.{now}
+use mathlib.Core.Path.{sym}
+use Prim.Native.Nat.{_+_, _-_, _*_, _≤_}
+use Rattle.vrf_text.specs.Steps.{unitsOf}
+use Rattle.vrf_text.proofs.Runs.{units-length}
+use Rattle.vrf_text.proofs.Decoding.{Decoding, start, bad, on, end, taken-at}
+use Rattle.vrf_text.proofs.utf16_length.Statement.{statement}
+use Rattle.vrf_text.proofs.utf16_length.Tie as tie
+
+abbrev Inv-loop : tie.InvT-loop
+Inv-loop s p n i₀ len₀ i len = Decoding (unitsOf s p n) i len × (i ≤ n + 1) × (len ≤ 4 * i)
+
+abbrev μ-loop : tie.MeasureT-loop
+μ-loop s p n i₀ len₀ i len = n - i
+
+loop-holds : tie.Need-loop-holds Inv-loop μ-loop
+loop-holds c = (start (unitsOf (now (c .before .args .s)) (c .before .args .p) (c .before .args .n)), omega arith, omega arith)
+
+mul-units-at : tie.Need-mul-units-at Inv-loop μ-loop
+mul-units-at c = omega arith
+
+add-units-at : tie.Need-add-units-at Inv-loop μ-loop
+add-units-at c = omega arith
+
+sub-units-at : tie.Need-sub-units-at Inv-loop μ-loop
+sub-units-at c = omega arith
+
+units-at-requires : tie.Need-units-at-requires Inv-loop μ-loop
+units-at-requires c κs = omega arith
+
+char16-requires : tie.Need-char16-requires Inv-loop μ-loop
+char16-requires c κs = tt
+
+returns : tie.Need-returns Inv-loop μ-loop
+returns c = bad (unitsOf (now (c .before .before .before .before .before .before .args .s)) (c .before .before .before .before .before .before .args .p) (c .before .before .before .before .before .before .args .n)) (c .before .before .before .before .loop .i) (c .before .before .before .before .loop .len) (c .before .before .before .before .loop .inv .0) (c .before .char16 .result .code) (c .before .char16 .result .units) (c .if1 .taken)
+    (taken-at (now (c .before .before .before .before .before .before .args .s)) (c .before .before .before .before .before .before .args .p) (c .before .before .before .before .before .before .args .n) (c .before .before .before .before .loop .i) (c .before .char16 .ensures) (c .before .before .units-at .ensures))
+
+utf8-len-requires : tie.Need-utf8-len-requires Inv-loop μ-loop
+utf8-len-requires c κs = tt
+
+add-len : tie.Need-add-len Inv-loop μ-loop
+add-len c = omega (arith, c .utf8-len .ensures .1)
+
+add-i : tie.Need-add-i Inv-loop μ-loop
+add-i c = omega (arith, c .before .before .char16 .ensures .few)
+
+loop-less : tie.Need-loop-less Inv-loop μ-loop
+loop-less c = omega arith
+
+loop-again : tie.Need-loop-again Inv-loop μ-loop
+loop-again c = (
+  rw (c .utf8-len .ensures .0) (on (unitsOf (now (c .before .before .before .before .before .before .before .args .s)) (c .before .before .before .before .before .before .before .args .p) (c .before .before .before .before .before .before .before .args .n)) (c .before .before .before .before .before .loop .i) (c .before .before .before .before .before .loop .len) (c .before .before .before .before .before .loop .inv .0) (c .before .before .char16 .result .code) (c .before .before .char16 .result .units) (c .before .if1 .left)
+      (taken-at (now (c .before .before .before .before .before .before .before .args .s)) (c .before .before .before .before .before .before .before .args .p) (c .before .before .before .before .before .before .before .args .n) (c .before .before .before .before .before .loop .i) (c .before .before .char16 .ensures) (c .before .before .before .units-at .ensures))),
+  omega (arith, c .before .before .char16 .ensures .few),
+  omega (arith, c .utf8-len .ensures .1),
+)
+
+returns-2 : tie.Need-returns-2 Inv-loop μ-loop
+returns-2 c = (c .before .loop .inv .0 .done, (end (unitsOf (now (c .before .before .before .args .s)) (c .before .before .before .args .p) (c .before .before .before .args .n)) (c .before .loop .i) (c .before .loop .len) (c .before .loop .inv .0) (omega (arith, units-length (now (c .before .before .before .args .s)) (c .before .before .before .args .p) (c .before .before .before .args .n))), sym (c .before .loop .inv .0 .long)))
+
+pub utf16-length-spec : {M : Type 1} → statement M
+utf16-length-spec =
+    tie.close
+    (tie.spec
+    Inv-loop
+    μ-loop
+    loop-holds
+    mul-units-at
+    add-units-at
+    sub-units-at
+    units-at-requires
+    char16-requires
+    returns
+    utf8-len-requires
+    add-len
+    add-i
+    loop-less
+    loop-again
+    returns-2)

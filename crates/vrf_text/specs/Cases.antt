@@ -1,0 +1,18 @@
+-- Proofs that go by cases as a definition does: of a `cond`, by what its test says on either side.
+use mathlib.Core.Bool.{Bool, true, false, cond}
+use mathlib.Core.Path.{_≡_, refl}
+use Prim.Native.Nat.{ℕ, _≤_, _<_}
+use lib.Dec.{leb}
+use borrow.Author.Tests.{leb-true, leb-false}
+
+pub by-cond {ℓ} : {A : Type 0} (P : A → Type ℓ) (t : Bool) {x y : A} → (t ≡ true → P x) → (t ≡ false → P y) → P (cond t x y)
+by-cond P true f g = f refl
+by-cond P false f g = g refl
+
+-- the test of an order
+pub at-most {ℓ} : {A : Type 0} (P : A → Type ℓ) (a k : ℕ) {x y : A} → (a ≤ k → P x) → (k < a → P y) → P (cond (leb a k) x y)
+at-most P a k f g = by-cond P (leb a k) (λ e. f (leb-true a k e)) (λ e. g (leb-false a k e))
+
+-- two cases that no definition makes
+pub by-order {ℓ} : {P : Type ℓ} (a k : ℕ) → (a ≤ k → P) → (k < a → P) → P
+by-order {P} a k f g = at-most (λ (_ : Bool). P) a k {x = true} {y = true} f g

@@ -1,0 +1,105 @@
+-- What the code's steps through a text say. The contracts of the exported functions do not name these.
+use mathlib.Core.Bool.{Bool, false}
+use mathlib.Core.List.{List}
+use mathlib.Core.Option.{Option, none, some}
+use mathlib.Core.Path.{_≡_}
+use Prim.Native.Nat.{ℕ, zero, suc, _+_, _-_, _*_, _/_, _%_, _^_, _≤_, _<_}
+use lib.IntN.{ℤ, pos, negsuc}
+use lib.ListN.{length, getD, drop}
+use Rattle.vrf_bitio.specs.Bits.{bytesOf}
+use Rattle.vrf_bitio.specs.Reading.{Read}
+use Rattle.vrf_bitio.specs.Pasted.{pasted}
+use Rattle.vrf_bitio.specs.Answers.{Gave, Refuses}
+use Rattle.vrf_bitio.specs.declared.Cursor.{Cursor}
+use Rattle.vrf_text.specs.Utf8.{Lead, asks, bad, lead, within, utf8}
+use Rattle.vrf_text.specs.Utf16.{units, before, utf16, unitsToUtf8}
+use Rattle.vrf_text.specs.declared.Measured.{Measured}
+use Rattle.vrf_text.specs.declared.Measured.the-variants.{Bytes, Bad}
+use Rattle.vrf_text.specs.declared.Length.{Length}
+use Rattle.vrf_text.specs.declared.Length.the-variants.{Empty, Bytes as OfBytes, Units as OfUnits}
+use Rattle.vrf_text.specs.declared.Found.{Found}
+use Rattle.vrf_text.specs.declared.Found.the-variants.{Bytes as InBytes, Units as InUnits, Refused as NotFound}
+
+-- ---- UTF-8
+
+-- byte j of a number, low byte first
+unfoldable pub byteOf : ℕ → ℕ → ℕ
+byteOf w zero = w % 256
+byteOf w (suc j) = byteOf (w / 256) j
+
+-- the word w holds the first eight bytes of l, low byte first, and 0 past the end of l
+abbrev pub Holds : ℕ → List ℕ → Type 0
+Holds w l = (j : ℕ) → j < 8 → getD l j 0 ≡ byteOf w j
+
+-- l may go on after k bytes, and is valid if what follows is; 0 says that it is not valid
+abbrev pub Passed : List ℕ → ℕ → Type 0
+Passed l zero = utf8 l ≡ false
+Passed l (suc k) = utf8 (drop (suc k) l) ≡ utf8 l
+
+-- a step of r bytes, at most m, by the word of the first eight
+pub record Step (w m r : ℕ) : Type 0 where
+  pub few : r ≤ m
+  pub passed : (l : List ℕ) → Holds w l → Passed l r
+
+-- whether b may follow the lead byte a
+unfoldable pub follows : ℕ → ℕ → Bool
+follows a b = elim (lead a) [ asks n lo hi ↦ within lo hi b | bad ↦ false ]
+
+-- ---- UTF-16
+
+-- the n units at bit p of a slice
+abbrev pub unitsOf : List ℕ → ℕ → ℕ → List ℕ
+unitsOf s p n = units (bytesOf s p (2 * n))
+
+-- the word w holds the first two units of ws, and 0 past its end
+pub record Holds16 (w : ℕ) (ws : List ℕ) : Type 0 where
+  pub any : 0 < length ws
+  pub first : getD ws 0 0 ≡ w % 0x10000
+  pub second : getD ws 1 0 ≡ w / 0x10000 % 0x10000
+
+-- the character u takes k units of ws; 0 says that none begins there
+abbrev pub Taken : List ℕ → ℕ → ℕ → Type 0
+Taken ws u zero = utf16 ws ≡ none
+Taken ws u (suc k) = utf16 ws ≡ before u (utf16 (drop (suc k) ws))
+
+-- a step of k units by the word of the first two
+pub record Step16 (w u k : ℕ) : Type 0 where
+  pub few : k ≤ 2
+  pub scalar : u < 0x110000
+  pub taken : (ws : List ℕ) → Holds16 w ws → Taken ws u k
+
+-- a text of n bytes, or none
+abbrev pub MeasuredAnswer : Option (List ℕ) → Measured → Type 0
+MeasuredAnswer o (Bytes n) = (t : List ℕ) × ((o ≡ some t) × (n ≡ length t))
+MeasuredAnswer o Bad = o ≡ none
+
+-- a text for which m bytes are room
+pub record Room (o : Option (List ℕ)) (m : ℕ) : Type 0 where
+  pub text : List ℕ
+  pub is : o ≡ some text
+  pub fits : length text ≤ m
+
+-- a text that stands in the first bytes of what was lent
+pub record Wrote (o : Option (List ℕ)) (was now : List ℕ) : Type 0 where
+  pub text : List ℕ
+  pub is : o ≡ some text
+  pub wrote : now ≡ pasted was 0 text
+
+-- ---- a text on the wire
+
+-- a text's length word: no text, bytes of UTF-8, or units of UTF-16
+abbrev pub LengthOf : ℤ → Length → Type 0
+LengthOf z Empty = z ≡ pos 0
+LengthOf z (OfBytes n) = (z ≡ pos n) × (0 < n)
+LengthOf z (OfUnits n) = (z ≡ negsuc (n - 1)) × (0 < n)
+
+-- the bit of the slice at which a cursor stands
+abbrev pub bitAt : Cursor → ℕ
+bitAt c = c .first + c .pos
+
+-- a text that is where it stands, not yet copied: n bytes of UTF-8, or n units of UTF-16 that have len bytes as UTF-8
+abbrev pub FoundAnswer : List ℕ → Cursor → Read (List ℕ) → Found → Type 0
+FoundAnswer s c x (InBytes from n d) = Gave s c x (bytesOf s (bitAt from) n) d × ((n ≤ 4096) × (8 * n ≤ from .count - from .pos))
+FoundAnswer s c x (InUnits from n len d) =
+    (v : List ℕ) × (Gave s c x v d × ((unitsToUtf8 (unitsOf s (bitAt from) n) ≡ some v) × ((len ≡ length v) × ((len ≤ 4096) × (n ≤ 2 ^ 19)))))
+FoundAnswer s c x (NotFound r) = Refuses x r

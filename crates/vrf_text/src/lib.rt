@@ -1,0 +1,574 @@
+// Text: UTF-8, UTF-16 and document 01's text on the wire.
+use vrf_bitio::Copied;
+use vrf_bitio::Cursor;
+use vrf_bitio::Int;
+use vrf_bitio::Refusal;
+ghost use mathlib.Core.Path.{_≡_};
+ghost use mathlib.Core.Bool.{true, cond, _||_};
+ghost use mathlib.Core.List.{List};
+ghost use mathlib.Core.Option.{some};
+ghost use Prim.Native.Nat.{ℕ, _+_, _-_, _*_, _<_, _≤_, _^_, _/_};
+ghost use lib.Dec.{ltb, eqb};
+ghost use lib.ListN.{length, drop};
+ghost use Rattle.vrf_bitio.specs.Bits.{bytesOf};
+ghost use Rattle.vrf_bitio.specs.Pasted.{pasted};
+ghost use Rattle.vrf_bitio.specs.Answers.{readAt};
+ghost use Rattle.vrf_text.specs.Utf8.{utf8, within};
+ghost use Rattle.vrf_text.specs.Utf16.{utf8Of, unitsToUtf8};
+ghost use Rattle.vrf_text.specs.Steps.{
+  Step,
+  Holds,
+  Passed,
+  follows,
+  Step16,
+  Holds16,
+  unitsOf,
+  MeasuredAnswer,
+  Room,
+  Wrote,
+  LengthOf,
+  bitAt,
+  FoundAnswer,
+};
+ghost use Rattle.vrf_text.specs.Text.{text8, text16, fstring, roomFor, fstringInto, callerText};
+ghost use Rattle.vrf_text.specs.Answers.{TextAnswer, CallerAnswer};
+
+// The numbers of document 01's table that reading or taking a text can give, besides those of the bit reader.
+pub const TEXT_LENGTH: u32 = 13;
+
+pub const BAD_TEXT: u32 = 14;
+
+pub const NOT_UTF8: u32 = 40;
+
+pub const TEXT_TOO_LONG: u32 = 41;
+
+// A text on the wire has at most this many bytes there, and as UTF-8 any text has at most these.
+const WIRE_BYTES: u64 = 1_048_576;
+
+const TEXT_BYTES: u32 = 4_096;
+
+// The top bit of each byte of a word.
+const HIGH: u64 = 0x8080_8080_8080_8080;
+
+// Whether b is from lo to hi.
+fn within(b: u64, lo: u64, hi: u64) -> bool
+    ensures { λ r. ⌜ r ≡ within lo hi b ⌝ }
+{
+    lo <= b && b <= hi
+}
+
+// Whether b may follow a, which leads a character of three or four bytes.
+fn follows(a: u64, b: u64) -> bool
+    requires { ⌜ (0xE0 ≤ a) × (a ≤ 0xF4) ⌝ }
+    ensures { λ r. ⌜ r ≡ follows a b ⌝ }
+{
+    if a == 0xE0 {
+        return within(b, 0xA0, 0xBF);
+    }
+    if a == 0xED {
+        return within(b, 0x80, 0x9F);
+    }
+    if a == 0xF0 {
+        return within(b, 0x90, 0xBF);
+    }
+    if a == 0xF4 {
+        return within(b, 0x80, 0x8F);
+    }
+    within(b, 0x80, 0xBF)
+}
+
+// How many bytes the character has that begins the word w, or 0 where none does.
+fn char_len(w: u64) -> usize
+    ensures { λ r. ⌜ Step w 4 r ⌝ }
+{
+    let a = w % 256;
+    if a < 0x80 {
+        return 1;
+    }
+    if a < 0xC2 {
+        return 0;
+    }
+    if 0xF4 < a {
+        return 0;
+    }
+    let second = w / 256;
+    let b = second % 256;
+    if a < 0xE0 {
+        return if within(b, 0x80, 0xBF) { 2 } else { 0 };
+    }
+    if !follows(a, b) {
+        return 0;
+    }
+    let third = second / 256;
+    if !within(third % 256, 0x80, 0xBF) {
+        return 0;
+    }
+    if a < 0xF0 {
+        return 3;
+    }
+    if within(third / 256 % 256, 0x80, 0xBF) {
+        4
+    } else {
+        0
+    }
+}
+
+// How many bytes may be passed where the word w holds the next eight: all of them where they are ASCII.
+fn step(w: u64) -> usize
+    ensures { λ r. ⌜ Step w 8 r ⌝ }
+{
+    if w & HIGH == 0 { 8 } else { char_len(w) }
+}
+
+// Whether the bytes 8 to 31 of s are ASCII, by one test.
+fn ascii_24(s: &[u8]) -> bool
+    ensures { λ r. ⌜ (r ≡ true → utf8 (drop 32 (now (s .entry))) ≡ utf8 (drop 8 (now (s .entry)))) ⌝ }
+{
+    let a = vrf_bitio::bits_at(s, 64, 64) & HIGH;
+    let b = vrf_bitio::bits_at(s, 128, 64) & HIGH;
+    let c = vrf_bitio::bits_at(s, 192, 64) & HIGH;
+    a | b | c == 0
+}
+
+// How many bytes of s may be passed at its start.
+fn step_in(s: &[u8]) -> usize
+    ensures { λ r. ⌜ (r ≤ 32) × Passed (now (s .entry)) r ⌝ }
+{
+    let k = step(vrf_bitio::bits_at(s, 0, 64));
+    if k == 8 && 32 <= s.len() && ascii_24(s) {
+        32
+    } else {
+        k
+    }
+}
+
+// Whether t is UTF-8.
+pub fn is_utf8(t: &[u8]) -> bool
+    ensures { λ r. ⌜ r ≡ utf8 (now (t .entry)) ⌝ }
+{
+    let mut i = 0;
+    while i < t.len() {
+        let k = step_in(&t[i..]);
+        if k == 0 {
+            return false;
+        }
+        i += k;
+    }
+    true
+}
+
+// The word of the next eight of the n bytes from bit p of s on.
+fn word_at(s: &[u8], p: u64, n: usize) -> u64
+    ensures { λ r. ⌜ Holds r (bytesOf (now (s .entry)) p n) ⌝ }
+{
+    if n < 8 {
+        vrf_bitio::bits_at(s, p, 8 * (n as u32))
+    } else {
+        vrf_bitio::bits_at(s, p, 64)
+    }
+}
+
+// Whether the n bytes from bit p of s on are UTF-8, by the steps of `is_utf8`.
+// A bit of a slice of any length has no number of 64 bits, so `is_utf8` is not this loop at bit 0; nor would it be as fast, since
+// here each word is put together from two.
+fn utf8_bits(s: &[u8], p: u64, n: usize) -> bool
+    requires { ⌜ p + 8 * n < 2 ^ 64 ⌝ }
+    ensures { λ r. ⌜ r ≡ utf8 (bytesOf (now (s .entry)) p n) ⌝ }
+{
+    let mut i: usize = 0;
+    while i < n {
+        let k = step(word_at(s, p + 8 * (i as u64), n - i));
+        if k == 0 {
+            return false;
+        }
+        i += k;
+    }
+    true
+}
+
+// The same. Bytes of the slice itself are tested where they stand.
+fn utf8_at(s: &[u8], p: u64, n: usize) -> bool
+    requires { ⌜ p + 8 * n < 2 ^ 64 ⌝ }
+    ensures { λ r. ⌜ r ≡ utf8 (bytesOf (now (s .entry)) p n) ⌝ }
+{
+    let a = (p / 8) as usize;
+    let e = a + n;
+    if p % 8 != 0 {
+        return utf8_bits(s, p, n);
+    }
+    if s.len() < e {
+        return utf8_bits(s, p, n);
+    }
+    is_utf8(&s[a..e])
+}
+
+// A character, and how many units of UTF-16 it takes: 0 where there is none.
+struct Char {
+    code: u32,
+    units: usize,
+}
+
+// The character that begins the word w of two units.
+fn char16(w: u64) -> Char
+    ensures { λ r. ⌜ Step16 w (r .code) (r .units) ⌝ }
+{
+    let a = w % 0x1_0000;
+    let b = w / 0x1_0000 % 0x1_0000;
+    if a < 0xD800 {
+        return Char {
+            code: a as u32,
+            units: 1,
+        };
+    }
+    if 0xDFFF < a {
+        return Char {
+            code: a as u32,
+            units: 1,
+        };
+    }
+    if 0xDBFF < a {
+        return Char { code: 0, units: 0 };
+    }
+    if b < 0xDC00 {
+        return Char { code: 0, units: 0 };
+    }
+    if 0xDFFF < b {
+        return Char { code: 0, units: 0 };
+    }
+    Char {
+        code: (0x1_0000 + (a % 0x400 * 0x400 + b % 0x400)) as u32,
+        units: 2,
+    }
+}
+
+// The word of the next two of the n units from bit p of s on.
+fn units_at(s: &[u8], p: u64, n: usize) -> u64
+    requires { ⌜ 0 < n ⌝ }
+    ensures { λ r. ⌜ Holds16 r (unitsOf (now (s .entry)) p n) ⌝ }
+{
+    if n == 1 {
+        vrf_bitio::bits_at(s, p, 16)
+    } else {
+        vrf_bitio::bits_at(s, p, 32)
+    }
+}
+
+// How many bytes of UTF-8 a character takes.
+fn utf8_len(u: u32) -> u32
+    ensures { λ r. ⌜ (r ≡ length (utf8Of u)) × (r ≤ 4) ⌝ }
+{
+    if u < 0x80 {
+        1
+    } else if u < 0x800 {
+        2
+    } else if u < 0x1_0000 {
+        3
+    } else {
+        4
+    }
+}
+
+// What a pass over units finds: the bytes of their UTF-8.
+enum Measured {
+    Bytes(u32),
+    Bad,
+}
+
+// The length as UTF-8 of the n units from bit p of s on.
+fn utf16_length(s: &[u8], p: u64, n: usize) -> Measured
+    requires { ⌜ (p < 2 ^ 33) × (n ≤ 2 ^ 19) ⌝ }
+    ensures { λ r. ⌜ MeasuredAnswer (unitsToUtf8 (unitsOf (now (s .entry)) p n)) r ⌝ }
+{
+    let mut i: usize = 0;
+    let mut len: u32 = 0;
+    while i < n {
+        let c = char16(units_at(s, p + 16 * (i as u64), n - i));
+        let k = c.units;
+        if k == 0 {
+            return Measured::Bad;
+        }
+        len += utf8_len(c.code);
+        i += k;
+    }
+    Measured::Bytes(len)
+}
+
+// Writes a character as UTF-8 from place at of out on, and answers the place after it.
+fn put_char(out: &mut [u8], at: usize, u: u32) -> usize
+    requires { ⌜ (u < 0x110000) × (at + length (utf8Of u) ≤ length (now out)) ⌝ }
+    ensures { λ r. ⌜ (r ≡ at + length (utf8Of u)) × (now (out .exit) ≡ pasted (now (out .entry)) at (utf8Of u)) ⌝ }
+{
+    if u < 0x80 {
+        out[at] = u as u8;
+        return at + 1;
+    }
+    if u < 0x800 {
+        out[at] = (0xC0 + u / 64) as u8;
+        out[at + 1] = (0x80 + u % 64) as u8;
+        return at + 2;
+    }
+    if u < 0x1_0000 {
+        out[at] = (0xE0 + u / 4096) as u8;
+        out[at + 1] = (0x80 + u / 64 % 64) as u8;
+        out[at + 2] = (0x80 + u % 64) as u8;
+        return at + 3;
+    }
+    out[at] = (0xF0 + u / 262144) as u8;
+    out[at + 1] = (0x80 + u / 4096 % 64) as u8;
+    out[at + 2] = (0x80 + u / 64 % 64) as u8;
+    out[at + 3] = (0x80 + u % 64) as u8;
+    at + 4
+}
+
+// Writes the UTF-8 of the n units from bit p of s on into the first bytes of out.
+fn put_units(s: &[u8], p: u64, n: usize, out: &mut [u8])
+    requires { ⌜ (p < 2 ^ 33) × (n ≤ 2 ^ 19) × Room (unitsToUtf8 (unitsOf (now s) p n)) (length (now out)) ⌝ }
+    ensures { λ r. ⌜ Wrote (unitsToUtf8 (unitsOf (now (s .entry)) p n)) (now (out .entry)) (now (out .exit)) ⌝ }
+{
+    let mut i: usize = 0;
+    let mut at: usize = 0;
+    while i < n {
+        let c = char16(units_at(s, p + 16 * (i as u64), n - i));
+        at = put_char(out, at, c.code);
+        i += c.units;
+    }
+}
+
+// What a text's length word says.
+enum Length {
+    Empty,
+    Bytes(u32),
+    Units(u32),
+}
+
+// A number below 0 is negated, the lowest too.
+fn length_of(n: i32) -> Length
+    ensures { λ r. ⌜ LengthOf n r ⌝ }
+{
+    if n < 0 {
+        return Length::Units(((-1 - n) as u32) + 1);
+    }
+    if n == 0 {
+        return Length::Empty;
+    }
+    Length::Bytes(n as u32)
+}
+
+// A text where it stands: its first bit's cursor, its bytes or units, as UTF-8 bytes, and the cursor behind it.
+enum Found {
+    Bytes(Cursor, u32, Cursor),
+    Units(Cursor, u32, u32, Cursor),
+    Refused(Refusal),
+}
+
+// Whether n bytes are more than a text may have, or more than are left.
+fn too_long(c: Cursor, n: u64) -> bool
+    ensures { λ r. ⌜ r ≡ (ltb 1048576 n || ltb ((c .count - c .pos) / 8) n) ⌝ }
+{
+    let pos = c.pos;
+    let count = c.count;
+    if WIRE_BYTES < n {
+        return true;
+    }
+    if count < pos {
+        return 0 < n;
+    }
+    (((count - pos) / 8) as u64) < n
+}
+
+// How many of n bytes or units are left where the last of them is dropped if it is 0.
+fn trimmed(last: u64, n: u32) -> u32
+    requires { ⌜ 0 < n ⌝ }
+    ensures { λ r. ⌜ (r ≡ cond (eqb last 0) (n - 1) n) × (r ≤ n) ⌝ }
+{
+    if last == 0 { n - 1 } else { n }
+}
+
+// The n bytes of UTF-8 at a cursor, of the text whose length word stands at start.
+fn find_bytes(s: &[u8], c: Cursor, start: u32, n: u32) -> Found
+    requires { ⌜ 0 < n ⌝ }
+    ensures { λ r. ⌜ FoundAnswer (now (s .entry)) c (readAt (now (s .entry)) c (text8 start n n)) r ⌝ }
+{
+    let first = c.first;
+    let count = c.count;
+    let pos = c.pos;
+    if too_long(c, n as u64) {
+        return Found::Refused(Refusal {
+            number: TEXT_LENGTH,
+            a: start as u64,
+            b: n as u64,
+        });
+    }
+    let p = (first as u64) + (pos as u64);
+    let k = trimmed(vrf_bitio::bits_at(s, p + 8 * ((n - 1) as u64), 8), n);
+    if !utf8_at(s, p, k as usize) {
+        return Found::Refused(Refusal {
+            number: BAD_TEXT,
+            a: start as u64,
+            b: 0,
+        });
+    }
+    if TEXT_BYTES < k {
+        return Found::Refused(Refusal {
+            number: TEXT_TOO_LONG,
+            a: k as u64,
+            b: 0,
+        });
+    }
+    Found::Bytes(
+        c,
+        k,
+        Cursor {
+            first,
+            count,
+            pos: pos + 8 * n,
+        },
+    )
+}
+
+// The n units of UTF-16 at a cursor, of the text whose length word stands at start.
+fn find_units(s: &[u8], c: Cursor, start: u32, n: u32) -> Found
+    requires { ⌜ (0 < n) × (n ≤ 2 ^ 31) ⌝ }
+    ensures { λ r. ⌜ FoundAnswer (now (s .entry)) c (readAt (now (s .entry)) c (text16 start (2 ^ 32 - n) n)) r ⌝ }
+{
+    let first = c.first;
+    let count = c.count;
+    let pos = c.pos;
+    if too_long(c, 2 * (n as u64)) {
+        return Found::Refused(Refusal {
+            number: TEXT_LENGTH,
+            a: start as u64,
+            b: 0x1_0000_0000 - (n as u64),
+        });
+    }
+    let p = (first as u64) + (pos as u64);
+    let k = trimmed(vrf_bitio::bits_at(s, p + 16 * ((n - 1) as u64), 16), n);
+    match utf16_length(s, p, k as usize) {
+        Measured::Bad => Found::Refused(Refusal {
+            number: BAD_TEXT,
+            a: start as u64,
+            b: 0,
+        }),
+        Measured::Bytes(len) => {
+            if TEXT_BYTES < len {
+                return Found::Refused(Refusal {
+                    number: TEXT_TOO_LONG,
+                    a: len as u64,
+                    b: 0,
+                });
+            }
+            Found::Units(
+                c,
+                k,
+                len,
+                Cursor {
+                    first,
+                    count,
+                    pos: pos + 16 * n,
+                },
+            )
+        }
+    }
+}
+
+// The text at a cursor, tested where it stands.
+fn find_text(s: &[u8], c: Cursor) -> Found
+    ensures { λ r. ⌜ FoundAnswer (now (s .entry)) c (readAt (now (s .entry)) c fstring) r ⌝ }
+{
+    let start = c.pos;
+    match c.read_i32(s) {
+        Int::Refused(r) => Found::Refused(r),
+        Int::Value(n, at) => match length_of(n) {
+            Length::Empty => Found::Bytes(at, 0, at),
+            Length::Bytes(k) => find_bytes(s, at, start, k),
+            Length::Units(k) => find_units(s, at, start, k),
+        },
+    }
+}
+
+pub enum Text {
+    Read(u32, Cursor),
+    Refused(Refusal),
+}
+
+// The refusal of a text of n bytes for which out is short.
+fn no_room(n: u32, room: usize) -> Refusal
+    requires { ⌜ room < n ⌝ }
+    ensures { λ r. ⌜ (r .number ≡ 15) × (r .a ≡ 8 * n) × (r .b ≡ 8 * room) ⌝ }
+{
+    Refusal {
+        number: vrf_bitio::SHORT,
+        a: 8 * (n as u64),
+        b: 8 * (room as u64),
+    }
+}
+
+// Copies the n bytes of UTF-8 at a cursor into the first bytes of out.
+fn take_bytes(s: &[u8], c: Cursor, n: u32, next: Cursor, out: &mut [u8]) -> Text
+    requires { ⌜ (n ≤ 4096) × (8 * n ≤ c .count - c .pos) ⌝ }
+    ensures { λ r. ⌜ TextAnswer (now (s .entry)) next
+        (readAt (now (s .entry)) next (roomFor (length (now (out .entry))) (bytesOf (now (s .entry)) (bitAt c) n)))
+        (now (out .entry)) (now (out .exit)) r ⌝ }
+{
+    let room = out.len();
+    if room < n as usize {
+        return Text::Refused(no_room(n, room));
+    }
+    match c.copy_bits_to(s, out, 8 * (n as u64)) {
+        Copied::Done(_) => Text::Read(n, next),
+        Copied::Refused(r) => Text::Refused(r),
+    }
+}
+
+// Writes the n units of UTF-16 at a cursor, which have len bytes as UTF-8, into the first bytes of out.
+fn take_units(s: &[u8], c: Cursor, n: u32, len: u32, next: Cursor, out: &mut [u8]) -> Text
+    requires { ⌜ (n ≤ 2 ^ 19) × MeasuredAnswer (unitsToUtf8 (unitsOf (now s) (bitAt c) n)) (Measured.Bytes len) ⌝ }
+    ensures { λ r. ⌜ ((v : List ℕ) → unitsToUtf8 (unitsOf (now (s .entry)) (bitAt c) n) ≡ some v → TextAnswer (now (s .entry)) next
+        (readAt (now (s .entry)) next (roomFor (length (now (out .entry))) v)) (now (out .entry)) (now (out .exit)) r) ⌝ }
+{
+    let room = out.len();
+    if room < len as usize {
+        return Text::Refused(no_room(len, room));
+    }
+    put_units(s, (c.first as u64) + (c.pos as u64), n as usize, out);
+    Text::Read(len, next)
+}
+
+// Reads a text into the first bytes of out: its length there, and the cursor behind it.
+pub fn read_fstring(s: &[u8], c: Cursor, out: &mut [u8]) -> Text
+    ensures { λ r. ⌜ TextAnswer (now (s .entry)) c (readAt (now (s .entry)) c (fstringInto (length (now (out .entry)))))
+        (now (out .entry)) (now (out .exit)) r ⌝ }
+{
+    match find_text(s, c) {
+        Found::Refused(r) => Text::Refused(r),
+        Found::Bytes(at, n, next) => take_bytes(s, at, n, next, out),
+        Found::Units(at, n, len, next) => take_units(s, at, n, len, next, out),
+    }
+}
+
+pub enum Caller {
+    Accepted,
+    Refused(Refusal),
+}
+
+// A text that a caller hands in: 40 not UTF-8, then 41 more bytes than a text may have.
+pub fn check_text(t: &[u8]) -> Caller
+    ensures { λ r. ⌜ CallerAnswer (callerText (now (t .entry))) r ⌝ }
+{
+    let n = t.len();
+    if !is_utf8(t) {
+        return Caller::Refused(Refusal {
+            number: NOT_UTF8,
+            a: 0,
+            b: 0,
+        });
+    }
+    if (TEXT_BYTES as usize) < n {
+        return Caller::Refused(Refusal {
+            number: TEXT_TOO_LONG,
+            a: n as u64,
+            b: 0,
+        });
+    }
+    Caller::Accepted
+}
