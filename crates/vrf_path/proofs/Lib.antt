@@ -2,5 +2,3 @@
 pub mod Texts
 pub mod Keys
 pub mod Stems
-pub mod Names
-pub mod Signed

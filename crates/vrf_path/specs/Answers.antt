@@ -9,7 +9,6 @@ use Rattle.vrf_path.specs.Keys.{defaultPrefix, charactersCore}
 use Rattle.vrf_path.specs.Leaf.{leaf}
 use Rattle.vrf_path.specs.Toggle.{classNetCache, toggle}
 use Rattle.vrf_path.specs.Stems.{cutsBelow, digitsFrom, digitStems, capitalStems}
-use Rattle.vrf_path.specs.Names.{decimal}
 use Rattle.vrf_path.specs.declared.Found.{Found}
 use Rattle.vrf_path.specs.declared.Found.the-variants.{At as FoundAt, Nowhere}
 use Rattle.vrf_path.specs.declared.Key.{Key}
@@ -22,10 +21,6 @@ use Rattle.vrf_path.specs.declared.Phase.{Phase}
 use Rattle.vrf_path.specs.declared.Phase.the-variants.{Underscore, Digits, Capital}
 use Rattle.vrf_path.specs.declared.Stem.{Stem}
 use Rattle.vrf_path.specs.declared.Stem.the-variants.{At as StemAt, End}
-use Rattle.vrf_path.specs.declared.Suffix.{Suffix}
-use Rattle.vrf_path.specs.declared.Suffix.the-variants.{Empty, Plain, Minus}
-use Rattle.vrf_path.specs.declared.Rendered.{Rendered}
-use Rattle.vrf_path.specs.declared.Rendered.the-variants.{Length, TooLong, Short}
 
 -- a place, if there is one
 abbrev pub place : Found → Option ℕ
@@ -85,16 +80,3 @@ stemLength End = 0
 pub record StemAnswer (name : List ℕ) (l : List (List ℕ)) (s : Stem) : Type 0 where
   pub stems : l ≡ stemsFrom name s
   pub within : stemLength s ≤ length name
-
--- what a number adds to a name
-abbrev pub suffixText : Suffix → List ℕ
-suffixText Empty = []
-suffixText (Plain n) = 95 ∷ decimal n
-suffixText (Minus n) = 95 ∷ 45 ∷ decimal n
-
--- A rendered text of at most 4,096 bytes stands at the front of the buffer, and behind it what stood there. Where it has more, how many
--- (41), or where the buffer is too short for it, the buffer is as it was.
-abbrev pub RenderedAnswer : List ℕ → List ℕ → List ℕ → Rendered → Type 0
-RenderedAnswer text before after (Length n) = (n ≡ length text) × (n ≤ 4096) × (n ≤ length before) × (after ≡ text ++ drop n before)
-RenderedAnswer text before after (TooLong n) = (n ≡ length text) × (4096 < n) × (after ≡ before)
-RenderedAnswer text before after Short = (length before < length text) × (length text ≤ 4096) × (after ≡ before)

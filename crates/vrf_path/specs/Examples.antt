@@ -2,13 +2,11 @@
 use mathlib.Core.Path.{_≡_, refl}
 use mathlib.Core.List.{[], _∷_, _++_, Option·toList}
 use mathlib.Core.Option.{none, some}
-use lib.IntN.{pos, negsuc}
 use Rattle.vrf_path.specs.Text.{same, startsWith, endsWith, firstFrom, lastBelow, nonEmpty}
 use Rattle.vrf_path.specs.Keys.{defaultPrefix, coreSegment, charactersRoot, charactersCore, isSeparator, hasSeparator, defaultAlias, coreAliasAt, coreAlias, keys}
 use Rattle.vrf_path.specs.Leaf.{leafAfter, leaf}
 use Rattle.vrf_path.specs.Toggle.{classNetCache, toggle}
 use Rattle.vrf_path.specs.Stems.{cutsBelow, isDigit, isCapital, digitsFrom, capitalStems, digitStems, stems}
-use Rattle.vrf_path.specs.Names.{digits, decimal, suffix, rendered}
 
 -- K1 empty path: keys empty, `Default__`
 pub K1 : keys [] ≡ [] ∷ defaultPrefix ∷ []
@@ -19,16 +17,6 @@ K1 = refl
 pub K2 : keys (47 ∷ 120 ∷ 47 ∷ 95 ∷ 67 ∷ 111 ∷ 114 ∷ 101 ∷ 47 ∷ 121 ∷ []) ≡ (47 ∷ 120 ∷ 47 ∷ 95 ∷ 67 ∷ 111 ∷ 114 ∷ 101 ∷ 47 ∷ 121 ∷ []) ∷ (47 ∷ 120 ∷ 47 ∷ 121 ∷ []) ∷ []
 unfolding keys Option·toList defaultAlias coreAlias coreAliasAt startsWith same firstFrom hasSeparator isSeparator defaultPrefix coreSegment
 K2 = refl
-
--- N1 Foo with 4 is Foo_3; with -3, Foo_-3
-pub N1 : (rendered (70 ∷ 111 ∷ 111 ∷ []) (pos 4) ≡ 70 ∷ 111 ∷ 111 ∷ 95 ∷ 51 ∷ []) × (rendered (70 ∷ 111 ∷ 111 ∷ []) (negsuc 2) ≡ 70 ∷ 111 ∷ 111 ∷ 95 ∷ 45 ∷ 51 ∷ [])
-unfolding rendered suffix decimal digits
-N1 = (refl, refl)
-
--- the lowest number of 32 bits keeps its minus sign: `_-2147483648`
-pub lowest : suffix (negsuc 2147483647) ≡ 95 ∷ 45 ∷ 50 ∷ 49 ∷ 52 ∷ 55 ∷ 52 ∷ 56 ∷ 51 ∷ 54 ∷ 52 ∷ 56 ∷ []
-unfolding suffix decimal digits
-lowest = refl
 
 -- `/Game/Characters/x`: itself, `/Game/Characters/_Core/x`
 pub inserted : keys (charactersRoot ++ (120 ∷ [])) ≡ (charactersRoot ++ (120 ∷ [])) ∷ (charactersCore ++ (120 ∷ [])) ∷ []

@@ -1,10 +1,9 @@
--- Document 01, section Keys and the names of section Text, as definitions. Read them in this order.
+-- Document 01, section Keys, as definitions. Read them in this order.
 pub mod Text
 pub mod Keys
 pub mod Leaf
 pub mod Toggle
 pub mod Stems
-pub mod Names
 pub mod Answers
 pub mod Examples
 pub mod TextLaws
@@ -12,5 +11,4 @@ pub mod KeysLaws
 pub mod LeafLaws
 pub mod ToggleLaws
 pub mod StemsLaws
-pub mod NamesLaws
 pub mod AnswersLaws

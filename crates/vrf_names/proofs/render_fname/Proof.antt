@@ -1,12 +1,12 @@
--- `vrf_path::render_fname` meets its contract.
+-- `vrf_names::render_fname` meets its contract.
 use mathlib.Core.Path.{refl}
 use native.Mathlib.Omega.{arith}
 use denote.Ref.{now}
 use borrow.Author.Needs.{needs}
-use Rattle.vrf_path.proofs.Names.{rendered-length, put-rendered}
-use Rattle.vrf_path.proofs.Signed.{as-passed}
-use Rattle.vrf_path.proofs.render_fname.Statement.{statement}
-use Rattle.vrf_path.proofs.render_fname.Tie as tie
+use Rattle.vrf_names.proofs.Names.{rendered-length, put-rendered}
+use Rattle.vrf_names.proofs.Signed.{as-passed}
+use Rattle.vrf_names.proofs.render_fname.Statement.{statement}
+use Rattle.vrf_names.proofs.render_fname.Tie as tie
 
 suffix-of-requires : tie.Need-suffix-of-requires
 suffix-of-requires c κs = search needs

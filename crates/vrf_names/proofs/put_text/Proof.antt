@@ -1,13 +1,13 @@
--- `vrf_path::put_text` meets its contract: what is left of the text, put in from place i on, gives what the whole text gives.
+-- `vrf_names::put_text` meets its contract: what is left of the text, put in from place i on, gives what the whole text gives.
 use mathlib.Core.Path.{_≡_, refl, sym, _∙_}
 use Prim.Native.Nat.{_≤_, _+_, _-_}
 use native.Mathlib.Omega.{arith}
 use denote.Ref.{now}
 use lib.ListN.{length, drop, length-set}
 use Rattle.vrf_bitio.specs.Pasted.{pasted}
-use Rattle.vrf_path.proofs.Names.{text-begun, text-next, text-ended}
-use Rattle.vrf_path.proofs.put_text.Statement.{statement}
-use Rattle.vrf_path.proofs.put_text.Tie as tie
+use Rattle.vrf_names.proofs.Names.{text-begun, text-next, text-ended}
+use Rattle.vrf_names.proofs.put_text.Statement.{statement}
+use Rattle.vrf_names.proofs.put_text.Tie as tie
 
 abbrev Inv-loop : tie.InvT-loop
 Inv-loop text out₀ at i₀ out i = (i ≤ length text) × (length out ≡ length out₀) × (pasted out₀ at text ≡ pasted out (at + i) (drop i text))

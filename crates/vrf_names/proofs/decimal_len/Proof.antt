@@ -1,12 +1,12 @@
--- `vrf_path::decimal_len` meets its contract: the digits counted and those of the rest are those of the number, and one more.
+-- `vrf_names::decimal_len` meets its contract: the digits counted and those of the rest are those of the number, and one more.
 use mathlib.Core.Path.{_≡_}
 use Prim.Native.Nat.{_≤_, _+_}
 use native.Mathlib.Omega.{arith}
 use lib.ListN.{length}
-use Rattle.vrf_path.specs.Names.{decimal}
-use Rattle.vrf_path.specs.NamesLaws.{decimal-one, more-length, decimal-some, decimal-length}
-use Rattle.vrf_path.proofs.decimal_len.Statement.{statement}
-use Rattle.vrf_path.proofs.decimal_len.Tie as tie
+use Rattle.vrf_names.specs.Names.{decimal}
+use Rattle.vrf_names.specs.NamesLaws.{decimal-one, more-length, decimal-some, decimal-length}
+use Rattle.vrf_names.proofs.decimal_len.Statement.{statement}
+use Rattle.vrf_names.proofs.decimal_len.Tie as tie
 
 abbrev Inv-loop : tie.InvT-loop
 Inv-loop n rest₀ len₀ rest len = (rest ≤ n) × (length (decimal n) + 1 ≡ len + length (decimal rest))

@@ -8,7 +8,7 @@ use native.Mathlib.Omega.{arith}
 use borrow.Author.Tests.{lt-ltb, le-ltb, ltb-true, ltb-false}
 use lib.Dec.{ltb}
 use lib.ListN.{length, length-append}
-use Rattle.vrf_path.specs.Names.{digits, decimal}
+use Rattle.vrf_names.specs.Names.{digits, decimal}
 
 -- any bound above the number gives the same digits
 digits-enough : (a b n : ℕ) → n < a → n < b → digits a n ≡ digits b n

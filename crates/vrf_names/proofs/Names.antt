@@ -9,12 +9,12 @@ use lib.IntN.{ℤ}
 use lib.ListN.{length, getD, drop, set, drop-of-length-le, length-append, length-set}
 use lib.Seq.{drop-cons}
 use Rattle.vrf_bitio.specs.Pasted.{pasted}
-use Rattle.vrf_path.specs.Names.{decimal, suffix, rendered}
-use Rattle.vrf_path.specs.Answers.{suffixText}
-use Rattle.vrf_path.specs.NamesLaws.{decimal-one, decimal-more, more-length}
+use Rattle.vrf_names.specs.Names.{decimal, suffix, rendered}
+use Rattle.vrf_names.specs.Answers.{suffixText}
+use Rattle.vrf_names.specs.NamesLaws.{decimal-one, decimal-more, more-length}
 use Rattle.vrf_bitio.specs.PastedLaws.{pasted-nil, pasted-cons, pasted-snoc, pasted-append, pasted-front}
-use Rattle.vrf_path.specs.declared.Suffix.{Suffix}
-use Rattle.vrf_path.specs.declared.Suffix.the-variants.{Empty, Plain, Minus}
+use Rattle.vrf_names.specs.declared.Suffix.{Suffix}
+use Rattle.vrf_names.specs.declared.Suffix.the-variants.{Empty, Plain, Minus}
 
 -- a text put into a buffer: what is left of it, from place i on
 module _ (text out : List ℕ) (at i : ℕ) where

@@ -1,12 +1,12 @@
--- `vrf_path::put_suffix` meets its contract.
+-- `vrf_names::put_suffix` meets its contract.
 use mathlib.Core.Path.{_∙_}
 use native.Mathlib.Omega.{arith}
 use denote.Ref.{now}
 use borrow.Author.Needs.{needs}
 use lib.ListN.{length-set}
-use Rattle.vrf_path.proofs.Names.{plain-room, minus-room, put-empty, put-plain, put-minus}
-use Rattle.vrf_path.proofs.put_suffix.Statement.{statement}
-use Rattle.vrf_path.proofs.put_suffix.Tie as tie
+use Rattle.vrf_names.proofs.Names.{plain-room, minus-room, put-empty, put-plain, put-minus}
+use Rattle.vrf_names.proofs.put_suffix.Statement.{statement}
+use Rattle.vrf_names.proofs.put_suffix.Tie as tie
 
 enum-told : tie.Need-enum-told
 enum-told c = search needs

@@ -1,14 +1,14 @@
--- `vrf_path::put_decimal` meets its contract: what is left of the number, put in at its place, gives what the whole number gives.
+-- `vrf_names::put_decimal` meets its contract: what is left of the number, put in at its place, gives what the whole number gives.
 use mathlib.Core.Path.{_≡_, refl, sym, _∙_}
 use Prim.Native.Nat.{_<_, _+_, _/_}
 use native.Mathlib.Omega.{arith}
 use lib.ListN.{length, length-set}
 use Rattle.vrf_bitio.specs.Pasted.{pasted}
-use Rattle.vrf_path.specs.Names.{decimal}
-use Rattle.vrf_path.specs.NamesLaws.{more-length, decimal-some}
-use Rattle.vrf_path.proofs.Names.{digit-next, digit-last}
-use Rattle.vrf_path.proofs.put_decimal.Statement.{statement}
-use Rattle.vrf_path.proofs.put_decimal.Tie as tie
+use Rattle.vrf_names.specs.Names.{decimal}
+use Rattle.vrf_names.specs.NamesLaws.{more-length, decimal-some}
+use Rattle.vrf_names.proofs.Names.{digit-next, digit-last}
+use Rattle.vrf_names.proofs.put_decimal.Statement.{statement}
+use Rattle.vrf_names.proofs.put_decimal.Tie as tie
 
 abbrev Inv-loop : tie.InvT-loop
 Inv-loop n out₀ at rest₀ end₀ out rest end = (length out ≡ length out₀) × (end < length out) × (end + 1 ≡ at + length (decimal rest)) × (pasted out₀ at (decimal n) ≡ pasted out at (decimal rest))

@@ -1,11 +1,11 @@
--- `vrf_path::render_index` meets its contract.
+-- `vrf_names::render_index` meets its contract.
 use native.Mathlib.Omega.{arith}
 use denote.Ref.{now}
 use borrow.Author.Needs.{needs}
-use Rattle.vrf_path.specs.Names.{decimal}
-use Rattle.vrf_path.proofs.Names.{put-front}
-use Rattle.vrf_path.proofs.render_index.Statement.{statement}
-use Rattle.vrf_path.proofs.render_index.Tie as tie
+use Rattle.vrf_names.specs.Names.{decimal}
+use Rattle.vrf_names.proofs.Names.{put-front}
+use Rattle.vrf_names.proofs.render_index.Statement.{statement}
+use Rattle.vrf_names.proofs.render_index.Tie as tie
 
 decimal-len-requires : tie.Need-decimal-len-requires
 decimal-len-requires c κs = search needs

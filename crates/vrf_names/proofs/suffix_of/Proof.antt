@@ -1,8 +1,8 @@
--- `vrf_path::suffix_of` meets its contract.
-use Rattle.vrf_path.specs.Names.{suffix}
-use Rattle.vrf_path.proofs.Signed.{is-zero, is-positive, is-negative, less-fits, less-casts, plain, more-fits, negated-fits, negated-casts, magnitude-fits, minus}
-use Rattle.vrf_path.proofs.suffix_of.Statement.{statement}
-use Rattle.vrf_path.proofs.suffix_of.Tie as tie
+-- `vrf_names::suffix_of` meets its contract.
+use Rattle.vrf_names.specs.Names.{suffix}
+use Rattle.vrf_names.proofs.Signed.{is-zero, is-positive, is-negative, less-fits, less-casts, plain, more-fits, negated-fits, negated-casts, magnitude-fits, minus}
+use Rattle.vrf_names.proofs.suffix_of.Statement.{statement}
+use Rattle.vrf_names.proofs.suffix_of.Tie as tie
 
 returns : tie.Need-returns
 unfolding suffix

@@ -1,8 +1,8 @@
--- `vrf_path::suffix_len` meets its contract.
+-- `vrf_names::suffix_len` meets its contract.
 use native.Mathlib.Omega.{arith}
 use borrow.Author.Needs.{needs}
-use Rattle.vrf_path.proofs.suffix_len.Statement.{statement}
-use Rattle.vrf_path.proofs.suffix_len.Tie as tie
+use Rattle.vrf_names.proofs.suffix_len.Statement.{statement}
+use Rattle.vrf_names.proofs.suffix_len.Tie as tie
 
 enum-told : tie.Need-enum-told
 enum-told c = search needs

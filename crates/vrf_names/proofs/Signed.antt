@@ -12,7 +12,7 @@ use lib.Signed.{ltZ, nonNeg}
 use mir.Facts.{toZ-ofZ}
 use mir.Syntax.{w32}
 use mir.Val.{Fits, SFits, toZ, ofZ}
-use Rattle.vrf_path.specs.Names.{decimal, suffix}
+use Rattle.vrf_names.specs.Names.{decimal, suffix}
 
 -- a signed number goes to a callee by its bits, and is the number again there
 pub as-passed : (z : ℤ) → SFits w32 z → {t : List ℕ} → t ≡ suffix (toZ w32 (ofZ w32 z)) → t ≡ suffix z

@@ -1,0 +1,134 @@
+// Rendered field names of document 01: an index in decimal, or a text with a signed number. Names follow export.rs.
+ghost use mathlib.Core.Path.{_≡_};
+ghost use Prim.Native.Nat.{_+_, _-_, _<_, _≤_};
+ghost use lib.ListN.{length, getD};
+ghost use Rattle.vrf_bitio.specs.Pasted.{pasted};
+ghost use Rattle.vrf_names.specs.Names.{decimal, suffix, rendered};
+ghost use Rattle.vrf_names.specs.Answers.{suffixText, RenderedAnswer};
+
+// What a number adds to a name: nothing, or `_` and a number that may have a minus sign.
+enum Suffix {
+    Empty,
+    Plain(u32),
+    Minus(u32),
+}
+
+// A rendered name's length; that length, where it is above 4,096 bytes (refusal 41); or that the buffer is too short.
+pub enum Rendered {
+    Length(usize),
+    TooLong(usize),
+    Short,
+}
+
+// Writes a text into a buffer, from a place on.
+fn put_text(text: &[u8], out: &mut [u8], at: usize)
+    requires { ⌜ at + length (now text) ≤ length (now out) ⌝ }
+    ensures { λ _. ⌜ now (out .exit) ≡ pasted (now (out .entry)) at (now (text .entry)) ⌝ }
+{
+    let mut i = 0;
+    while i < text.len() {
+        out[at + i] = text[i];
+        i += 1;
+    }
+}
+
+// How many digits a number has.
+fn decimal_len(n: u32) -> usize
+    ensures { λ r. ⌜ (r ≡ length (decimal n)) × (r ≤ 10) ⌝ }
+{
+    let mut rest = n;
+    let mut len: usize = 1;
+    while 10 <= rest {
+        rest /= 10;
+        len += 1;
+    }
+    len
+}
+
+// Writes a number in decimal into a buffer, from a place on, the last digit first.
+fn put_decimal(n: u32, out: &mut [u8], at: usize)
+    requires { ⌜ at + length (decimal n) ≤ length (now out) ⌝ }
+    ensures { λ _. ⌜ now (out .exit) ≡ pasted (now (out .entry)) at (decimal n) ⌝ }
+{
+    let mut rest = n;
+    let mut end = at + decimal_len(n) - 1;
+    while 10 <= rest {
+        out[end] = b'0' + (rest % 10) as u8;
+        rest /= 10;
+        end -= 1;
+    }
+    out[end] = b'0' + rest as u8;
+}
+
+// The number in decimal, at the front of a buffer.
+pub fn render_index(n: u32, out: &mut [u8]) -> Rendered
+    ensures { λ r. ⌜ RenderedAnswer (decimal n) (now (out .entry)) (now (out .exit)) r ⌝ }
+{
+    let len = decimal_len(n);
+    if out.len() < len {
+        return Rendered::Short;
+    }
+    put_decimal(n, out, 0);
+    Rendered::Length(len)
+}
+
+// What a number adds to a name. The lowest number has no positive counterpart, so one is added before it is negated, and after.
+fn suffix_of(number: i32) -> Suffix
+    ensures { λ r. ⌜ suffixText r ≡ suffix number ⌝ }
+{
+    if number == 0 {
+        return Suffix::Empty;
+    }
+    if 0 < number {
+        return Suffix::Plain((number - 1) as u32);
+    }
+    Suffix::Minus((-(number + 1)) as u32 + 1)
+}
+
+// How many bytes that has.
+fn suffix_len(s: Suffix) -> usize
+    ensures { λ r. ⌜ (r ≡ length (suffixText s)) × (r ≤ 12) ⌝ }
+{
+    match s {
+        Suffix::Empty => 0,
+        Suffix::Plain(n) => 1 + decimal_len(n),
+        Suffix::Minus(n) => 2 + decimal_len(n),
+    }
+}
+
+// Writes it into a buffer, from a place on.
+fn put_suffix(s: Suffix, out: &mut [u8], at: usize)
+    requires { ⌜ at + length (suffixText s) ≤ length (now out) ⌝ }
+    ensures { λ _. ⌜ now (out .exit) ≡ pasted (now (out .entry)) at (suffixText s) ⌝ }
+{
+    match s {
+        Suffix::Empty => {}
+        Suffix::Plain(n) => {
+            out[at] = b'_';
+            put_decimal(n, out, at + 1);
+        }
+        Suffix::Minus(n) => {
+            out[at] = b'_';
+            out[at + 1] = b'-';
+            put_decimal(n, out, at + 2);
+        }
+    }
+}
+
+// A base text with its number, at the front of a buffer.
+pub fn render_fname(base: &[u8], number: i32, out: &mut [u8]) -> Rendered
+    ensures { λ r. ⌜ RenderedAnswer (rendered (now (base .entry)) number) (now (out .entry)) (now (out .exit)) r ⌝ }
+{
+    let s = suffix_of(number);
+    let n = base.len();
+    let len = n + suffix_len(s);
+    if 4096 < len {
+        return Rendered::TooLong(len);
+    }
+    if out.len() < len {
+        return Rendered::Short;
+    }
+    put_text(base, out, 0);
+    put_suffix(s, out, n);
+    Rendered::Length(len)
+}
