@@ -109,7 +109,7 @@ module _ (ws was out : List ℕ) (i at : ℕ) (v : Writing ws was out i at) wher
     unfolding on
     write-on {out′} e =
         let x : List ℕ = v .decoded .done in
-        let room : at + length (utf8Of u) ≤ length was = omega (arith, fits, v .long) in
+        let room : at ≤ length was = omega (arith, fits, v .long) in
         record {
           decoded = on ws i at (v .decoded) u k goes t;
           wrote = e ∙ ap (λ (l : List ℕ). pasted l at (utf8Of u)) (v .wrote) ∙ pasted-append x (utf8Of u) was 0 at (omega (arith, v .decoded .long)) room;

@@ -1,0 +1,159 @@
+-- Every call keeps a book lawful, with its allowances, and so does every list of calls; a refused call changes nothing, unless it is
+-- a reader.
+use mathlib.Core.Path.{_≡_, refl}
+use mathlib.Core.List.{List}
+use Prim.Native.Nat.{ℕ}
+use native.Mathlib.Omega.{arith}
+use lib.Dec.{ltb}
+use borrow.Author.Tests.{ltb-false}
+use Rattle.vrf_bitio.specs.Reading.{Read, ok, refused}
+use Rattle.vrf_bitio.specs.Window.{window}
+use Rattle.vrf_text.specs.Cases.{by-cond}
+use Rattle.vrf_text.specs.Text.{IsText, CallerText, accepted, refusal, callerText}
+use Rattle.vrf_text.specs.TextLaws.{callerText-text}
+use Rattle.vrf_model.specs.Book.{Allowances, Content, Book, none-counted}
+use Rattle.vrf_model.specs.Setting.{Step, done, refuses}
+use Rattle.vrf_model.specs.Intake.{Took, took, stopped, Intake}
+use Rattle.vrf_model.specs.Calls.{Window, Call, clear-book, add-export-group, set-field-on-group, set-net-guid-path, read-net-field-exports, read-export-guids, load-object, read-checkpoint-tables, get-group-by-index, get-group-by-path, get-path-by-guid, get-outer-guid, get-outer-path, get-gameplay-tag-name, get-field, unique-leaf-match, resolve-cnc-for-instance-name, find-class-net-cache-key, group-path, group-index, group-slots, field-name, guid-path}
+use Rattle.vrf_model.specs.Calls.{Answer, refusal-of, Result, only, ofStep, ofTook, overOpened, over, onText, addDirectly, run, runBook, play}
+use Rattle.vrf_model.specs.Lawful.{Each, nil, cons, Is32, Lawful, Sized}
+use Rattle.vrf_model.specs.SettingLawful.{Kept, kept-refuses, setGuid-kept, addGroup-kept, setField-kept, clear-kept}
+use Rattle.vrf_model.specs.ReadsLaws.{Any, Gives, window-gives}
+use Rattle.vrf_model.specs.IntakeLawful.{Leaves, Keeps}
+use Rattle.vrf_model.specs.RunsLawful.{fieldsRun-keeps, guidRun-keeps, objectAt-keeps}
+use Rattle.vrf_model.specs.BlockLawful.{block-keeps}
+
+-- ---- the book stays lawful
+
+addDirectly-kept : (path : List ℕ) (index slots : ℕ) → IsText path → Is32 index → (a : Allowances) (c : Content) → Lawful a c → Kept a (addDirectly path index slots c)
+unfolding addDirectly
+addDirectly-kept path index slots text small a c h =
+    by-cond (Kept a) (ltb 65536 slots) (λ _. kept-refuses 22 slots 0)
+    λ e. addGroup-kept path index slots text small (ltb-false 65536 slots e) a c h
+
+ofStep-lawful : {A : Type 0} (f : A → Answer) {a : Allowances} (c : Content) → Lawful a c → (s : Step A) → Kept a s → Lawful a (ofStep f c s .content)
+unfolding ofStep only
+ofStep-lawful f c h (done x c′ t) k = k x c′ t refl
+ofStep-lawful f c h (refuses n d b) k = h
+
+-- a caller's text is refused, or one that may be held
+onText-lawful : (text : List ℕ) {a : Allowances} (c : Content) → Lawful a c → (r : Result) → (IsText text → Lawful a (r .content)) → Lawful a (onText c (callerText text) r .content)
+unfolding onText only
+onText-lawful text {a} c h r k = go (callerText text) refl
+  where
+    go : (x : CallerText) → callerText text ≡ x → Lawful a (onText c x r .content)
+    go accepted e = k (callerText-text text e)
+    go (refusal n d b) e = h
+
+over-lawful : {A : Type 0} {P : A → Type 0} (w : Window) (f : A → ℕ → Answer) {r : Intake A} → Keeps P r → {a : Allowances} (c : Content) → Lawful a c → Lawful a (over w f r c .content)
+unfolding over overOpened ofTook only
+over-lawful {A} {P} w f {r} k {a} c h = opened (window (w .bytes) (w .first) (w .count)) (window-gives (w .bytes) (w .first) (w .count))
+  where
+    ended : (x : Took A) → Leaves a P x → Lawful a (ofTook f x .content)
+    ended (took x p l c t) h = h .2
+    ended (stopped n d b c t) h = h
+
+    opened : (x : Read (ℕ × ℕ)) → Gives Any x → Lawful a (overOpened f r c x .content)
+    opened (ok v p l) g = ended (r p l c none-counted) (k .leaves p l (g .1) a c h none-counted)
+    opened (refused n d b) g = h
+
+pub run-lawful : (call : Call) → Sized call → {a : Allowances} (c : Content) → Lawful a c → Lawful a (run call c .content)
+unfolding run only
+run-lawful clear-book z c h = ofStep-lawful _ c h _ (clear-kept _ c h)
+run-lawful (add-export-group path index slots) z c h = onText-lawful path c h _ λ text. ofStep-lawful _ c h _ (addDirectly-kept path index slots text z _ c h)
+run-lawful (set-field-on-group index handle checksum name) z c h = onText-lawful name c h _ λ text. ofStep-lawful _ c h _ (setField-kept index handle checksum name z text _ c h)
+run-lawful (set-net-guid-path guid path outer) z c h = onText-lawful path c h _ λ text. ofStep-lawful _ c h _ (setGuid-kept (record { guid = guid; path = path; outer = outer }) (record { guid = z .0; outer = z .1; path = text }) _ c h)
+run-lawful (read-net-field-exports w) z c h = over-lawful w _ fieldsRun-keeps c h
+run-lawful (read-export-guids w) z c h = over-lawful w _ guidRun-keeps c h
+run-lawful (load-object w exporting depth) z c h = over-lawful w _ (objectAt-keeps exporting depth) c h
+run-lawful (read-checkpoint-tables w) z c h = over-lawful w _ block-keeps c h
+run-lawful (get-group-by-index index) z c h = h
+run-lawful (get-group-by-path path) z c h = onText-lawful path c h _ λ _. h
+run-lawful (get-path-by-guid guid) z c h = h
+run-lawful (get-outer-guid guid) z c h = h
+run-lawful (get-outer-path guid) z c h = h
+run-lawful (get-gameplay-tag-name tag) z c h = h
+run-lawful (get-field place slot) z c h = h
+run-lawful (unique-leaf-match name) z c h = onText-lawful name c h _ λ _. h
+run-lawful (resolve-cnc-for-instance-name name) z c h = onText-lawful name c h _ λ _. h
+run-lawful (find-class-net-cache-key path) z c h = onText-lawful path c h _ λ _. h
+run-lawful (group-path place) z c h = h
+run-lawful (group-index place) z c h = h
+run-lawful (group-slots place) z c h = h
+run-lawful (field-name place slot) z c h = h
+run-lawful (guid-path place) z c h = h
+
+pub play-lawful : {calls : List Call} → Each Sized calls → {a : Allowances} (b : Book) → Lawful a (b .content) → Lawful a (play calls b .content)
+unfolding play runBook
+play-lawful nil b h = h
+play-lawful (cons {a = call} z zs) b h = play-lawful zs (runBook call b) (run-lawful call z (b .content) h)
+
+-- ---- a refused call changes nothing, unless it is a reader
+
+abbrev pub IsReader : Call → Type 0
+IsReader clear-book = ⊥
+IsReader (add-export-group path index slots) = ⊥
+IsReader (set-field-on-group index handle checksum name) = ⊥
+IsReader (set-net-guid-path guid path outer) = ⊥
+IsReader (read-net-field-exports w) = Unit {0}
+IsReader (read-export-guids w) = Unit {0}
+IsReader (load-object w exporting depth) = Unit {0}
+IsReader (read-checkpoint-tables w) = Unit {0}
+IsReader (get-group-by-index index) = ⊥
+IsReader (get-group-by-path path) = ⊥
+IsReader (get-path-by-guid guid) = ⊥
+IsReader (get-outer-guid guid) = ⊥
+IsReader (get-outer-path guid) = ⊥
+IsReader (get-gameplay-tag-name tag) = ⊥
+IsReader (get-field place slot) = ⊥
+IsReader (unique-leaf-match name) = ⊥
+IsReader (resolve-cnc-for-instance-name name) = ⊥
+IsReader (find-class-net-cache-key path) = ⊥
+IsReader (group-path place) = ⊥
+IsReader (group-index place) = ⊥
+IsReader (group-slots place) = ⊥
+IsReader (field-name place slot) = ⊥
+IsReader (guid-path place) = ⊥
+
+abbrev pub Unchanged : Content → Result → Type 0
+Unchanged c r = (r .content ≡ c) × (r .counted ≡ none-counted)
+
+module _ {n a b : ℕ} (c : Content) where
+  -- a step that is done answers no refusal
+  ofStep-unchanged : {A : Type 0} (f : A → Answer) (s : Step A) → ((x : A) → f x ≡ refusal-of n a b → _≡_ {A = ℕ} 0 1)
+      → ofStep f c s .answer ≡ refusal-of n a b → Unchanged c (ofStep f c s)
+  unfolding ofStep only
+  ofStep-unchanged f (done x c′ t) never e = absurd (let z = never x e in omega arith)
+  ofStep-unchanged f (refuses m d g) never e = (refl, refl)
+
+  onText-unchanged : (x : CallerText) (r : Result) → (r .answer ≡ refusal-of n a b → Unchanged c r)
+      → onText c x r .answer ≡ refusal-of n a b → Unchanged c (onText c x r)
+  unfolding onText only
+  onText-unchanged accepted r k e = k e
+  onText-unchanged (refusal m d g) r k e = (refl, refl)
+
+pub refused-changes-nothing : (call : Call) → (IsReader call → ⊥) → (c : Content) {n a b : ℕ} → run call c .answer ≡ refusal-of n a b → Unchanged c (run call c)
+unfolding run only
+refused-changes-nothing clear-book z c e = ofStep-unchanged c _ _ (λ x q. cc) e
+refused-changes-nothing (add-export-group path index slots) z c e = onText-unchanged c (callerText path) _ (ofStep-unchanged c _ _ (λ x q. cc)) e
+refused-changes-nothing (set-field-on-group index handle checksum name) z c e = onText-unchanged c (callerText name) _ (ofStep-unchanged c _ _ (λ x q. cc)) e
+refused-changes-nothing (set-net-guid-path guid path outer) z c e = onText-unchanged c (callerText path) _ (ofStep-unchanged c _ _ (λ x q. cc)) e
+refused-changes-nothing (read-net-field-exports w) z c e = absurd (z tt)
+refused-changes-nothing (read-export-guids w) z c e = absurd (z tt)
+refused-changes-nothing (load-object w exporting depth) z c e = absurd (z tt)
+refused-changes-nothing (read-checkpoint-tables w) z c e = absurd (z tt)
+refused-changes-nothing (get-group-by-index index) z c e = (refl, refl)
+refused-changes-nothing (get-group-by-path path) z c e = onText-unchanged c (callerText path) _ (λ _. (refl, refl)) e
+refused-changes-nothing (get-path-by-guid guid) z c e = (refl, refl)
+refused-changes-nothing (get-outer-guid guid) z c e = (refl, refl)
+refused-changes-nothing (get-outer-path guid) z c e = (refl, refl)
+refused-changes-nothing (get-gameplay-tag-name tag) z c e = (refl, refl)
+refused-changes-nothing (get-field place slot) z c e = (refl, refl)
+refused-changes-nothing (unique-leaf-match name) z c e = onText-unchanged c (callerText name) _ (λ _. (refl, refl)) e
+refused-changes-nothing (resolve-cnc-for-instance-name name) z c e = onText-unchanged c (callerText name) _ (λ _. (refl, refl)) e
+refused-changes-nothing (find-class-net-cache-key path) z c e = onText-unchanged c (callerText path) _ (λ _. (refl, refl)) e
+refused-changes-nothing (group-path place) z c e = (refl, refl)
+refused-changes-nothing (group-index place) z c e = (refl, refl)
+refused-changes-nothing (group-slots place) z c e = (refl, refl)
+refused-changes-nothing (field-name place slot) z c e = (refl, refl)
+refused-changes-nothing (guid-path place) z c e = (refl, refl)

@@ -1,0 +1,105 @@
+-- Document 01's entries for the examples table, computed from the definitions and gathered as one checked list.
+use mathlib.Core.Path.{_≡_, refl}
+use mathlib.Core.Bool.{Bool}
+use mathlib.Core.List.{List, [], _∷_, map}
+use mathlib.Core.Option.{some}
+use Prim.Native.Char.{code}
+use Prim.Native.Nat.{ℕ}
+use Prim.Native.String.{String, [] as ended, _∷_ as _before_}
+use lib.IntN.{ℤ}
+use lib.ListN.{length}
+use Rattle.vrf_bitio.specs.Examples.{Packed-examples, packed-examples}
+use Rattle.vrf_path.specs.Keys.{defaultPrefix, keys}
+use Rattle.vrf_names.specs.Names.{rendered}
+use Rattle.vrf_path.specs.Examples as path-examples
+use Rattle.vrf_model.specs.Book.{Allowances, Content, Book, freshBook}
+use Rattle.vrf_model.specs.Setting.{refuses, addGroup}
+use Rattle.vrf_model.specs.Intake.{stop}
+use Rattle.vrf_model.specs.Runs.{objectOver, objectAt}
+use Rattle.vrf_model.specs.Writer.{encodeBook, written, notWritten, write}
+use Rattle.vrf_model.specs.Calls.{Call, add-export-group, set-net-guid-path, get-group-by-path, group-path, Answer, acted, at-place, found, text, addDirectly, play, answers}
+use Rattle.vrf_model.specs.Computing.{computing}
+
+-- the bytes of a text of ASCII characters
+unfoldable pub ascii : String → List ℕ
+ascii ended = []
+ascii (c before s) = code c ∷ ascii s
+
+-- a call and what it answers, and a list of calls that answers so on a book
+infix 70 _⇒_
+abbrev pub _⇒_ : Call → Answer → Call × Answer
+call ⇒ answer = (call, answer)
+
+abbrev pub calls : List (Call × Answer) → List Call
+calls l = map (λ x. x .0) l
+
+abbrev pub Answered : List (Call × Answer) → Book → Type 0
+Answered l b = answers (calls l) b ≡ map (λ x. x .1) l
+
+unfoldable pub opened : Book
+opened = freshBook (record { guids = 10; groups = 10; fields = 10; text = 1000; literals = 10 })
+
+-- the lists after some calls
+abbrev pub after : List (Call × Answer) → Content
+after l = play (calls l) opened .content
+
+abbrev G1-calls : List (Call × Answer)
+G1-calls =
+    add-export-group (ascii "/x/y") 1 0 ⇒ at-place 0 ∷
+    add-export-group (ascii "/x/_Core/y") 2 0 ⇒ at-place 1 ∷
+    get-group-by-path (ascii "/x/y") ⇒ found (some 1) ∷
+    add-export-group (ascii "/x/y") 2 0 ⇒ at-place 1 ∷
+    group-path 0 ⇒ text (ascii "/x/y") ∷
+    group-path 1 ⇒ text (ascii "/x/y") ∷ []
+
+abbrev G2-calls : List (Call × Answer)
+G2-calls =
+    add-export-group (ascii "/a.b") 5 0 ⇒ at-place 0 ∷
+    add-export-group (ascii "/x/y") 6 0 ⇒ at-place 1 ∷
+    add-export-group (ascii "/x/_Core/y") 5 0 ⇒ at-place 0 ∷
+    group-path 0 ⇒ text (ascii "/x/_Core/y") ∷ []
+
+abbrev B1-calls : List (Call × Answer)
+B1-calls = set-net-guid-path 2 (ascii "A") 0 ⇒ acted ∷ []
+
+pub record Document-01-examples : Type 1 where
+  pub P1-P4 : Packed-examples
+  pub K1 : keys [] ≡ [] ∷ defaultPrefix ∷ []
+  pub K2 : keys (ascii "/x/_Core/y") ≡ ascii "/x/_Core/y" ∷ ascii "/x/y" ∷ []
+  pub N1 : (rendered (ascii "Foo") (ℤ.pos 4) ≡ ascii "Foo_3") × (rendered (ascii "Foo") (ℤ.negsuc 2) ≡ ascii "Foo_-3")
+  pub G1 : Answered G1-calls opened
+  pub G1-writing : write 1000 (after G1-calls) ≡ notWritten 44 1 0
+  pub G2 : Answered G2-calls opened
+  pub G2-writing : write 1000 (after G2-calls) ≡ notWritten 44 1 0
+  pub B1 : Answered B1-calls opened
+  pub B1-fits : write 34 (after B1-calls) ≡ written 34
+  pub B1-too-long : write 33 (after B1-calls) ≡ notWritten 45 34 0
+  pub B1-bytes : encodeBook (after B1-calls)
+      ≡ 26 ∷ 0 ∷ 0 ∷ 0 ∷ 0 ∷ 0 ∷ 0 ∷ 0 ∷ 0 ∷ 0 ∷ 0 ∷ 0 ∷ 0 ∷ 0 ∷ 0 ∷ 0 ∷ 1 ∷ 0 ∷ 0 ∷ 0
+      ∷ 4 ∷ 0 ∷ 1 ∷ 2 ∷ 0 ∷ 0 ∷ 0 ∷ 65 ∷ 0 ∷ 0 ∷ 0 ∷ 0 ∷ 0 ∷ 0 ∷ []
+  -- the edges: 65,536 slots pass and 65,537 don't; depth 15 passes and 16 doesn't
+  pub slots-pass : (path : List ℕ) (index : ℕ) (c : Content) → addDirectly path index 65536 c ≡ addGroup path index 65536 c
+  pub slots-too-many : (path : List ℕ) (index : ℕ) (c : Content) → addDirectly path index 65537 c ≡ refuses 22 65537 0
+  pub depth-passes : (exporting : Bool) → objectAt 15 exporting ≡ objectOver (stop 26 16 0) exporting
+  pub depth-too-deep : (exporting : Bool) → objectAt 16 exporting ≡ stop 26 16 0
+
+pub document-01-examples : Document-01-examples
+unfolding computing ascii opened
+document-01-examples = record {
+  P1-P4 = packed-examples;
+  K1 = path-examples.K1;
+  K2 = refl;
+  N1 = path-examples.N1;
+  G1 = refl;
+  G1-writing = refl;
+  G2 = refl;
+  G2-writing = refl;
+  B1 = refl;
+  B1-fits = refl;
+  B1-too-long = refl;
+  B1-bytes = refl;
+  slots-pass = λ path index c. refl;
+  slots-too-many = λ path index c. refl;
+  depth-passes = λ exporting. refl;
+  depth-too-deep = λ exporting. refl;
+}

@@ -1,0 +1,91 @@
+-- The book's rules (document 01, The book), and the calls that a typed program makes.
+use mathlib.Core.Path.{_≡_}
+use mathlib.Core.List.{List, [], _∷_}
+use mathlib.Core.Option.{none}
+use Prim.Native.Nat.{ℕ, _^_, _<_, _≤_}
+use lib.Dec.{eqb}
+use lib.ListN.{length}
+use Rattle.vrf_text.specs.Text.{IsText}
+use Rattle.vrf_model.specs.Book.{Guid, Slot, empty, filled, Group, Allowances, Content, heldFields, heldText}
+use Rattle.vrf_model.specs.Lookup.{lastPlace}
+use Rattle.vrf_model.specs.Calls.{Call, clear-book, add-export-group, set-field-on-group, set-net-guid-path, read-net-field-exports, read-export-guids, load-object, read-checkpoint-tables, get-group-by-index, get-group-by-path, get-path-by-guid, get-outer-guid, get-outer-path, get-gameplay-tag-name, get-field, unique-leaf-match, resolve-cnc-for-instance-name, find-class-net-cache-key, group-path, group-index, group-slots, field-name, guid-path}
+
+-- P of each element
+pub data Each {A : Type 0} (P : A → Type 0) : List A → Type 0 where
+  nil : Each P []
+  cons : {a : A} {l : List A} → P a → Each P l → Each P (a ∷ l)
+
+-- no two elements have the same number
+abbrev pub Distinct : {A : Type 0} → (A → ℕ) → List A → Type 0
+Distinct f [] = Unit {0}
+Distinct f (a ∷ l) = (lastPlace (λ b. eqb (f b) (f a)) l ≡ none) × Distinct f l
+
+-- a number of 32 bits
+abbrev pub Is32 : ℕ → Type 0
+Is32 n = n < 2 ^ 32
+
+pub record GoodGuid (r : Guid) : Type 0 where
+  pub guid : Is32 (r .guid)
+  pub outer : Is32 (r .outer)
+  pub path : IsText (r .path)
+
+abbrev pub GoodSlot : Slot → Type 0
+GoodSlot empty = Unit {0}
+GoodSlot (filled checksum name) = Is32 checksum × IsText name
+
+pub record GoodGroup (g : Group) : Type 0 where
+  pub index : Is32 (g .index)
+  pub path : IsText (g .path)
+  pub few : length (g .slots) ≤ 65536
+  pub slots : Each GoodSlot (g .slots)
+
+-- the tops of the allowances
+pub record Allowed (a : Allowances) : Type 0 where
+  pub guids : a .guids ≤ 1000000
+  pub groups : a .groups ≤ 100000
+  pub fields : a .fields ≤ 1000000
+  pub text : a .text ≤ 67108864
+  pub literals : a .literals ≤ 1000000
+
+-- the counts held are within the allowances
+pub record Within (c : Content) : Type 0 where
+  pub guids : length (c .guids) ≤ c .allowed .guids
+  pub groups : length (c .groups) ≤ c .allowed .groups
+  pub fields : heldFields c ≤ c .allowed .fields
+  pub text : heldText c ≤ c .allowed .text
+
+-- a lawful book with the allowances a
+pub record Lawful (a : Allowances) (c : Content) : Type 0 where
+  pub allowed : c .allowed ≡ a
+  pub tops : Allowed a
+  pub guids : Each GoodGuid (c .guids)
+  pub guids-distinct : Distinct (λ r. r .guid) (c .guids)
+  pub groups : Each GoodGroup (c .groups)
+  pub indices-distinct : Distinct (λ g. g .index) (c .groups)
+  pub within : Within c
+
+-- a call as a typed program makes it: the numbers of its own that a book comes to hold have 32 bits
+abbrev pub Sized : Call → Type 0
+Sized clear-book = Unit {0}
+Sized (add-export-group path index slots) = Is32 index
+Sized (set-field-on-group index handle checksum name) = Is32 checksum
+Sized (set-net-guid-path guid path outer) = Is32 guid × Is32 outer
+Sized (read-net-field-exports w) = Unit {0}
+Sized (read-export-guids w) = Unit {0}
+Sized (load-object w exporting depth) = Unit {0}
+Sized (read-checkpoint-tables w) = Unit {0}
+Sized (get-group-by-index index) = Unit {0}
+Sized (get-group-by-path path) = Unit {0}
+Sized (get-path-by-guid guid) = Unit {0}
+Sized (get-outer-guid guid) = Unit {0}
+Sized (get-outer-path guid) = Unit {0}
+Sized (get-gameplay-tag-name tag) = Unit {0}
+Sized (get-field place slot) = Unit {0}
+Sized (unique-leaf-match name) = Unit {0}
+Sized (resolve-cnc-for-instance-name name) = Unit {0}
+Sized (find-class-net-cache-key path) = Unit {0}
+Sized (group-path place) = Unit {0}
+Sized (group-index place) = Unit {0}
+Sized (group-slots place) = Unit {0}
+Sized (field-name place slot) = Unit {0}
+Sized (guid-path place) = Unit {0}

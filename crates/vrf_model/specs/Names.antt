@@ -1,0 +1,32 @@
+-- A field name on the wire (document 01, Text).
+use mathlib.Core.Bool.{cond}
+use mathlib.Core.List.{List}
+use Prim.Native.Nat.{ℕ}
+use lib.Dec.{eqb, ltb}
+use lib.ListN.{length}
+use Rattle.vrf_bitio.specs.Reading.{refused, Reader, return, _>>=_}
+use Rattle.vrf_bitio.specs.Number.{byte, int32, packed}
+use Rattle.vrf_text.specs.Text.{fstring}
+use Rattle.vrf_names.specs.Names.{decimal, rendered}
+
+-- the limit 41 applies to the rendered name too
+unfoldable pub limited : List ℕ → Reader (List ℕ)
+limited t = cond (ltb 4096 (length t)) (λ pos l. refused 41 (length t) 0) (return t)
+
+-- kind zero: a text and a signed number
+unfoldable pub textName : Reader (List ℕ)
+textName = do
+  base ← fstring
+  number ← int32
+  limited (rendered base number)
+
+-- kind nonzero: a packed index, rendered in decimal
+unfoldable pub indexName : Reader (List ℕ)
+indexName = do
+  index ← packed
+  return (decimal index)
+
+unfoldable pub fname : Reader (List ℕ)
+fname = do
+  kind ← byte
+  cond (eqb kind 0) textName indexName

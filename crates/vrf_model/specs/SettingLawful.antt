@@ -1,0 +1,151 @@
+-- A fresh book is lawful, and each step leaves a lawful book lawful.
+use mathlib.Core.Path.{_≡_, refl, subst}
+use mathlib.Core.Bool.{true, false}
+use mathlib.Core.List.{List}
+use mathlib.Core.Option.{Option, none, some}
+use Prim.Native.Nat.{ℕ, _-_, _≤_, _<_, zero-le}
+use native.Mathlib.Omega.{arith}
+use lib.Dec.{eqb, ltb}
+use lib.ListN.{length, getD, set, length-append, length-replicate, length-set}
+use borrow.Author.Tests.{eqb-true}
+use Rattle.vrf_text.specs.Cases.{by-cond}
+use Rattle.vrf_text.specs.Text.{IsText}
+use Rattle.vrf_model.specs.Book.{Guid, empty, filled, Group, Allowances, Content, Tally, fresh, passed, sum, heldFields, heldText}
+use Rattle.vrf_model.specs.Lookup.{placeOr, pathPlace, indexPlace, guidPlace}
+use Rattle.vrf_model.specs.Setting.{Step, done, refuses, unlessPassed, keep, withGuids, withGroups, sameGuid, setGuidAt, setGuid, newGroup, grown, mergedGroup, merge, addGroupAt, addGroup, withSlot, noGroup, setFieldAt, setField, clear}
+use Rattle.vrf_model.specs.Lawful.{Each, nil, cons, Distinct, Is32, GoodGuid, GoodGroup, Allowed, Within, Lawful}
+use Rattle.vrf_model.specs.EachLaws.{each-append, each-set, each-replicate, each-at}
+use Rattle.vrf_model.specs.PlaceLaws.{lastPlace-none, lastPlace-some, placeOr-at, distinct-append, distinct-set-new, distinct-set-same, distinct-set-found}
+use Rattle.vrf_model.specs.HeldLaws.{passed-within, within-passed}
+
+-- a freshly opened book is lawful
+pub fresh-lawful : {a : Allowances} → Allowed a → Lawful a (fresh a)
+unfolding fresh sum heldFields heldText
+fresh-lawful h = record {
+  allowed = refl;
+  tops = h;
+  guids = nil;
+  guids-distinct = tt;
+  groups = nil;
+  indices-distinct = tt;
+  within = record { guids = zero-le; groups = zero-le; fields = zero-le; text = zero-le };
+}
+
+-- what is within its allowances is kept, and what is kept is within them
+pub keep-within : {A : Type 0} (x : A) (c : Content) (t : Tally) → Within c → keep x c t ≡ done x c t
+unfolding keep unlessPassed
+keep-within x c t w = rw (within-passed c w)
+
+keep-done : {A : Type 0} (x : A) (c : Content) (t : Tally) {x′ : A} {c′ : Content} {t′ : Tally} → keep x c t ≡ done x′ c′ t′ → (c ≡ c′) × Within c
+unfolding keep unlessPassed
+keep-done x c t {x′} {c′} {t′} e = go (passed c) refl e
+  where
+    go : (o : Option ℕ) → passed c ≡ o → unlessPassed o x c t ≡ done x′ c′ t′ → (c ≡ c′) × Within c
+    go none q e = (cc, passed-within c q)
+    go (some which) q e = absurd (let z : _≡_ {A = ℕ} 0 1 = cc in omega arith)
+
+-- a step that is refused, or leaves a lawful book with the allowances a
+abbrev pub Kept : Allowances → {A : Type 0} → Step A → Type 0
+Kept a {A} s = (x : A) (c : Content) (t : Tally) → s ≡ done x c t → Lawful a c
+
+module _ {a : Allowances} {A : Type 0} where
+  pub kept-done : (x : A) {c : Content} (t : Tally) → Lawful a c → Kept a (done x c t)
+  kept-done x {c} t h x′ c′ t′ e = let q : c ≡ c′ = cc in subst (Lawful a) q h
+
+  pub kept-refuses : (n d b : ℕ) → Kept a {A = A} (refuses n d b)
+  kept-refuses n d b x c t e = absurd (let z : _≡_ {A = ℕ} 0 1 = cc in omega arith)
+
+  kept-keep : (x : A) (c : Content) (t : Tally) → (Within c → Lawful a c) → Kept a (keep x c t)
+  kept-keep x c t h x′ c′ t′ e = let k = keep-done x c t e in subst (Lawful a) (k .0) (h (k .1))
+
+-- other records or groups in a lawful book
+module _ {a : Allowances} (c : Content) (h : Lawful a c) where
+  guids-lawful : (l : List Guid) → Each GoodGuid l → Distinct (λ r. r .guid) l → Within (withGuids c l) → Lawful a (withGuids c l)
+  unfolding withGuids
+  guids-lawful l g d w = record { allowed = h .allowed; tops = h .tops; guids = g; guids-distinct = d; groups = h .groups; indices-distinct = h .indices-distinct; within = w }
+
+  groups-lawful : (l : List Group) → Each GoodGroup l → Distinct (λ g. g .index) l → Within (withGroups c l) → Lawful a (withGroups c l)
+  unfolding withGroups
+  groups-lawful l g d w = record { allowed = h .allowed; tops = h .tops; guids = h .guids; guids-distinct = h .guids-distinct; groups = g; indices-distinct = d; within = w }
+
+-- ---- set_net_guid_path
+
+pub setGuid-kept : (r : Guid) → GoodGuid r → (a : Allowances) (c : Content) → Lawful a c → Kept a (setGuid r c)
+unfolding setGuid setGuidAt guidPlace
+setGuid-kept r good a c h = go (guidPlace (r .guid) (c .guids)) refl
+  where
+    go : (o : Option ℕ) → guidPlace (r .guid) (c .guids) ≡ o → Kept a (setGuidAt r c o)
+    go none e = kept-keep tt _ _ (guids-lawful c h _ (each-append (h .guids) (cons good nil)) (distinct-append _ r (h .guids-distinct) (lastPlace-none _ _ e)))
+    go (some i) e =
+        by-cond (Kept a) (placeOr (sameGuid r) false (c .guids) i) (λ _. kept-done tt _ h)
+        λ _. kept-keep tt _ _ (guids-lawful c h _ (each-set (h .guids) good i) (distinct-set-found _ (c .guids) r e (h .guids-distinct)))
+
+-- ---- add_export_group
+
+module _ (path : List ℕ) (index slots : ℕ) (text : IsText path) (small : Is32 index) (few : slots ≤ 65536) where
+  newGroup-good : GoodGroup (newGroup path index slots)
+  unfolding newGroup
+  newGroup-good = record { index = small; path = text; few = rw (length-replicate slots empty) few; slots = each-replicate empty tt slots }
+
+  mergedGroup-good : (g : Group) → GoodGroup g → GoodGroup (mergedGroup path index slots g)
+  unfolding mergedGroup grown
+  mergedGroup-good g good = record {
+    index = small;
+    path = text;
+    few = rw (length-append (g .slots), length-replicate) (omega (arith, good .few));
+    slots = each-append (good .slots) (each-replicate empty tt (slots - length (g .slots)));
+  }
+
+  module _ (a : Allowances) (c : Content) (h : Lawful a c) where
+    merge-kept : (i : ℕ) → pathPlace path (c .groups) ≡ some i → Distinct (λ g. g .index) (set (c .groups) i (mergedGroup path index slots (getD (c .groups) i noGroup)))
+        → Kept a (merge path index slots c i)
+    unfolding merge pathPlace
+    merge-kept i e d =
+        let m : i < length (c .groups) = lastPlace-some _ (c .groups) e .below in
+        rw (placeOr-at (mergedGroup path index slots) (newGroup path index slots) (c .groups) i noGroup m)
+        (kept-keep i _ _ (groups-lawful c h _ (each-set (h .groups) (mergedGroup-good _ (each-at (h .groups) i noGroup m)) i) d))
+
+    pub addGroup-kept : Kept a (addGroup path index slots c)
+    unfolding addGroup addGroupAt indexPlace newGroup mergedGroup
+    addGroup-kept = go (pathPlace path (c .groups)) (indexPlace index (c .groups)) refl refl
+      where
+        go : (o q : Option ℕ) → pathPlace path (c .groups) ≡ o → indexPlace index (c .groups) ≡ q → Kept a (addGroupAt path index slots c o q)
+        go none none e f = kept-keep _ _ _ (groups-lawful c h _ (each-append (h .groups) (cons newGroup-good nil)) (distinct-append _ _ (h .indices-distinct) (lastPlace-none _ _ f)))
+        go none (some j) e f = kept-keep _ _ _ (groups-lawful c h _ (each-set (h .groups) newGroup-good j) (distinct-set-found _ (c .groups) _ f (h .indices-distinct)))
+        go (some i) none e f = merge-kept i e (distinct-set-new _ i _ (h .indices-distinct) (lastPlace-none _ _ f))
+        go (some i) (some j) e f =
+            by-cond (Kept a) (eqb i j)
+            (λ t. let same : i ≡ j = eqb-true i j t in merge-kept i e (rw same (distinct-set-found _ (c .groups) _ f (h .indices-distinct))))
+            λ _. kept-refuses 23 index 0
+
+-- ---- set_field_on_group
+
+module _ (index handle checksum : ℕ) (name : List ℕ) (small : Is32 checksum) (text : IsText name) where
+  withSlot-good : (g : Group) → GoodGroup g → GoodGroup (withSlot handle (filled checksum name) g)
+  unfolding withSlot
+  withSlot-good g good = record {
+    index = good .index;
+    path = good .path;
+    few = rw length-set (good .few);
+    slots = each-set (good .slots) (small, text) handle;
+  }
+
+  pub setField-kept : (a : Allowances) (c : Content) → Lawful a c → Kept a (setField index handle checksum name c)
+  unfolding setField setFieldAt indexPlace withSlot
+  setField-kept a c h = go (indexPlace index (c .groups)) refl
+    where
+      go : (o : Option ℕ) → indexPlace index (c .groups) ≡ o → Kept a (setFieldAt handle checksum name c o)
+      go none e = kept-done false _ h
+      go (some i) e =
+          let m : i < length (c .groups) = lastPlace-some _ (c .groups) e .below in
+          let groups = each-set (h .groups) (withSlot-good _ (each-at (h .groups) i noGroup m)) i in
+          let indices = distinct-set-same _ (c .groups) i _ noGroup m refl (h .indices-distinct) in
+          by-cond (Kept a) (ltb handle (placeOr (λ g. length (g .slots)) 0 (c .groups) i))
+          (λ _. rw (placeOr-at (withSlot handle (filled checksum name)) noGroup (c .groups) i noGroup m) (kept-keep true _ _ (groups-lawful c h _ groups indices)))
+          λ _. kept-done false _ h
+
+-- ---- clear
+
+pub clear-kept : (a : Allowances) (c : Content) → Lawful a c → Kept a (clear c)
+unfolding clear
+clear-kept a c h = kept-done tt _ (rw (h .allowed) (fresh-lawful (h .tops)))
