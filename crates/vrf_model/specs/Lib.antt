@@ -8,6 +8,7 @@ pub mod Runs
 pub mod Block
 pub mod Writer
 pub mod Calls
+pub mod Answers
 -- its examples, computed
 pub mod Computing
 pub mod Examples

@@ -1,4 +1,4 @@
--- Demand 3 on the definitions (document 01, The book): a scorer who joins late, from a written block, never parts company with one who
+-- Demand 3 on the definitions (document 01, The book): a reader who joins late, from a written block, never parts company with one who
 -- was there from the start.
 use mathlib.Core.Path.{_≡_, refl, sym, ap}
 use mathlib.Core.List.{List, [], append-nil}
