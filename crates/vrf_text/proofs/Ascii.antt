@@ -1,7 +1,7 @@
 -- ASCII bytes by one test: no byte of a word has its top bit.
 use mathlib.Core.List.{List}
-use mathlib.Core.Path.{_≡_, refl, sym, ap, ap₂, _∙_}
-use Prim.Native.Nat.{ℕ, zero, suc, _+_, _-_, _*_, _/_, _%_, _^_, _≤_, _<_}
+use mathlib.Core.Path.{_≡_, sym, ap, _∙_}
+use Prim.Native.Nat.{ℕ, zero, suc, _+_, _*_, _/_, _%_, _<_}
 use native.Mathlib.Nat.{le-of-suc-le-suc, mod-eq-of-lt}
 use native.Mathlib.Omega.{arith}
 use lib.Bits.{bitAnd, bitOr, and-mod, and-shr, and-high, and-le-l, and-le-r, or-add-and}
@@ -44,12 +44,15 @@ ascii w e l h = utf8-ascii 8 l λ i k. omega (arith, h i k, below 8 w e i k)
 both : (x y : ℕ) → bitOr x y ≡ 0 → (x ≡ 0) × (y ≡ 0)
 both x y e = (omega (arith, or-add-and x y, and-le-l x y, and-le-r x y), omega (arith, or-add-and x y, and-le-l x y, and-le-r x y))
 
--- three words after the first
-pub three : (s : List ℕ) → ((k : ℕ) → getD s k 0 < 256) → {x y z : ℕ} → x ≡ bitsOf s 64 64 → y ≡ bitsOf s 128 64 → z ≡ bitsOf s 192 64
-    → bitOr (bitOr (bitAnd x 0x8080808080808080) (bitAnd y 0x8080808080808080)) (bitAnd z 0x8080808080808080) ≡ 0 → utf8 (drop 32 s) ≡ utf8 (drop 8 s)
-three s b {x} {y} {z} ex ey ez e =
-    let xy-z = both _ _ e in
+-- four words
+pub four : (s : List ℕ) → ((k : ℕ) → getD s k 0 < 256) → {x y z w : ℕ} → x ≡ bitsOf s 0 64 → y ≡ bitsOf s 64 64 → z ≡ bitsOf s 128 64 → w ≡ bitsOf s 192 64
+    → bitOr (bitOr (bitOr (bitAnd x 0x8080808080808080) (bitAnd y 0x8080808080808080)) (bitAnd z 0x8080808080808080)) (bitAnd w 0x8080808080808080) ≡ 0
+    → utf8 (drop 32 s) ≡ utf8 s
+four s b {x} {y} {z} {w} ex ey ez ew e =
+    let xyz-w = both _ _ e in
+    let xy-z = both _ _ (xyz-w .0) in
     let x-y = both _ _ (xy-z .0) in
-    ap utf8 (sym (drop-drop 8 24 s)) ∙ ascii z (xy-z .1) (drop 24 s) (holds-in s b 24 ez)
-    ∙ ap utf8 (sym (drop-drop 8 16 s)) ∙ ascii y (x-y .1) (drop 16 s) (holds-in s b 16 ey)
-    ∙ ap utf8 (sym (drop-drop 8 8 s)) ∙ ascii x (x-y .0) (drop 8 s) (holds-in s b 8 ex)
+    ap utf8 (sym (drop-drop 8 24 s)) ∙ ascii w (xyz-w .1) (drop 24 s) (holds-in s b 24 ew)
+    ∙ ap utf8 (sym (drop-drop 8 16 s)) ∙ ascii z (xy-z .1) (drop 16 s) (holds-in s b 16 ez)
+    ∙ ap utf8 (sym (drop-drop 8 8 s)) ∙ ascii y (x-y .1) (drop 8 s) (holds-in s b 8 ey)
+    ∙ ascii x (x-y .0) s (holds-in s b 0 ex)

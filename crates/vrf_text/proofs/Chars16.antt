@@ -1,18 +1,14 @@
 -- One character of UTF-16, by the word that holds its units: 0 stands past the end of a text, and 0 is no low surrogate.
 use mathlib.Core.List.{List, [], _∷_}
 use mathlib.Core.Option.{Option, none, some}
-use mathlib.Core.Path.{_≡_, refl, sym, ap, ap₂, _∙_}
-use Prim.Native.Nat.{ℕ, zero, suc, _+_, _*_, _/_, _%_, _≤_, _<_}
+use mathlib.Core.Path.{_≡_, refl, sym, ap, _∙_}
+use Prim.Native.Nat.{ℕ, _+_, _*_, _/_, _%_, _≤_, _<_}
 use native.Mathlib.Omega.{arith}
-use lib.ListN.{length, getD, drop}
+use lib.ListN.{getD, drop}
 use borrow.Author.Tests.{le-leb, lt-leb}
-use Rattle.vrf_text.specs.Cases.{at-most}
+use Rattle.vrf_text.specs.Cases.{at-most, clash}
 use Rattle.vrf_text.specs.Utf16.{Kind, single, high, low, kind, pair, before, utf16From, utf16}
 use Rattle.vrf_text.specs.Steps.{Holds16, Taken, Step16}
-
--- two constructors are never equal
-clash : {A : Type 0} → _≡_ {A = ℕ} 0 1 → A
-clash z = absurd (omega arith)
 
 -- ---- what a unit is
 

@@ -1,13 +1,14 @@
 -- The loops through units of UTF-16: at place i, what is decoded so far and the UTF-8 of the units from i on make the whole.
-use mathlib.Core.List.{List, [], _∷_, _++_, append-assoc, append-nil}
+use mathlib.Core.List.{List, [], _++_, append-assoc, append-nil}
 use mathlib.Core.Option.{Option, none, some}
 use mathlib.Core.Path.{_≡_, refl, sym, ap, _∙_, subst}
-use Prim.Native.Nat.{ℕ, zero, suc, _+_, _-_, _*_, _≤_, _<_}
+use Prim.Native.Nat.{ℕ, zero, suc, _+_, _-_, _*_, _≤_}
 use native.Mathlib.Omega.{arith}
 use lib.ListN.{length, drop, length-append, drop-of-length-le}
 use lib.Seq.{drop-drop}
 use Rattle.vrf_bitio.specs.Pasted.{pasted}
 use Rattle.vrf_bitio.specs.PastedLaws.{pasted-nil, pasted-length, pasted-append}
+use Rattle.vrf_text.specs.Cases.{clash}
 use Rattle.vrf_text.specs.Utf16.{before, utf16, utf16From, utf8Of, utf8Chars, unitsToUtf8}
 use Rattle.vrf_text.specs.Steps.{unitsOf, Holds16, Taken, Step16, Room, Wrote}
 use Rattle.vrf_text.proofs.Runs.{units-drop}
@@ -74,7 +75,7 @@ module _ (ws : List ℕ) (i len : ℕ) (d : Decoding ws i len) where
 
 joined-fits : (x : List ℕ) (o : Option (List ℕ)) (t : List ℕ) → joined x o ≡ some t → length x ≤ length t
 unfolding joined
-joined-fits x none t e = let z : _≡_ {A = ℕ} 0 1 = cc in absurd (omega arith)
+joined-fits x none t e = clash (cc)
 joined-fits x (some r) t e = let f : x ++ r ≡ t = cc in omega (arith, length-append x r, ap length f)
 
 -- the first bytes of what was lent are what is decoded so far
@@ -92,8 +93,7 @@ module _ (ws was out : List ℕ) (i at : ℕ) (v : Writing ws was out i at) wher
     pub goes : k ≡ 0 → ⊥
     goes e =
         let n : unitsToUtf8 ws ≡ none = bad ws i at (v .decoded) u k e t in
-        let z : _≡_ {A = ℕ} 0 1 = cc (r .is) in
-        omega arith
+        clash (cc (r .is))
 
     pub fits : at + length (utf8Of u) ≤ length out
     fits = omega (

@@ -1,7 +1,7 @@
 -- Signed numbers of 32 bits: the length word of a text, negated where it is below 0.
 use mathlib.Core.Bool.{Bool, true, false, false≢true}
 use mathlib.Core.Path.{_≡_, refl, sym, ap, _∙_, subst}
-use Prim.Native.Nat.{ℕ, zero, suc, _+_, _-_, _^_, _≤_, _<_}
+use Prim.Native.Nat.{ℕ, suc, _+_, _-_, _<_}
 use native.Mathlib.Omega.{arith}
 use borrow.Author.Tests.{ltb-true, le-ltb}
 use lib.Dec.{T}

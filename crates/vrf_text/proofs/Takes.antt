@@ -6,8 +6,8 @@ use Prim.Native.Nat.{ℕ, _+_, _-_, _*_, _/_, _≤_, _<_}
 use native.Mathlib.Omega.{arith}
 use lib.ListN.{length}
 use borrow.Author.Tests.{lt-ltb, le-ltb}
-use Rattle.vrf_bitio.specs.Bits.{bytesOf, packedBits}
-use Rattle.vrf_bitio.specs.Reading.{Read, ok, refused}
+use Rattle.vrf_bitio.specs.Bits.{bytesOf}
+use Rattle.vrf_bitio.specs.Reading.{ok}
 use Rattle.vrf_bitio.specs.Window.{rest, copied}
 use Rattle.vrf_bitio.specs.Pasted.{pasted}
 use Rattle.vrf_bitio.specs.Answers.{readAt, Gave, Refuses, CopiedAnswer}
@@ -16,9 +16,10 @@ use Rattle.vrf_bitio.specs.declared.Cursor.{Cursor}
 use Rattle.vrf_bitio.specs.declared.Refusal.{Refusal}
 use Rattle.vrf_bitio.specs.declared.Copied.{Copied}
 use Rattle.vrf_bitio.specs.declared.Copied.the-variants.{Done, Refused as NotCopied}
+use Rattle.vrf_text.specs.Cases.{clash}
 use Rattle.vrf_text.specs.Text.{fstring, roomFor, fstringInto}
 use Rattle.vrf_text.specs.Answers.{TextAnswer}
-use Rattle.vrf_text.specs.Steps.{bitAt, Room, Wrote}
+use Rattle.vrf_text.specs.Steps.{bitAt}
 use Rattle.vrf_text.specs.declared.Text.{Text}
 use Rattle.vrf_text.specs.declared.Text.the-variants.{Read as Given, Refused as NoText}
 use Rattle.vrf_text.proofs.Runs.{bytes-run, packed-run}
@@ -56,8 +57,7 @@ module _ (s : List ℕ) (c : Cursor) (m n : ℕ) (fits : n ≤ m) (left : 8 * n 
     never-refused e =
         let d = subst (CopiedAnswer s c (copied s (c .first) (c .count) m (8 * n) (c .pos)) before after) e a in
         let f = sym copies ∙ d .0 in
-        let z : _≡_ {A = ℕ} 0 1 = cc in
-        absurd (omega arith)
+        clash (cc)
 
 -- ---- a transcoding
 

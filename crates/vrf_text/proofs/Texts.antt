@@ -1,24 +1,25 @@
 -- A text on the wire, tested where it stands: its bytes or units are those left at the cursor, one final zero is dropped, and what
 -- they are as UTF-8 decides the answer.
 use mathlib.Core.Bool.{Bool, true, false, cond, _||_, false≢true}
-use mathlib.Core.List.{List, []}
+use mathlib.Core.List.{List}
 use mathlib.Core.Option.{Option, none, some}
-use mathlib.Core.Path.{_≡_, refl, sym, ap, _∙_, subst}
-use Prim.Native.Nat.{ℕ, zero, suc, _+_, _-_, _*_, _/_, _^_, _≤_, _<_}
+use mathlib.Core.Path.{_≡_, refl, sym, ap, _∙_}
+use Prim.Native.Nat.{ℕ, zero, suc, _+_, _-_, _*_, _/_, _≤_, _<_}
 use native.Mathlib.Omega.{arith}
 use lib.Dec.{ltb, eqb}
-use lib.ListN.{length, take, drop}
+use lib.ListN.{length}
 use borrow.Author.Tests.{lt-ltb, le-ltb, ltb-false}
 use Rattle.vrf_bitio.specs.Bits.{bitsOf, bytesOf}
-use Rattle.vrf_bitio.specs.Reading.{Read, ok, refused, Reader, _>>=_}
+use Rattle.vrf_bitio.specs.Reading.{Read, ok, refused}
 use Rattle.vrf_bitio.specs.ReadingLaws.{bind-ok, bind-refused}
 use Rattle.vrf_bitio.specs.Window.{rest}
 use Rattle.vrf_bitio.specs.WindowLaws.{bytes-length, rest-length}
-use Rattle.vrf_bitio.specs.Answers.{restOf, readAt, Gave, Refuses}
+use Rattle.vrf_bitio.specs.Answers.{restOf, readAt, Gave}
 use Rattle.vrf_bitio.specs.declared.Cursor.{Cursor}
 use Rattle.vrf_text.specs.Utf8.{utf8}
-use Rattle.vrf_text.specs.Utf16.{units, unitsToUtf8}
+use Rattle.vrf_text.specs.Utf16.{unitsToUtf8}
 use Rattle.vrf_text.specs.Text.{textBytes, dropZero, asUtf8, checked, text8, text16}
+use Rattle.vrf_text.specs.TextLaws.{textBytes-ok}
 use Rattle.vrf_text.specs.Steps.{unitsOf, bitAt}
 use Rattle.vrf_text.proofs.Runs.{runs, run-trim, bytes-run, bytes-take, bytes-drop, units-run}
 
@@ -44,12 +45,14 @@ module _ (c : Cursor) (n : ℕ) {t : Bool} (e : t ≡ (ltb 1048576 n || ltb ((c 
     too-many h = rw (rest-length s (c .first) (c .count) (c .pos), sym e ∙ h)
 
     bytes-read : t ≡ false → readAt s c (textBytes start w n) ≡ ok (bytesOf s (bitAt c) n) (c .pos + 8 * n) (restOf s (behind c (8 * n)))
-    unfolding textBytes rest
+    unfolding rest
     bytes-read h =
         let m : ℕ = (c .count - c .pos) / 8 in
+        let in-it : n ≤ m = omega (arith, few h) in
         let left : m - n ≡ (c .count - (c .pos + 8 * n)) / 8 = omega (arith, few h) in
         let bit : bitAt c + 8 * n ≡ c .first + (c .pos + 8 * n) = omega arith in
-        rw (bytes-length s (bitAt c) m, sym e ∙ h, bytes-take s (bitAt c) n m (omega (arith, few h)), bytes-drop s (bitAt c) n m, left, bit)
+        textBytes-ok start w n (c .pos) (restOf s c) (few h .0) (rw (bytes-length s (bitAt c) m) in-it)
+        ∙ rw (bytes-take s (bitAt c) n m in-it, bytes-drop s (bitAt c) n m, left, bit)
 
 -- one final zero dropped, of bytes or of units
 trim : (w : ℕ) (s : List ℕ) (q n : ℕ) {last k : ℕ} → 0 < n → last ≡ bitsOf s (q + w * (n - 1)) w → k ≡ cond (eqb last 0) (n - 1) n

@@ -28,8 +28,19 @@ module _ (l : List ℕ) (i : ℕ) (inv : utf8 (drop i l) ≡ utf8 l) where
   end h = ap utf8 (sym (drop-of-length-le l h)) ∙ inv
 
 -- a slice from a place on, as the code lends it
+lent : (l : List ℕ) (i : ℕ) → take (length l - i) (drop i l) ≡ drop i l
+lent l i = take-all (length l - i) (drop i l) (omega (arith, length-drop i l))
+
 pub rest : (l : List ℕ) (i k : ℕ) → Passed (take (length l - i) (drop i l)) k → Passed (drop i l) k
-rest l i k p = rw (take-all (length l - i) (drop i l) (omega (arith, length-drop i l))) at p
+rest l i k p = rw (lent l i) at p
+
+-- 32 bytes of it that decide nothing
+pub block : (l : List ℕ) (i : ℕ) → utf8 (drop i l) ≡ utf8 l
+    → (32 ≤ length (take (length l - i) (drop i l))) × (utf8 (drop 32 (take (length l - i) (drop i l))) ≡ utf8 (take (length l - i) (drop i l)))
+    → (i + 32 ≤ length l) × (utf8 (drop (i + 32) l) ≡ utf8 l)
+block l i inv p =
+    let q = rw (lent l i) at p in
+    (omega (arith, q .0, length-drop i l), on l i inv 32 (λ e. omega arith) (q .1))
 
 -- bytes at a bit from a place on, as the code reads them
 pub rest-at : (s : List ℕ) (p n i k : ℕ) → Passed (bytesOf s (p + 8 * i) (n - i)) k → Passed (drop i (bytesOf s p n)) k

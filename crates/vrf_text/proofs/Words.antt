@@ -1,19 +1,18 @@
 -- The length word of a text: read as a signed number, it is the word of the definition, and says what the rest is.
-use mathlib.Core.Bool.{cond}
 use mathlib.Core.List.{List, []}
-use mathlib.Core.Path.{_≡_, refl, sym, ap, _∙_, subst}
-use Prim.Native.Nat.{ℕ, zero, suc, _+_, _-_, _*_, _^_, _≤_, _<_}
+use mathlib.Core.Path.{_≡_, sym, _∙_, subst}
+use Prim.Native.Nat.{ℕ, suc, _+_, _-_, _^_, _≤_, _<_}
 use native.Mathlib.Omega.{arith}
-use lib.Dec.{ltb, eqb}
+use lib.Dec.{ltb}
 use lib.IntN.{ℤ, pos, negsuc}
 use lib.Signed.{mag}
 use mir.Syntax.{w32}
 use mir.Val.{toZ, ofZ}
 use mir.Facts.{toZ-ofZ}
-use borrow.Author.Tests.{lt-ltb, le-ltb, ltb-true, ltb-false, eq-eqb, ne-eqb}
+use borrow.Author.Tests.{le-ltb, ltb-true, ltb-false, eq-eqb, ne-eqb}
 use Rattle.vrf_bitio.specs.Bits.{bitsOf, bytesOf}
 use Rattle.vrf_bitio.specs.BitsLaws.{bits-lt}
-use Rattle.vrf_bitio.specs.Reading.{Read, ok, refused, Reader, return, _>>=_}
+use Rattle.vrf_bitio.specs.Reading.{Read, ok, refused, return}
 use Rattle.vrf_bitio.specs.ReadingLaws.{bind-ok, bind-refused}
 use Rattle.vrf_bitio.specs.Window.{rest}
 use Rattle.vrf_bitio.specs.WindowLaws.{word-found, word-lacks}
@@ -22,16 +21,13 @@ use Rattle.vrf_bitio.specs.Answers.{restOf, readAt, Gave, Refuses}
 use Rattle.vrf_bitio.specs.AnswersLaws.{gave-return}
 use Rattle.vrf_bitio.specs.declared.Cursor.{Cursor}
 use Rattle.vrf_bitio.specs.declared.Refusal.{Refusal}
-use Rattle.vrf_text.specs.Cases.{by-cond, by-order}
+use Rattle.vrf_text.specs.Cases.{by-cond, by-order, clash}
 use Rattle.vrf_text.specs.Text.{text8, text16, textOf, fstring}
-use Rattle.vrf_text.specs.TextLaws.{fstring-at}
+use Rattle.vrf_text.specs.TextLaws.{textOf-8, fstring-at}
 use Rattle.vrf_text.specs.Steps.{bitAt, LengthOf, FoundAnswer}
 use Rattle.vrf_text.specs.declared.Length.{Length}
 use Rattle.vrf_text.specs.declared.Found.{Found}
 use Rattle.vrf_text.specs.declared.Found.the-variants.{Bytes, Units, Refused}
-
-clash : {A : Type 0} → _≡_ {A = ℕ} 0 1 → A
-clash z = absurd (omega arith)
 
 -- what a call says of a signed number that was passed to it, at the variant that it answered
 pub told : (v : ℤ) {r r′ : Length} → mag v < 2147483648 → r ≡ r′ → LengthOf (toZ w32 (ofZ w32 v)) r → LengthOf v r′
@@ -94,11 +90,9 @@ module _ (s : List ℕ) (c : Cursor) {v : ℤ} {at : Cursor} (d : Worded s c v a
       then ∙ rw (eq-eqb (d .w) 0 z)
 
   pub then-bytes : (n : ℕ) → v ≡ pos n → 0 < n → readAt s c fstring ≡ readAt s at (text8 (c .pos) n n)
-  unfolding textOf
   then-bytes n e h =
       let f = signed-pos (d .w) n (sym (d .is) ∙ e) in
-      let z : d .w ≡ 0 → ⊥ = λ q. omega arith in
-      then ∙ rw (ne-eqb (d .w) 0 z, lt-ltb (d .w) (2 ^ 31) (f .1), f .0)
+      then ∙ rw (f .0, textOf-8 (c .pos) n h (omega arith))
 
   module _ (n : ℕ) (e : v ≡ negsuc (n - 1)) (h : 0 < n) where
     units-of : (2147483648 ≤ d .w) × (n - 1 ≡ 4294967296 - suc (d .w))
@@ -127,4 +121,4 @@ module _ (s : List ℕ) (c : Cursor) {v : ℤ} {at : Cursor} (d : Worded s c v a
   -- no text
   pub found-none : v ≡ pos 0 → FoundAnswer s c (readAt s c fstring) (Bytes at 0 at)
   unfolding bytesOf
-  found-none e = (lift (then-none e) (gave-return s at []), (omega arith, omega arith))
+  found-none e = (lift (then-none e) (gave-return s at []), omega arith)

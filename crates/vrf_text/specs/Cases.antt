@@ -2,6 +2,7 @@
 use mathlib.Core.Bool.{Bool, true, false, cond}
 use mathlib.Core.Path.{_≡_, refl}
 use Prim.Native.Nat.{ℕ, _≤_, _<_}
+use native.Mathlib.Omega.{arith}
 use lib.Dec.{leb}
 use borrow.Author.Tests.{leb-true, leb-false}
 
@@ -16,3 +17,7 @@ at-most P a k f g = by-cond P (leb a k) (λ e. f (leb-true a k e)) (λ e. g (leb
 -- two cases that no definition makes
 pub by-order {ℓ} : {P : Type ℓ} (a k : ℕ) → (a ≤ k → P) → (k < a → P) → P
 by-order {P} a k f g = at-most (λ (_ : Bool). P) a k {x = true} {y = true} f g
+
+-- a case that cannot be: `cc` shows 0 ≡ 1 wherever two constructors would be equal
+pub clash {ℓ} : {P : Type ℓ} → _≡_ {A = ℕ} 0 1 → P
+clash z = absurd (omega arith)

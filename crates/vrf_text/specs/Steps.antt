@@ -1,5 +1,5 @@
 -- What the code's steps through a text say. The contracts of the exported functions do not name these.
-use mathlib.Core.Bool.{Bool, false}
+use mathlib.Core.Bool.{false}
 use mathlib.Core.List.{List}
 use mathlib.Core.Option.{Option, none, some}
 use mathlib.Core.Path.{_≡_}
@@ -11,7 +11,7 @@ use Rattle.vrf_bitio.specs.Reading.{Read}
 use Rattle.vrf_bitio.specs.Pasted.{pasted}
 use Rattle.vrf_bitio.specs.Answers.{Gave, Refuses}
 use Rattle.vrf_bitio.specs.declared.Cursor.{Cursor}
-use Rattle.vrf_text.specs.Utf8.{Lead, asks, bad, lead, within, utf8}
+use Rattle.vrf_text.specs.Utf8.{utf8}
 use Rattle.vrf_text.specs.Utf16.{units, before, utf16, unitsToUtf8}
 use Rattle.vrf_text.specs.declared.Measured.{Measured}
 use Rattle.vrf_text.specs.declared.Measured.the-variants.{Bytes, Bad}
@@ -40,10 +40,6 @@ Passed l (suc k) = utf8 (drop (suc k) l) ≡ utf8 l
 pub record Step (w m r : ℕ) : Type 0 where
   pub few : r ≤ m
   pub passed : (l : List ℕ) → Holds w l → Passed l r
-
--- whether b may follow the lead byte a
-unfoldable pub follows : ℕ → ℕ → Bool
-follows a b = elim (lead a) [ asks n lo hi ↦ within lo hi b | bad ↦ false ]
 
 -- ---- UTF-16
 
@@ -99,7 +95,7 @@ bitAt c = c .first + c .pos
 
 -- a text that is where it stands, not yet copied: n bytes of UTF-8, or n units of UTF-16 that have len bytes as UTF-8
 abbrev pub FoundAnswer : List ℕ → Cursor → Read (List ℕ) → Found → Type 0
-FoundAnswer s c x (InBytes from n d) = Gave s c x (bytesOf s (bitAt from) n) d × ((n ≤ 4096) × (8 * n ≤ from .count - from .pos))
+FoundAnswer s c x (InBytes from n d) = Gave s c x (bytesOf s (bitAt from) n) d × (8 * n ≤ from .count - from .pos)
 FoundAnswer s c x (InUnits from n len d) =
-    (v : List ℕ) × (Gave s c x v d × ((unitsToUtf8 (unitsOf s (bitAt from) n) ≡ some v) × ((len ≡ length v) × ((len ≤ 4096) × (n ≤ 2 ^ 19)))))
+    (v : List ℕ) × (Gave s c x v d × ((unitsToUtf8 (unitsOf s (bitAt from) n) ≡ some v) × ((len ≡ length v) × (n ≤ 2 ^ 19))))
 FoundAnswer s c x (NotFound r) = Refuses x r

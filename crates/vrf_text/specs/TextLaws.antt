@@ -30,7 +30,8 @@ dropZero-snoc [] = refl
 dropZero-snoc (x ∷ []) = refl
 dropZero-snoc (x ∷ y ∷ t) = ap (_∷_ x) (dropZero-snoc (y ∷ t))
 
-textBytes-ok : (start w n pos : ℕ) (l : List ℕ) → n ≤ 1048576 → n ≤ length l
+-- enough bytes
+pub textBytes-ok : (start w n pos : ℕ) (l : List ℕ) → n ≤ 1048576 → n ≤ length l
     → textBytes start w n pos l ≡ ok (take n l) (pos + 8 * n) (drop n l)
 unfolding textBytes
 textBytes-ok start w n pos l h k = rw (le-ltb 1048576 n h, le-ltb (length l) n k)
@@ -47,7 +48,8 @@ text8-decodes start w t v pos tail =
     (textBytes-ok start w (length t + 1) pos (b ++ tail) few (omega arith))
     ∙ rw (take-at b tail (length t + 1) n, drop-at b tail (length t + 1) n, dropZero-snoc t, v .valid, le-ltb 4096 (length t) (v .short), n)
 
-textOf-8 : (start w : ℕ) → 0 < w → w < 2 ^ 31 → textOf start w ≡ text8 start w w
+-- a length word that says bytes
+pub textOf-8 : (start w : ℕ) → 0 < w → w < 2 ^ 31 → textOf start w ≡ text8 start w w
 unfolding textOf
 textOf-8 start w h k = rw (ne-eqb w 0 (λ e. omega arith), lt-ltb w (2 ^ 31) k)
 

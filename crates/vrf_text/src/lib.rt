@@ -19,7 +19,6 @@ ghost use Rattle.vrf_text.specs.Steps.{
   Step,
   Holds,
   Passed,
-  follows,
   Step16,
   Holds16,
   unitsOf,
@@ -50,6 +49,48 @@ const TEXT_BYTES: u32 = 4_096;
 // The top bit of each byte of a word.
 const HIGH: u64 = 0x8080_8080_8080_8080;
 
+// A text that was read: its length in bytes and the cursor behind it.
+pub enum Text {
+    Read(u32, Cursor),
+    Refused(Refusal),
+}
+
+// What a caller's text meets.
+pub enum Caller {
+    Accepted,
+    Refused(Refusal),
+}
+
+// A character, and how many units of UTF-16 it takes: 0 where there is none.
+struct Char {
+    code: u32,
+    units: usize,
+}
+
+// What a pass over units finds: how many bytes they have as UTF-8.
+enum Measured {
+    Bytes(u32),
+    Bad,
+}
+
+// What a text's length word says: no text, n bytes of UTF-8, n units of UTF-16.
+enum Length {
+    Empty,
+    Bytes(u32),
+    Units(u32),
+}
+
+// A text that was tested and is still where it stands, with the cursor behind it: n bytes of UTF-8 at a cursor, or n units of
+// UTF-16 at one, with the number of their bytes as UTF-8.
+enum Found {
+    Bytes(Cursor, u32, Cursor),
+    Units(Cursor, u32, u32, Cursor),
+    Refused(Refusal),
+}
+
+// ---- UTF-8. A loop goes by words of eight bytes, in which 0 stands past the end of the text: 0 is no tail byte, so a character
+// that is cut off is bad by itself, and ASCII may be passed beyond the end.
+
 // Whether b is from lo to hi.
 fn within(b: u64, lo: u64, hi: u64) -> bool
     ensures { λ r. ⌜ r ≡ within lo hi b ⌝ }
@@ -57,24 +98,11 @@ fn within(b: u64, lo: u64, hi: u64) -> bool
     lo <= b && b <= hi
 }
 
-// Whether b may follow a, which leads a character of three or four bytes.
-fn follows(a: u64, b: u64) -> bool
-    requires { ⌜ (0xE0 ≤ a) × (a ≤ 0xF4) ⌝ }
-    ensures { λ r. ⌜ r ≡ follows a b ⌝ }
+// x where a is k, and y elsewhere.
+fn pick(a: u64, k: u64, x: u64, y: u64) -> u64
+    ensures { λ r. ⌜ r ≡ cond (eqb a k) x y ⌝ }
 {
-    if a == 0xE0 {
-        return within(b, 0xA0, 0xBF);
-    }
-    if a == 0xED {
-        return within(b, 0x80, 0x9F);
-    }
-    if a == 0xF0 {
-        return within(b, 0x90, 0xBF);
-    }
-    if a == 0xF4 {
-        return within(b, 0x80, 0x8F);
-    }
-    within(b, 0x80, 0xBF)
+    if a == k { x } else { y }
 }
 
 // How many bytes the character has that begins the word w, or 0 where none does.
@@ -88,65 +116,84 @@ fn char_len(w: u64) -> usize
     if a < 0xC2 {
         return 0;
     }
-    if 0xF4 < a {
-        return 0;
-    }
     let second = w / 256;
     let b = second % 256;
     if a < 0xE0 {
         return if within(b, 0x80, 0xBF) { 2 } else { 0 };
-    }
-    if !follows(a, b) {
-        return 0;
     }
     let third = second / 256;
     if !within(third % 256, 0x80, 0xBF) {
         return 0;
     }
     if a < 0xF0 {
-        return 3;
+        return if within(b, pick(a, 0xE0, 0xA0, 0x80), pick(a, 0xED, 0x9F, 0xBF)) {
+            3
+        } else {
+            0
+        };
     }
-    if within(third / 256 % 256, 0x80, 0xBF) {
+    if 0xF4 < a {
+        return 0;
+    }
+    if !within(third / 256 % 256, 0x80, 0xBF) {
+        return 0;
+    }
+    if within(b, pick(a, 0xF0, 0x90, 0x80), pick(a, 0xF4, 0x8F, 0xBF)) {
         4
     } else {
         0
     }
 }
 
-// How many bytes may be passed where the word w holds the next eight: all of them where they are ASCII.
+// How many bytes may be passed where the word w holds the next eight: all of them where they are ASCII, else a character; 0 says
+// that the text is bad.
 fn step(w: u64) -> usize
     ensures { λ r. ⌜ Step w 8 r ⌝ }
 {
     if w & HIGH == 0 { 8 } else { char_len(w) }
 }
 
-// Whether the bytes 8 to 31 of s are ASCII, by one test.
-fn ascii_24(s: &[u8]) -> bool
-    ensures { λ r. ⌜ (r ≡ true → utf8 (drop 32 (now (s .entry))) ≡ utf8 (drop 8 (now (s .entry)))) ⌝ }
+// Whether s begins with 32 ASCII bytes: one test of four words.
+fn ascii_32(s: &[u8]) -> bool
+    ensures { λ r. ⌜ (r ≡ true → (32 ≤ length (now (s .entry))) × (utf8 (drop 32 (now (s .entry))) ≡ utf8 (now (s .entry)))) ⌝ }
 {
-    let a = vrf_bitio::bits_at(s, 64, 64) & HIGH;
-    let b = vrf_bitio::bits_at(s, 128, 64) & HIGH;
-    let c = vrf_bitio::bits_at(s, 192, 64) & HIGH;
-    a | b | c == 0
+    if s.len() < 32 {
+        return false;
+    }
+    let a = vrf_bitio::bits_at(s, 0, 64) & HIGH;
+    let b = vrf_bitio::bits_at(s, 64, 64) & HIGH;
+    let c = vrf_bitio::bits_at(s, 128, 64) & HIGH;
+    let d = vrf_bitio::bits_at(s, 192, 64) & HIGH;
+    a | b | c | d == 0
 }
 
-// How many bytes of s may be passed at its start.
+// How many bytes of s may be passed at its start, in blocks of ASCII.
+fn ascii_run(s: &[u8]) -> usize
+    ensures { λ r. ⌜ (r ≤ length (now (s .entry))) × (utf8 (drop r (now (s .entry))) ≡ utf8 (now (s .entry))) ⌝ }
+{
+    let mut i = 0;
+    while i < s.len() {
+        if !ascii_32(&s[i..]) {
+            return i;
+        }
+        i += 32;
+    }
+    i
+}
+
+// How many bytes of s may be passed at its start: a block of ASCII, a word of it, or a character.
 fn step_in(s: &[u8]) -> usize
     ensures { λ r. ⌜ (r ≤ 32) × Passed (now (s .entry)) r ⌝ }
 {
     let k = step(vrf_bitio::bits_at(s, 0, 64));
-    if k == 8 && 32 <= s.len() && ascii_24(s) {
-        32
-    } else {
-        k
-    }
+    if k == 8 && ascii_32(s) { 32 } else { k }
 }
 
 // Whether t is UTF-8.
 pub fn is_utf8(t: &[u8]) -> bool
     ensures { λ r. ⌜ r ≡ utf8 (now (t .entry)) ⌝ }
 {
-    let mut i = 0;
+    let mut i = ascii_run(t);
     while i < t.len() {
         let k = step_in(&t[i..]);
         if k == 0 {
@@ -168,9 +215,9 @@ fn word_at(s: &[u8], p: u64, n: usize) -> u64
     }
 }
 
-// Whether the n bytes from bit p of s on are UTF-8, by the steps of `is_utf8`.
-// A bit of a slice of any length has no number of 64 bits, so `is_utf8` is not this loop at bit 0; nor would it be as fast, since
-// here each word is put together from two.
+// Whether the n bytes from bit p of s on are UTF-8: the steps of `is_utf8`, on words that are put together at a bit.
+// `is_utf8` is not this loop at bit 0. It takes a slice of any length, whose bits 64 bits do not number, and it reads a word by one
+// load. What is proved of a step is proved once, for both.
 fn utf8_bits(s: &[u8], p: u64, n: usize) -> bool
     requires { ⌜ p + 8 * n < 2 ^ 64 ⌝ }
     ensures { λ r. ⌜ r ≡ utf8 (bytesOf (now (s .entry)) p n) ⌝ }
@@ -202,11 +249,7 @@ fn utf8_at(s: &[u8], p: u64, n: usize) -> bool
     is_utf8(&s[a..e])
 }
 
-// A character, and how many units of UTF-16 it takes: 0 where there is none.
-struct Char {
-    code: u32,
-    units: usize,
-}
+// ---- UTF-16. The loops go by words of two units, in which 0 stands past the end: 0 is no low surrogate.
 
 // The character that begins the word w of two units.
 fn char16(w: u64) -> Char
@@ -268,12 +311,6 @@ fn utf8_len(u: u32) -> u32
     }
 }
 
-// What a pass over units finds: the bytes of their UTF-8.
-enum Measured {
-    Bytes(u32),
-    Bad,
-}
-
 // The length as UTF-8 of the n units from bit p of s on.
 fn utf16_length(s: &[u8], p: u64, n: usize) -> Measured
     requires { ⌜ (p < 2 ^ 33) × (n ≤ 2 ^ 19) ⌝ }
@@ -320,7 +357,7 @@ fn put_char(out: &mut [u8], at: usize, u: u32) -> usize
     at + 4
 }
 
-// Writes the UTF-8 of the n units from bit p of s on into the first bytes of out.
+// Writes the UTF-8 of the n units from bit p of s on, which `utf16_length` has measured, into the first bytes of out.
 fn put_units(s: &[u8], p: u64, n: usize, out: &mut [u8])
     requires { ⌜ (p < 2 ^ 33) × (n ≤ 2 ^ 19) × Room (unitsToUtf8 (unitsOf (now s) p n)) (length (now out)) ⌝ }
     ensures { λ r. ⌜ Wrote (unitsToUtf8 (unitsOf (now (s .entry)) p n)) (now (out .entry)) (now (out .exit)) ⌝ }
@@ -334,14 +371,9 @@ fn put_units(s: &[u8], p: u64, n: usize, out: &mut [u8])
     }
 }
 
-// What a text's length word says.
-enum Length {
-    Empty,
-    Bytes(u32),
-    Units(u32),
-}
+// ---- a text on the wire: it is tested where it stands, so that a refused one leaves the target as it was, and then taken
 
-// A number below 0 is negated, the lowest too.
+// What a text's length word says. A number below 0 is negated, the lowest too.
 fn length_of(n: i32) -> Length
     ensures { λ r. ⌜ LengthOf n r ⌝ }
 {
@@ -352,13 +384,6 @@ fn length_of(n: i32) -> Length
         return Length::Empty;
     }
     Length::Bytes(n as u32)
-}
-
-// A text where it stands: its first bit's cursor, its bytes or units, as UTF-8 bytes, and the cursor behind it.
-enum Found {
-    Bytes(Cursor, u32, Cursor),
-    Units(Cursor, u32, u32, Cursor),
-    Refused(Refusal),
 }
 
 // Whether n bytes are more than a text may have, or more than are left.
@@ -486,11 +511,6 @@ fn find_text(s: &[u8], c: Cursor) -> Found
     }
 }
 
-pub enum Text {
-    Read(u32, Cursor),
-    Refused(Refusal),
-}
-
 // The refusal of a text of n bytes for which out is short.
 fn no_room(n: u32, room: usize) -> Refusal
     requires { ⌜ room < n ⌝ }
@@ -505,7 +525,7 @@ fn no_room(n: u32, room: usize) -> Refusal
 
 // Copies the n bytes of UTF-8 at a cursor into the first bytes of out.
 fn take_bytes(s: &[u8], c: Cursor, n: u32, next: Cursor, out: &mut [u8]) -> Text
-    requires { ⌜ (n ≤ 4096) × (8 * n ≤ c .count - c .pos) ⌝ }
+    requires { ⌜ 8 * n ≤ c .count - c .pos ⌝ }
     ensures { λ r. ⌜ TextAnswer (now (s .entry)) next
         (readAt (now (s .entry)) next (roomFor (length (now (out .entry))) (bytesOf (now (s .entry)) (bitAt c) n)))
         (now (out .entry)) (now (out .exit)) r ⌝ }
@@ -546,10 +566,7 @@ pub fn read_fstring(s: &[u8], c: Cursor, out: &mut [u8]) -> Text
     }
 }
 
-pub enum Caller {
-    Accepted,
-    Refused(Refusal),
-}
+// ---- callers' text
 
 // A text that a caller hands in: 40 not UTF-8, then 41 more bytes than a text may have.
 pub fn check_text(t: &[u8]) -> Caller

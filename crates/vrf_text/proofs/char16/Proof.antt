@@ -24,7 +24,11 @@ returns-4 : tie.Need-returns-4
 returns-4 c = no-low (c .before .before .before .before .args .w) (c .before .before .before .if1 .left) (c .before .if3 .left) (λ e. omega (arith, low-range (next (c .before .before .before .before .args .w)) e))
 
 returns-5 : tie.Need-returns-5
-returns-5 c = no-low (c .before .before .before .before .before .args .w) (c .before .before .before .before .if1 .left) (c .before .before .if3 .left) (λ e. omega (arith, low-range (next (c .before .before .before .before .before .args .w)) e))
+returns-5 c = let c2 = c .before .before in
+    let c4 = c2 .before .before in
+    let c5 = c4 .before in
+    let a = c5 .args in
+    no-low (a .w) (c4 .if1 .left) (c2 .if3 .left) (λ e. omega (arith, low-range (next (a .w)) e))
 
 mul-t8 : tie.Need-mul-t8
 mul-t8 c = search needs

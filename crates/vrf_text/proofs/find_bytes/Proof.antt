@@ -15,7 +15,10 @@ too-long-requires : tie.Need-too-long-requires
 too-long-requires c κs = search needs
 
 returns : tie.Need-returns
-returns c = bytes-refused (now (c .before .before .before .args .s)) (c .before .before .before .args .c) (c .before .before .before .args .start) (c .before .before .before .args .n) (c .before .before .before .args .n) (c .before .too-long .ensures) (c .if1 .taken)
+returns c = let c1 = c .before in
+    let c3 = c1 .before .before in
+    let a = c3 .args in
+    bytes-refused (now (a .s)) (a .c) (a .start) (a .n) (a .n) (c1 .too-long .ensures) (c .if1 .taken)
 
 cast-p : tie.Need-cast-p
 cast-p c = search needs
@@ -51,30 +54,60 @@ utf8-at-requires : tie.Need-utf8-at-requires
 utf8-at-requires c κs = search needs
 
 returns-2 : tie.Need-returns-2
-returns-2 c = bad-text _ _ _ _ _ _ (bytes-reached (now (c .before .before .before .before .before .before .before .args .s)) (c .before .before .before .before .before .before .before .args .c) (c .before .before .before .before .before .before .before .args .start) (c .before .before .before .before .before .before .before .args .n) (c .before .before .before .before .before .before .before .args .n) (c .before .before .before .before .before .too-long .ensures) (c .before .before .before .before .if1 .left) (c .before .before .before .before .before .before .before .pre) (c .before .before .before .bits-at .ensures) (c .before .before .trimmed .ensures .0))
-    (not-utf8 (bytesOf (now (c .before .before .before .before .before .before .before .args .s)) (bitAt (c .before .before .before .before .before .before .before .args .c)) (c .before .before .trimmed .result)) (c .before .utf8-at .ensures) (not-true _ (c .if2 .taken)))
+returns-2 c = let c1 = c .before in
+    let c2 = c1 .before in
+    let c3 = c2 .before in
+    let c4 = c3 .before in
+    let c5 = c4 .before in
+    let c7 = c5 .before .before in
+    let a = c7 .args in
+    bad-text _ _ _ _ _ _ (bytes-reached (now (a .s)) (a .c) (a .start) (a .n) (a .n) (c5 .too-long .ensures) (c4 .if1 .left) (c7 .pre) (c3 .bits-at .ensures) (c2 .trimmed .ensures .0))
+    (not-utf8 (bytesOf (now (a .s)) (bitAt (a .c)) (c2 .trimmed .result)) (c1 .utf8-at .ensures) (not-true _ (c .if2 .taken)))
 
 cast-t24 : tie.Need-cast-t24
 cast-t24 c = search needs
 
 returns-3 : tie.Need-returns-3
-returns-3 c = long-text _ _ _ _ _ _ (bytes-reached (now (c .before .before .before .before .before .before .before .before .args .s)) (c .before .before .before .before .before .before .before .before .args .c) (c .before .before .before .before .before .before .before .before .args .start) (c .before .before .before .before .before .before .before .before .args .n) (c .before .before .before .before .before .before .before .before .args .n) (c .before .before .before .before .before .before .too-long .ensures) (c .before .before .before .before .before .if1 .left) (c .before .before .before .before .before .before .before .before .pre) (c .before .before .before .before .bits-at .ensures) (c .before .before .before .trimmed .ensures .0))
-    _ (is-utf8 (bytesOf (now (c .before .before .before .before .before .before .before .before .args .s)) (bitAt (c .before .before .before .before .before .before .before .before .args .c)) (c .before .before .before .trimmed .result)) (c .before .before .utf8-at .ensures) (not-false _ (c .before .if2 .left)))
-    (sym (bytes-length (now (c .before .before .before .before .before .before .before .before .args .s)) (bitAt (c .before .before .before .before .before .before .before .before .args .c)) (c .before .before .before .trimmed .result))) (c .if3 .taken)
+returns-3 c = let c1 = c .before in
+    let c2 = c1 .before in
+    let c3 = c2 .before in
+    let c4 = c3 .before in
+    let c5 = c4 .before in
+    let c6 = c5 .before in
+    let c8 = c6 .before .before in
+    let a = c8 .args in
+    long-text _ _ _ _ _ _ (bytes-reached (now (a .s)) (a .c) (a .start) (a .n) (a .n) (c6 .too-long .ensures) (c5 .if1 .left) (c8 .pre) (c4 .bits-at .ensures) (c3 .trimmed .ensures .0))
+    _ (is-utf8 (bytesOf (now (a .s)) (bitAt (a .c)) (c3 .trimmed .result)) (c2 .utf8-at .ensures) (not-false _ (c1 .if2 .left)))
+    (sym (bytes-length (now (a .s)) (bitAt (a .c)) (c3 .trimmed .result))) (c .if3 .taken)
 
 mul-t16 : tie.Need-mul-t16
-mul-t16 c = omega (arith, few (c .before .before .before .before .before .before .before .before .args .c) (c .before .before .before .before .before .before .before .before .args .n) (c .before .before .before .before .before .before .too-long .ensures) (c .before .before .before .before .before .if1 .left))
+mul-t16 c = let c5 = c .before .before .before .before .before in
+    let c6 = c5 .before in
+    let c8 = c6 .before .before in
+    let a = c8 .args in
+    omega (arith, few (a .c) (a .n) (c6 .too-long .ensures) (c5 .if1 .left))
 
 add-t26 : tie.Need-add-t26
-add-t26 c = omega (arith, few (c .before .before .before .before .before .before .before .before .args .c) (c .before .before .before .before .before .before .before .before .args .n) (c .before .before .before .before .before .before .too-long .ensures) (c .before .before .before .before .before .if1 .left))
+add-t26 c = let c5 = c .before .before .before .before .before in
+    let c6 = c5 .before in
+    let c8 = c6 .before .before in
+    let a = c8 .args in
+    omega (arith, few (a .c) (a .n) (c6 .too-long .ensures) (c5 .if1 .left))
 
 returns-4 : tie.Need-returns-4
-returns-4 c = (
-  good-text _ _ _ _ _ _ (bytes-reached (now (c .before .before .before .before .before .before .before .before .args .s)) (c .before .before .before .before .before .before .before .before .args .c) (c .before .before .before .before .before .before .before .before .args .start) (c .before .before .before .before .before .before .before .before .args .n) (c .before .before .before .before .before .before .before .before .args .n) (c .before .before .before .before .before .before .too-long .ensures) (c .before .before .before .before .before .if1 .left) (c .before .before .before .before .before .before .before .before .pre) (c .before .before .before .before .bits-at .ensures) (c .before .before .before .trimmed .ensures .0))
-      _ (is-utf8 (bytesOf (now (c .before .before .before .before .before .before .before .before .args .s)) (bitAt (c .before .before .before .before .before .before .before .before .args .c)) (c .before .before .before .trimmed .result)) (c .before .before .utf8-at .ensures) (not-false _ (c .before .if2 .left)))
-      (sym (bytes-length (now (c .before .before .before .before .before .before .before .before .args .s)) (bitAt (c .before .before .before .before .before .before .before .before .args .c)) (c .before .before .before .trimmed .result))) (c .if3 .left),
-  (c .if3 .left, omega (arith, few (c .before .before .before .before .before .before .before .before .args .c) (c .before .before .before .before .before .before .before .before .args .n) (c .before .before .before .before .before .before .too-long .ensures) (c .before .before .before .before .before .if1 .left), c .before .before .before .trimmed .ensures .1)),
-)
+returns-4 c = let c1 = c .before in
+    let c2 = c1 .before in
+    let c3 = c2 .before in
+    let c4 = c3 .before in
+    let c5 = c4 .before in
+    let c6 = c5 .before in
+    let c8 = c6 .before .before in
+    let a = c8 .args in (
+      good-text _ _ _ _ _ _ (bytes-reached (now (a .s)) (a .c) (a .start) (a .n) (a .n) (c6 .too-long .ensures) (c5 .if1 .left) (c8 .pre) (c4 .bits-at .ensures) (c3 .trimmed .ensures .0))
+          _ (is-utf8 (bytesOf (now (a .s)) (bitAt (a .c)) (c3 .trimmed .result)) (c2 .utf8-at .ensures) (not-false _ (c1 .if2 .left)))
+          (sym (bytes-length (now (a .s)) (bitAt (a .c)) (c3 .trimmed .result))) (c .if3 .left),
+      omega (arith, few (a .c) (a .n) (c6 .too-long .ensures) (c5 .if1 .left), c3 .trimmed .ensures .1),
+    )
 
 pub find-bytes-spec : {M : Type 1} → statement M
 find-bytes-spec =

@@ -20,7 +20,10 @@ sub-t16 : tie.Need-sub-t16
 sub-t16 c = search needs
 
 returns : tie.Need-returns
-returns c = units-refused (now (c .before .before .before .args .s)) (c .before .before .before .args .c) (c .before .before .before .args .start) (4294967296 - c .before .before .before .args .n) (c .before .before .before .args .n) (c .before .too-long .ensures) (c .if1 .taken)
+returns c = let c1 = c .before in
+    let c3 = c1 .before .before in
+    let a = c3 .args in
+    units-refused (now (a .s)) (a .c) (a .start) (4294967296 - a .n) (a .n) (c1 .too-long .ensures) (c .if1 .taken)
 
 cast-p : tie.Need-cast-p
 cast-p c = search needs
@@ -53,7 +56,11 @@ cast-utf16-length : tie.Need-cast-utf16-length
 cast-utf16-length c = search needs
 
 utf16-length-requires : tie.Need-utf16-length-requires
-utf16-length-requires c κs = omega (arith, few (c .before .before .before .before .before .args .c) (2 * c .before .before .before .before .before .args .n) (c .before .before .before .too-long .ensures) (c .before .before .if1 .left), c .trimmed .ensures .1)
+utf16-length-requires c κs = let c2 = c .before .before in
+    let c3 = c2 .before in
+    let c5 = c3 .before .before in
+    let a = c5 .args in
+    omega (arith, few (a .c) (2 * a .n) (c3 .too-long .ensures) (c2 .if1 .left), c .trimmed .ensures .1)
 
 enum-told : tie.Need-enum-told
 enum-told c = search needs
@@ -65,29 +72,60 @@ cast-t27 : tie.Need-cast-t27
 cast-t27 c = search needs
 
 returns-2 : tie.Need-returns-2
-returns-2 c = let m = subst (MeasuredAnswer (unitsToUtf8 (unitsOf (now (c .before .before .before .before .before .before .before .before .before .before .args .s)) (bitAt (c .before .before .before .before .before .before .before .before .before .before .args .c)) (c .before .before .before .before .before .trimmed .result)))) (c .before .before .len .given .1) (c .before .before .before .before .utf16-length .ensures) in
-    long-text _ _ _ _ _ _ (units-reached (now (c .before .before .before .before .before .before .before .before .before .before .args .s)) (c .before .before .before .before .before .before .before .before .before .before .args .c) (c .before .before .before .before .before .before .before .before .before .before .args .start) (4294967296 - c .before .before .before .before .before .before .before .before .before .before .args .n) (c .before .before .before .before .before .before .before .before .before .before .args .n) (c .before .before .before .before .before .before .before .before .too-long .ensures) (c .before .before .before .before .before .before .before .if1 .left) (c .before .before .before .before .before .before .before .before .before .before .pre .0) (c .before .before .before .before .before .before .bits-at .ensures) (c .before .before .before .before .before .trimmed .ensures .0))
+returns-2 c = let c2 = c .before .before in
+    let c4 = c2 .before .before in
+    let c5 = c4 .before in
+    let c6 = c5 .before in
+    let c7 = c6 .before in
+    let c8 = c7 .before in
+    let c10 = c8 .before .before in
+    let a = c10 .args in
+    let m = subst (MeasuredAnswer (unitsToUtf8 (unitsOf (now (a .s)) (bitAt (a .c)) (c5 .trimmed .result)))) (c2 .len .given .1) (c4 .utf16-length .ensures) in
+    long-text _ _ _ _ _ _ (units-reached (now (a .s)) (a .c) (a .start) (4294967296 - a .n) (a .n) (c8 .too-long .ensures) (c7 .if1 .left) (c10 .pre .0) (c6 .bits-at .ensures) (c5 .trimmed .ensures .0))
     (m .0) (m .1 .0) (m .1 .1) (c .if2 .taken)
 
 mul-t29 : tie.Need-mul-t29
-mul-t29 c = omega (arith, few (c .before .before .before .before .before .before .before .before .before .before .args .c) (2 * c .before .before .before .before .before .before .before .before .before .before .args .n) (c .before .before .before .before .before .before .before .before .too-long .ensures) (c .before .before .before .before .before .before .before .if1 .left))
+mul-t29 c = let c7 = c .before .before .before .before .before .before .before in
+    let c8 = c7 .before in
+    let c10 = c8 .before .before in
+    let a = c10 .args in
+    omega (arith, few (a .c) (2 * a .n) (c8 .too-long .ensures) (c7 .if1 .left))
 
 add-t30 : tie.Need-add-t30
-add-t30 c = omega (arith, few (c .before .before .before .before .before .before .before .before .before .before .args .c) (2 * c .before .before .before .before .before .before .before .before .before .before .args .n) (c .before .before .before .before .before .before .before .before .too-long .ensures) (c .before .before .before .before .before .before .before .if1 .left))
+add-t30 c = let c7 = c .before .before .before .before .before .before .before in
+    let c8 = c7 .before in
+    let c10 = c8 .before .before in
+    let a = c10 .args in
+    omega (arith, few (a .c) (2 * a .n) (c8 .too-long .ensures) (c7 .if1 .left))
 
 returns-3 : tie.Need-returns-3
-returns-3 c = bad-text _ _ _ _ _ _ (units-reached (now (c .before .before .before .before .before .before .before .before .args .s)) (c .before .before .before .before .before .before .before .before .args .c) (c .before .before .before .before .before .before .before .before .args .start) (4294967296 - c .before .before .before .before .before .before .before .before .args .n) (c .before .before .before .before .before .before .before .before .args .n) (c .before .before .before .before .before .before .too-long .ensures) (c .before .before .before .before .before .if1 .left) (c .before .before .before .before .before .before .before .before .pre .0) (c .before .before .before .before .bits-at .ensures) (c .before .before .before .trimmed .ensures .0))
-    (subst (MeasuredAnswer (unitsToUtf8 (unitsOf (now (c .before .before .before .before .before .before .before .before .args .s)) (bitAt (c .before .before .before .before .before .before .before .before .args .c)) (c .before .before .before .trimmed .result)))) (c .enum-told .given .1) (c .before .before .utf16-length .ensures))
+returns-3 c = let c2 = c .before .before in
+    let c3 = c2 .before in
+    let c4 = c3 .before in
+    let c5 = c4 .before in
+    let c6 = c5 .before in
+    let c8 = c6 .before .before in
+    let a = c8 .args in
+    bad-text _ _ _ _ _ _ (units-reached (now (a .s)) (a .c) (a .start) (4294967296 - a .n) (a .n) (c6 .too-long .ensures) (c5 .if1 .left) (c8 .pre .0) (c4 .bits-at .ensures) (c3 .trimmed .ensures .0))
+    (subst (MeasuredAnswer (unitsToUtf8 (unitsOf (now (a .s)) (bitAt (a .c)) (c3 .trimmed .result)))) (c .enum-told .given .1) (c2 .utf16-length .ensures))
 
 returns-4 : tie.Need-returns-4
-returns-4 c = let m = subst (MeasuredAnswer (unitsToUtf8 (unitsOf (now (c .before .before .before .before .before .before .before .before .before .before .args .s)) (bitAt (c .before .before .before .before .before .before .before .before .before .before .args .c)) (c .before .before .before .before .before .trimmed .result)))) (c .before .before .len .given .1) (c .before .before .before .before .utf16-length .ensures) in (
-  m .0,
-  (
-    good-text _ _ _ _ _ _ (units-reached (now (c .before .before .before .before .before .before .before .before .before .before .args .s)) (c .before .before .before .before .before .before .before .before .before .before .args .c) (c .before .before .before .before .before .before .before .before .before .before .args .start) (4294967296 - c .before .before .before .before .before .before .before .before .before .before .args .n) (c .before .before .before .before .before .before .before .before .before .before .args .n) (c .before .before .before .before .before .before .before .before .too-long .ensures) (c .before .before .before .before .before .before .before .if1 .left) (c .before .before .before .before .before .before .before .before .before .before .pre .0) (c .before .before .before .before .before .before .bits-at .ensures) (c .before .before .before .before .before .trimmed .ensures .0))
-        (m .0) (m .1 .0) (m .1 .1) (c .if2 .left),
-    (m .1 .0, (m .1 .1, (c .if2 .left, omega (arith, few (c .before .before .before .before .before .before .before .before .before .before .args .c) (2 * c .before .before .before .before .before .before .before .before .before .before .args .n) (c .before .before .before .before .before .before .before .before .too-long .ensures) (c .before .before .before .before .before .before .before .if1 .left), c .before .before .before .before .before .trimmed .ensures .1)))),
-  ),
-)
+returns-4 c = let c2 = c .before .before in
+    let c4 = c2 .before .before in
+    let c5 = c4 .before in
+    let c6 = c5 .before in
+    let c7 = c6 .before in
+    let c8 = c7 .before in
+    let c10 = c8 .before .before in
+    let a = c10 .args in
+    let m = subst (MeasuredAnswer (unitsToUtf8 (unitsOf (now (a .s)) (bitAt (a .c)) (c5 .trimmed .result)))) (c2 .len .given .1) (c4 .utf16-length .ensures) in (
+      m .0,
+      (
+        good-text _ _ _ _ _ _ (units-reached (now (a .s)) (a .c) (a .start) (4294967296 - a .n) (a .n) (c8 .too-long .ensures) (c7 .if1 .left) (c10 .pre .0) (c6 .bits-at .ensures) (c5 .trimmed .ensures .0))
+            (m .0) (m .1 .0) (m .1 .1) (c .if2 .left),
+        (m .1 .0, (m .1 .1, omega (arith, few (a .c) (2 * a .n) (c8 .too-long .ensures) (c7 .if1 .left), c5 .trimmed .ensures .1))),
+      ),
+    )
 
 pub find-units-spec : {M : Type 1} → statement M
 find-units-spec =

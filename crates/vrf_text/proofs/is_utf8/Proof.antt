@@ -1,7 +1,7 @@
 -- `vrf_text::is_utf8` meets its contract: each step passes bytes that decide nothing.
 use native.Mathlib.Omega.{arith}
 use denote.Ref.{now}
-use mathlib.Core.Path.{_≡_, refl}
+use mathlib.Core.Path.{_≡_}
 use Prim.Native.Nat.{_-_}
 use lib.ListN.{length, drop}
 use Rattle.vrf_text.specs.Utf8.{utf8}
@@ -15,8 +15,11 @@ Inv-loop t i₀ i = utf8 (drop i t) ≡ utf8 t
 abbrev μ-loop : tie.MeasureT-loop
 μ-loop t i₀ i = length t - i
 
+ascii-run-requires : tie.Need-ascii-run-requires Inv-loop μ-loop
+ascii-run-requires c κs = tt
+
 loop-holds : tie.Need-loop-holds Inv-loop μ-loop
-loop-holds c = refl
+loop-holds c = c .ascii-run .ensures .1
 
 sub-step-in : tie.Need-sub-step-in Inv-loop μ-loop
 sub-step-in c = omega arith
@@ -31,7 +34,13 @@ step-in-requires : tie.Need-step-in-requires Inv-loop μ-loop
 step-in-requires c κs = tt
 
 returns : tie.Need-returns Inv-loop μ-loop
-returns c = bad (now (c .before .before .before .before .before .before .args .t)) (c .before .before .before .before .loop .i) (c .before .before .before .before .loop .inv) (c .before .step-in .result) (c .if1 .taken) (rest (now (c .before .before .before .before .before .before .args .t)) (c .before .before .before .before .loop .i) (c .before .step-in .result) (c .before .step-in .ensures .1))
+returns c = let c1 = c .before in
+    let c4 = c1 .before .before .before in
+    let c7 = c4 .before .before .before in
+    let a = c7 .args in
+    let l = c4 .loop in
+    bad (now (a .t)) (l .i) (l .inv) (c1 .step-in .result) (c .if1 .taken)
+    (rest (now (a .t)) (l .i) (c1 .step-in .result) (c1 .step-in .ensures .1))
 
 add-i : tie.Need-add-i Inv-loop μ-loop
 add-i c = omega arith
@@ -40,10 +49,16 @@ loop-less : tie.Need-loop-less Inv-loop μ-loop
 loop-less c = omega arith
 
 loop-again : tie.Need-loop-again Inv-loop μ-loop
-loop-again c = on (now (c .before .before .before .before .before .before .args .t)) (c .before .before .before .before .loop .i) (c .before .before .before .before .loop .inv) (c .before .step-in .result) (c .if1 .left) (rest (now (c .before .before .before .before .before .before .args .t)) (c .before .before .before .before .loop .i) (c .before .step-in .result) (c .before .step-in .ensures .1))
+loop-again c = let c1 = c .before in
+    let c4 = c1 .before .before .before in
+    let c7 = c4 .before .before .before in
+    let a = c7 .args in
+    let l = c4 .loop in
+    on (now (a .t)) (l .i) (l .inv) (c1 .step-in .result) (c .if1 .left)
+    (rest (now (a .t)) (l .i) (c1 .step-in .result) (c1 .step-in .ensures .1))
 
 returns-2 : tie.Need-returns-2 Inv-loop μ-loop
-returns-2 c = end (now (c .before .before .before .args .t)) (c .before .loop .i) (c .before .loop .inv) (c .loop-test .left)
+returns-2 c = end (now (c .before .before .before .before .args .t)) (c .before .loop .i) (c .before .loop .inv) (c .loop-test .left)
 
 pub is-utf8-spec : {M : Type 1} → statement M
 is-utf8-spec =
@@ -51,6 +66,7 @@ is-utf8-spec =
     (tie.spec
     Inv-loop
     μ-loop
+    ascii-run-requires
     loop-holds
     sub-step-in
     part-step-in-start

@@ -92,7 +92,10 @@ same-length-3 : tie.Need-same-length-3
 same-length-3 c = simp length-set
 
 returns-3 : tie.Need-returns-3
-returns-3 c = (omega (arith, length-3 (c .before .before .before .args .u) (c .before .if2 .left) (c .if3 .taken)), put-3 (now (c .before .before .before .args .out)) (c .before .before .before .args .at) (c .before .before .before .args .u) (c .before .before .before .pre .1) (c .before .if2 .left) (c .if3 .taken))
+returns-3 c = let c1 = c .before in
+    let c3 = c1 .before .before in
+    let a = c3 .args in
+    (omega (arith, length-3 (a .u) (c1 .if2 .left) (c .if3 .taken)), put-3 (now (a .out)) (a .at) (a .u) (c3 .pre .1) (c1 .if2 .left) (c .if3 .taken))
 
 add-out-9 : tie.Need-add-out-9
 add-out-9 c = search needs
@@ -146,7 +149,9 @@ same-length-4 : tie.Need-same-length-4
 same-length-4 c = simp length-set
 
 returns-4 : tie.Need-returns-4
-returns-4 c = (omega (arith, length-4 (c .before .before .before .args .u) (c .if3 .left)), put-4 (now (c .before .before .before .args .out)) (c .before .before .before .args .at) (c .before .before .before .args .u) (c .before .before .before .pre .1) (c .if3 .left))
+returns-4 c = let c3 = c .before .before .before in
+    let a = c3 .args in
+    (omega (arith, length-4 (a .u) (c .if3 .left)), put-4 (now (a .out)) (a .at) (a .u) (c3 .pre .1) (c .if3 .left))
 
 pub put-char-spec : {M : Type 1} → statement M
 put-char-spec =

@@ -33,34 +33,55 @@ char16-requires : tie.Need-char16-requires Inv-loop μ-loop
 char16-requires c κs = tt
 
 put-char-requires : tie.Need-put-char-requires Inv-loop μ-loop
-put-char-requires c κs = (
-  c .before .char16 .ensures .scalar,
-  fits (unitsOf (now (c .before .before .before .before .before .before .before .args .s)) (c .before .before .before .before .before .before .before .args .p) (c .before .before .before .before .before .before .before .args .n)) (now (c .before .before .before .before .before .before .before .args .out)) (c .before .before .before .before .loop .out) (c .before .before .before .before .loop .i) (c .before .before .before .before .loop .at) (c .before .before .before .before .loop .inv .0) (c .before .before .before .before .before .before .before .pre .2) (c .before .char16 .result .code) (c .before .char16 .result .units)
-      (taken-at (now (c .before .before .before .before .before .before .before .args .s)) (c .before .before .before .before .before .before .before .args .p) (c .before .before .before .before .before .before .before .args .n) (c .before .before .before .before .loop .i) (c .before .char16 .ensures) (c .before .before .units-at .ensures)),
-)
+put-char-requires c κs = let c1 = c .before in
+    let c2 = c1 .before in
+    let c4 = c2 .before .before in
+    let c7 = c4 .before .before .before in
+    let a = c7 .args in
+    let l = c4 .loop in (
+      c1 .char16 .ensures .scalar,
+      fits (unitsOf (now (a .s)) (a .p) (a .n)) (now (a .out)) (l .out) (l .i) (l .at) (l .inv .0) (c7 .pre .2) (c1 .char16 .result .code) (c1 .char16 .result .units)
+          (taken-at (now (a .s)) (a .p) (a .n) (l .i) (c1 .char16 .ensures) (c2 .units-at .ensures)),
+    )
 
 add-i : tie.Need-add-i Inv-loop μ-loop
 add-i c = omega arith
 
 loop-less : tie.Need-loop-less Inv-loop μ-loop
-loop-less c = omega (
-  arith,
-  goes (unitsOf (now (c .before .before .before .before .before .before .before .before .before .before .before .args .s)) (c .before .before .before .before .before .before .before .before .before .before .before .args .p) (c .before .before .before .before .before .before .before .before .before .before .before .args .n)) (now (c .before .before .before .before .before .before .before .before .before .before .before .args .out)) (c .before .before .before .before .before .before .before .before .loop .out) (c .before .before .before .before .before .before .before .before .loop .i) (c .before .before .before .before .before .before .before .before .loop .at) (c .before .before .before .before .before .before .before .before .loop .inv .0) (c .before .before .before .before .before .before .before .before .before .before .before .pre .2) (c .before .before .before .before .before .char16 .result .code) (c .before .before .before .before .before .char16 .result .units)
-      (taken-at (now (c .before .before .before .before .before .before .before .before .before .before .before .args .s)) (c .before .before .before .before .before .before .before .before .before .before .before .args .p) (c .before .before .before .before .before .before .before .before .before .before .before .args .n) (c .before .before .before .before .before .before .before .before .loop .i) (c .before .before .before .before .before .char16 .ensures) (c .before .before .before .before .before .before .units-at .ensures)),
-)
+loop-less c = let c5 = c .before .before .before .before .before in
+    let c6 = c5 .before in
+    let c8 = c6 .before .before in
+    let c11 = c8 .before .before .before in
+    let a = c11 .args in
+    let l = c8 .loop in
+    omega (
+      arith,
+      goes (unitsOf (now (a .s)) (a .p) (a .n)) (now (a .out)) (l .out) (l .i) (l .at) (l .inv .0) (c11 .pre .2) (c5 .char16 .result .code) (c5 .char16 .result .units)
+          (taken-at (now (a .s)) (a .p) (a .n) (l .i) (c5 .char16 .ensures) (c6 .units-at .ensures)),
+    )
 
 loop-again : tie.Need-loop-again Inv-loop μ-loop
-loop-again c = (
-  rw (c .before .before .before .put-char .ensures .0) (write-on (unitsOf (now (c .before .before .before .before .before .before .before .before .before .before .before .args .s)) (c .before .before .before .before .before .before .before .before .before .before .before .args .p) (c .before .before .before .before .before .before .before .before .before .before .before .args .n)) (now (c .before .before .before .before .before .before .before .before .before .before .before .args .out)) (c .before .before .before .before .before .before .before .before .loop .out) (c .before .before .before .before .before .before .before .before .loop .i) (c .before .before .before .before .before .before .before .before .loop .at) (c .before .before .before .before .before .before .before .before .loop .inv .0) (c .before .before .before .before .before .before .before .before .before .before .before .pre .2) (c .before .before .before .before .before .char16 .result .code) (c .before .before .before .before .before .char16 .result .units)
-      (taken-at (now (c .before .before .before .before .before .before .before .before .before .before .before .args .s)) (c .before .before .before .before .before .before .before .before .before .before .before .args .p) (c .before .before .before .before .before .before .before .before .before .before .before .args .n) (c .before .before .before .before .before .before .before .before .loop .i) (c .before .before .before .before .before .char16 .ensures) (c .before .before .before .before .before .before .units-at .ensures)) (c .before .before .before .put-char .ensures .1)),
-  omega (arith, c .before .before .before .before .before .char16 .ensures .few),
-)
+loop-again c = let c3 = c .before .before .before in
+    let c5 = c3 .before .before in
+    let c6 = c5 .before in
+    let c8 = c6 .before .before in
+    let c11 = c8 .before .before .before in
+    let a = c11 .args in
+    let l = c8 .loop in (
+      rw (c3 .put-char .ensures .0) (write-on (unitsOf (now (a .s)) (a .p) (a .n)) (now (a .out)) (l .out) (l .i) (l .at) (l .inv .0) (c11 .pre .2) (c5 .char16 .result .code) (c5 .char16 .result .units)
+          (taken-at (now (a .s)) (a .p) (a .n) (l .i) (c5 .char16 .ensures) (c6 .units-at .ensures)) (c3 .put-char .ensures .1)),
+      omega (arith, c5 .char16 .ensures .few),
+    )
 
 same-length : tie.Need-same-length Inv-loop μ-loop
 same-length c = c .before .loop .inv .0 .long
 
 returns : tie.Need-returns Inv-loop μ-loop
-returns c = write-end (unitsOf (now (c .before .before .before .before .args .s)) (c .before .before .before .before .args .p) (c .before .before .before .before .args .n)) (now (c .before .before .before .before .args .out)) (c .before .loop .out) (c .before .loop .i) (c .before .loop .at) (c .before .loop .inv .0) (omega (arith, units-length (now (c .before .before .before .before .args .s)) (c .before .before .before .before .args .p) (c .before .before .before .before .args .n)))
+returns c = let c1 = c .before in
+    let c4 = c1 .before .before .before in
+    let a = c4 .args in
+    let l = c1 .loop in
+    write-end (unitsOf (now (a .s)) (a .p) (a .n)) (now (a .out)) (l .out) (l .i) (l .at) (l .inv .0) (omega (arith, units-length (now (a .s)) (a .p) (a .n)))
 
 pub put-units-spec : {M : Type 1} → statement M
 put-units-spec =

@@ -20,31 +20,53 @@ enum-known-at : tie.Need-enum-known-at
 enum-known-at c = search needs
 
 take-bytes-requires : tie.Need-take-bytes-requires
-take-bytes-requires c κs = (subst (FoundAnswer (now (c .before .before .before .before .before .before .before .args .s)) (c .before .before .before .before .before .before .before .args .c) (readAt (now (c .before .before .before .before .before .before .before .args .s)) (c .before .before .before .before .before .before .before .args .c) fstring)) (c .before .before .at .given .1) (c .before .before .before .before .find-text .ensures)) .1
+take-bytes-requires c κs = let c2 = c .before .before in
+    let c4 = c2 .before .before in
+    let c7 = c4 .before .before .before in
+    let a = c7 .args in
+    (subst (FoundAnswer (now (a .s)) (a .c) (readAt (now (a .s)) (a .c) fstring)) (c2 .at .given .1) (c4 .find-text .ensures)) .1
 
 enum-known-at-2 : tie.Need-enum-known-at-2
 enum-known-at-2 c = search needs
 
 take-units-requires : tie.Need-take-units-requires
-take-units-requires c κs = let f = subst (FoundAnswer (now (c .before .before .before .before .before .before .before .args .s)) (c .before .before .before .before .before .before .before .args .c) (readAt (now (c .before .before .before .before .before .before .before .args .s)) (c .before .before .before .before .before .before .before .args .c) fstring)) (c .before .before .at2 .given .1) (c .before .before .before .before .find-text .ensures) in
-    (f .1 .1 .1 .1 .1, (f .0, (f .1 .1 .0, f .1 .1 .1 .0)))
+take-units-requires c κs = let c2 = c .before .before in
+    let c4 = c2 .before .before in
+    let c7 = c4 .before .before .before in
+    let a = c7 .args in
+    let f = subst (FoundAnswer (now (a .s)) (a .c) (readAt (now (a .s)) (a .c) fstring)) (c2 .at2 .given .1) (c4 .find-text .ensures) in
+    (f .1 .1 .1 .1, (f .0, (f .1 .1 .0, f .1 .1 .1 .0)))
 
 returns : tie.Need-returns
-returns c = (text-refused (now (c .before .before .before .before .before .before .args .s)) (c .before .before .before .before .before .before .args .c) (length (now (c .before .before .before .before .before .before .args .out))) _ (subst (FoundAnswer (now (c .before .before .before .before .before .before .args .s)) (c .before .before .before .before .before .before .args .c) (readAt (now (c .before .before .before .before .before .before .args .s)) (c .before .before .before .before .before .before .args .c) fstring)) (c .before .r .given .1) (c .before .before .before .find-text .ensures)), refl)
+returns c = let c1 = c .before in
+    let c3 = c1 .before .before in
+    let c6 = c3 .before .before .before in
+    let a = c6 .args in
+    (text-refused (now (a .s)) (a .c) (length (now (a .out))) _ (subst (FoundAnswer (now (a .s)) (a .c) (readAt (now (a .s)) (a .c) fstring)) (c1 .r .given .1) (c3 .find-text .ensures)), refl)
 
 same-length : tie.Need-same-length
 same-length c = search needs
 
 returns-2 : tie.Need-returns-2
-returns-2 c = let f = subst (FoundAnswer (now (c .before .before .before .before .before .before .before .before .before .before .args .s)) (c .before .before .before .before .before .before .before .before .before .before .args .c) (readAt (now (c .before .before .before .before .before .before .before .before .before .before .args .s)) (c .before .before .before .before .before .before .before .before .before .before .args .c) fstring)) (c .before .before .before .before .before .at .given .1) (c .before .before .before .before .before .before .before .find-text .ensures) in
-    text-then (now (c .before .before .before .before .before .before .before .before .before .before .args .s)) (c .before .before .before .before .before .before .before .before .before .before .args .c) (length (now (c .before .before .before .before .before .before .before .before .before .before .args .out))) (f .0) (now (c .before .before .before .before .before .before .before .before .before .before .args .out)) (c .before .before .take-bytes .last .1 .1 .1 .1 .0) (c .before .before .take-bytes .result) (c .before .before .take-bytes .ensures)
+returns-2 c = let c2 = c .before .before in
+    let c5 = c2 .before .before .before in
+    let c7 = c5 .before .before in
+    let c10 = c7 .before .before .before in
+    let a = c10 .args in
+    let f = subst (FoundAnswer (now (a .s)) (a .c) (readAt (now (a .s)) (a .c) fstring)) (c5 .at .given .1) (c7 .find-text .ensures) in
+    text-then (now (a .s)) (a .c) (length (now (a .out))) (f .0) (now (a .out)) (c2 .take-bytes .last .1 .1 .1 .1 .0) (c2 .take-bytes .result) (c2 .take-bytes .ensures)
 
 same-length-2 : tie.Need-same-length-2
 same-length-2 c = search needs
 
 returns-3 : tie.Need-returns-3
-returns-3 c = let f = subst (FoundAnswer (now (c .before .before .before .before .before .before .before .before .before .before .args .s)) (c .before .before .before .before .before .before .before .before .before .before .args .c) (readAt (now (c .before .before .before .before .before .before .before .before .before .before .args .s)) (c .before .before .before .before .before .before .before .before .before .before .args .c) fstring)) (c .before .before .before .before .before .at2 .given .1) (c .before .before .before .before .before .before .before .find-text .ensures) in
-    text-then (now (c .before .before .before .before .before .before .before .before .before .before .args .s)) (c .before .before .before .before .before .before .before .before .before .before .args .c) (length (now (c .before .before .before .before .before .before .before .before .before .before .args .out))) (f .1 .0) (now (c .before .before .before .before .before .before .before .before .before .before .args .out)) (c .before .before .take-units .last .1 .1 .1 .1 .1 .0) (c .before .before .take-units .result) (c .before .before .take-units .ensures (f .0) (f .1 .1 .0))
+returns-3 c = let c2 = c .before .before in
+    let c5 = c2 .before .before .before in
+    let c7 = c5 .before .before in
+    let c10 = c7 .before .before .before in
+    let a = c10 .args in
+    let f = subst (FoundAnswer (now (a .s)) (a .c) (readAt (now (a .s)) (a .c) fstring)) (c5 .at2 .given .1) (c7 .find-text .ensures) in
+    text-then (now (a .s)) (a .c) (length (now (a .out))) (f .1 .0) (now (a .out)) (c2 .take-units .last .1 .1 .1 .1 .1 .0) (c2 .take-units .result) (c2 .take-units .ensures (f .0) (f .1 .1 .0))
 
 pub read-fstring-spec : {M : Type 1} → statement M
 read-fstring-spec =

@@ -14,7 +14,10 @@ no-room-requires : tie.Need-no-room-requires
 no-room-requires c κs = search needs
 
 returns : tie.Need-returns
-returns c = (no-room (now (c .before .before .before .before .args .s)) (c .before .before .before .before .args .next) (length (now (c .before .before .before .before .args .out))) (bytesOf (now (c .before .before .before .before .args .s)) (bitAt (c .before .before .before .before .args .c)) (c .before .before .before .before .args .n)) (c .before .before .before .before .args .n) (sym (bytes-length (now (c .before .before .before .before .args .s)) (bitAt (c .before .before .before .before .args .c)) (c .before .before .before .before .args .n))) (c .before .if1 .taken) (c .no-room .ensures), refl)
+returns c = let c1 = c .before in
+    let c4 = c1 .before .before .before in
+    let a = c4 .args in
+    (no-room (now (a .s)) (a .next) (length (now (a .out))) (bytesOf (now (a .s)) (bitAt (a .c)) (a .n)) (a .n) (sym (bytes-length (now (a .s)) (bitAt (a .c)) (a .n))) (c1 .if1 .taken) (c .no-room .ensures), refl)
 
 mul-copy-bits-to : tie.Need-mul-copy-bits-to
 mul-copy-bits-to c = search needs
@@ -32,24 +35,32 @@ same-length : tie.Need-same-length
 same-length c = search needs
 
 returns-2 : tie.Need-returns-2
-returns-2 c = (
-  bytesOf (now (c .before .before .before .before .before .before .before .before .before .args .s)) (bitAt (c .before .before .before .before .before .before .before .before .before .args .c)) (c .before .before .before .before .before .before .before .before .before .args .n),
-  (
-    room (now (c .before .before .before .before .before .before .before .before .before .args .s)) (c .before .before .before .before .before .before .before .before .before .args .next) (length (now (c .before .before .before .before .before .before .before .before .before .args .out))) (bytesOf (now (c .before .before .before .before .before .before .before .before .before .args .s)) (bitAt (c .before .before .before .before .before .before .before .before .before .args .c)) (c .before .before .before .before .before .before .before .before .before .args .n)) (c .before .before .before .before .before .before .before .before .before .args .n) (sym (bytes-length (now (c .before .before .before .before .before .before .before .before .before .args .s)) (bitAt (c .before .before .before .before .before .before .before .before .before .args .c)) (c .before .before .before .before .before .before .before .before .before .args .n))) (c .before .before .before .before .before .before .if1 .left),
-    (
-      sym (bytes-length (now (c .before .before .before .before .before .before .before .before .before .args .s)) (bitAt (c .before .before .before .before .before .before .before .before .before .args .c)) (c .before .before .before .before .before .before .before .before .before .args .n)),
-      copied-bytes (now (c .before .before .before .before .before .before .before .before .before .args .s)) (c .before .before .before .before .before .before .before .before .before .args .c) (length (now (c .before .before .before .before .before .before .before .before .before .args .out))) (c .before .before .before .before .before .before .before .before .before .args .n) (c .before .before .before .before .before .before .if1 .left) (c .before .before .before .before .before .before .before .before .before .pre .1)
-          (now (c .before .before .before .before .before .before .before .before .before .args .out)) (c .before .before .before .before .copy-bits-to .last .1 .1 .0) (c .before .before .before .before .copy-bits-to .ensures) (c .enum-told .given .1),
-    ),
-  ),
-)
+returns-2 c = let c4 = c .before .before .before .before in
+    let c6 = c4 .before .before in
+    let c9 = c6 .before .before .before in
+    let a = c9 .args in (
+      bytesOf (now (a .s)) (bitAt (a .c)) (a .n),
+      (
+        room (now (a .s)) (a .next) (length (now (a .out))) (bytesOf (now (a .s)) (bitAt (a .c)) (a .n)) (a .n) (sym (bytes-length (now (a .s)) (bitAt (a .c)) (a .n))) (c6 .if1 .left),
+        (
+          sym (bytes-length (now (a .s)) (bitAt (a .c)) (a .n)),
+          copied-bytes (now (a .s)) (a .c) (length (now (a .out))) (a .n) (c6 .if1 .left) (c9 .pre)
+              (now (a .out)) (c4 .copy-bits-to .last .1 .1 .0) (c4 .copy-bits-to .ensures) (c .enum-told .given .1),
+        ),
+      ),
+    )
 
 same-length-2 : tie.Need-same-length-2
 same-length-2 c = search needs
 
 returns-3 : tie.Need-returns-3
-returns-3 c = never-refused (now (c .before .before .before .before .before .before .before .before .before .before .args .s)) (c .before .before .before .before .before .before .before .before .before .before .args .c) (length (now (c .before .before .before .before .before .before .before .before .before .before .args .out))) (c .before .before .before .before .before .before .before .before .before .before .args .n) (c .before .before .before .before .before .before .before .if1 .left) (c .before .before .before .before .before .before .before .before .before .before .pre .1)
-    (now (c .before .before .before .before .before .before .before .before .before .before .args .out)) (c .before .before .before .before .before .copy-bits-to .last .1 .1 .0) (c .before .before .before .before .before .copy-bits-to .ensures) (c .before .r .given .1)
+returns-3 c = let c1 = c .before in
+    let c5 = c1 .before .before .before .before in
+    let c7 = c5 .before .before in
+    let c10 = c7 .before .before .before in
+    let a = c10 .args in
+    never-refused (now (a .s)) (a .c) (length (now (a .out))) (a .n) (c7 .if1 .left) (c10 .pre)
+    (now (a .out)) (c5 .copy-bits-to .last .1 .1 .0) (c5 .copy-bits-to .ensures) (c1 .r .given .1)
 
 pub take-bytes-spec : {M : Type 1} → statement M
 take-bytes-spec =

@@ -13,11 +13,14 @@ no-room-requires : tie.Need-no-room-requires
 no-room-requires c κs = search needs
 
 returns : tie.Need-returns
-returns c = λ v e. (
-  no-room (now (c .before .before .before .before .args .s)) (c .before .before .before .before .args .next) (length (now (c .before .before .before .before .args .out))) v (c .before .before .before .before .args .len)
-      (c .before .before .before .before .pre .1 .1 .1 ∙ ap length (one-text (c .before .before .before .before .pre .1 .1 .0) e)) (c .before .if1 .taken) (c .no-room .ensures),
-  refl,
-)
+returns c = let c1 = c .before in
+    let c4 = c1 .before .before .before in
+    let a = c4 .args in
+    λ v e. (
+      no-room (now (a .s)) (a .next) (length (now (a .out))) v (a .len)
+          (c4 .pre .1 .1 .1 ∙ ap length (one-text (c4 .pre .1 .1 .0) e)) (c1 .if1 .taken) (c .no-room .ensures),
+      refl,
+    )
 
 cast-put-units : tie.Need-cast-put-units
 cast-put-units c = search needs
@@ -29,22 +32,27 @@ add-put-units : tie.Need-add-put-units
 add-put-units c = search needs
 
 put-units-requires : tie.Need-put-units-requires
-put-units-requires c κs = (omega arith, c .before .before .before .before .before .before .pre .0, record { text = c .before .before .before .before .before .before .pre .1 .0; is = c .before .before .before .before .before .before .pre .1 .1 .0; fits = omega arith })
+put-units-requires c κs = let c6 = c .before .before .before .before .before .before in
+    (omega arith, c6 .pre .0, record { text = c6 .pre .1 .0; is = c6 .pre .1 .1 .0; fits = omega arith })
 
 same-length : tie.Need-same-length
 same-length c = search needs
 
 returns-2 : tie.Need-returns-2
-returns-2 c = λ v e. let q = c .before .before .before .before .before .before .before .before .before .pre .1 .1 .1 ∙ ap length (one-text (c .before .before .before .before .before .before .before .before .before .pre .1 .1 .0) e) in (
-  v,
-  (
-    room (now (c .before .before .before .before .before .before .before .before .before .args .s)) (c .before .before .before .before .before .before .before .before .before .args .next) (length (now (c .before .before .before .before .before .before .before .before .before .args .out))) v (c .before .before .before .before .before .before .before .before .before .args .len) q (c .before .before .before .before .before .before .if1 .left),
-    (
-      q,
-      c .before .before .put-units .ensures .wrote ∙ ap (pasted (now (c .before .before .before .before .before .before .before .before .before .args .out)) 0) (one-text (c .before .before .put-units .ensures .is) e),
-    ),
-  ),
-)
+returns-2 c = let c2 = c .before .before in
+    let c6 = c2 .before .before .before .before in
+    let c9 = c6 .before .before .before in
+    let a = c9 .args in
+    λ v e. let q = c9 .pre .1 .1 .1 ∙ ap length (one-text (c9 .pre .1 .1 .0) e) in (
+      v,
+      (
+        room (now (a .s)) (a .next) (length (now (a .out))) v (a .len) q (c6 .if1 .left),
+        (
+          q,
+          c2 .put-units .ensures .wrote ∙ ap (pasted (now (a .out)) 0) (one-text (c2 .put-units .ensures .is) e),
+        ),
+      ),
+    )
 
 pub take-units-spec : {M : Type 1} → statement M
 take-units-spec =

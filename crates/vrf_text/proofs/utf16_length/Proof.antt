@@ -34,8 +34,14 @@ char16-requires : tie.Need-char16-requires Inv-loop μ-loop
 char16-requires c κs = tt
 
 returns : tie.Need-returns Inv-loop μ-loop
-returns c = bad (unitsOf (now (c .before .before .before .before .before .before .args .s)) (c .before .before .before .before .before .before .args .p) (c .before .before .before .before .before .before .args .n)) (c .before .before .before .before .loop .i) (c .before .before .before .before .loop .len) (c .before .before .before .before .loop .inv .0) (c .before .char16 .result .code) (c .before .char16 .result .units) (c .if1 .taken)
-    (taken-at (now (c .before .before .before .before .before .before .args .s)) (c .before .before .before .before .before .before .args .p) (c .before .before .before .before .before .before .args .n) (c .before .before .before .before .loop .i) (c .before .char16 .ensures) (c .before .before .units-at .ensures))
+returns c = let c1 = c .before in
+    let c2 = c1 .before in
+    let c4 = c2 .before .before in
+    let c6 = c4 .before .before in
+    let a = c6 .args in
+    let l = c4 .loop in
+    bad (unitsOf (now (a .s)) (a .p) (a .n)) (l .i) (l .len) (l .inv .0) (c1 .char16 .result .code) (c1 .char16 .result .units) (c .if1 .taken)
+    (taken-at (now (a .s)) (a .p) (a .n) (l .i) (c1 .char16 .ensures) (c2 .units-at .ensures))
 
 utf8-len-requires : tie.Need-utf8-len-requires Inv-loop μ-loop
 utf8-len-requires c κs = tt
@@ -50,15 +56,25 @@ loop-less : tie.Need-loop-less Inv-loop μ-loop
 loop-less c = omega arith
 
 loop-again : tie.Need-loop-again Inv-loop μ-loop
-loop-again c = (
-  rw (c .utf8-len .ensures .0) (on (unitsOf (now (c .before .before .before .before .before .before .before .args .s)) (c .before .before .before .before .before .before .before .args .p) (c .before .before .before .before .before .before .before .args .n)) (c .before .before .before .before .before .loop .i) (c .before .before .before .before .before .loop .len) (c .before .before .before .before .before .loop .inv .0) (c .before .before .char16 .result .code) (c .before .before .char16 .result .units) (c .before .if1 .left)
-      (taken-at (now (c .before .before .before .before .before .before .before .args .s)) (c .before .before .before .before .before .before .before .args .p) (c .before .before .before .before .before .before .before .args .n) (c .before .before .before .before .before .loop .i) (c .before .before .char16 .ensures) (c .before .before .before .units-at .ensures))),
-  omega (arith, c .before .before .char16 .ensures .few),
-  omega (arith, c .utf8-len .ensures .1),
-)
+loop-again c = let c1 = c .before in
+    let c2 = c1 .before in
+    let c3 = c2 .before in
+    let c5 = c3 .before .before in
+    let c7 = c5 .before .before in
+    let a = c7 .args in
+    let l = c5 .loop in (
+      rw (c .utf8-len .ensures .0) (on (unitsOf (now (a .s)) (a .p) (a .n)) (l .i) (l .len) (l .inv .0) (c2 .char16 .result .code) (c2 .char16 .result .units) (c1 .if1 .left)
+          (taken-at (now (a .s)) (a .p) (a .n) (l .i) (c2 .char16 .ensures) (c3 .units-at .ensures))),
+      omega (arith, c2 .char16 .ensures .few),
+      omega (arith, c .utf8-len .ensures .1),
+    )
 
 returns-2 : tie.Need-returns-2 Inv-loop μ-loop
-returns-2 c = (c .before .loop .inv .0 .done, (end (unitsOf (now (c .before .before .before .args .s)) (c .before .before .before .args .p) (c .before .before .before .args .n)) (c .before .loop .i) (c .before .loop .len) (c .before .loop .inv .0) (omega (arith, units-length (now (c .before .before .before .args .s)) (c .before .before .before .args .p) (c .before .before .before .args .n))), sym (c .before .loop .inv .0 .long)))
+returns-2 c = let c1 = c .before in
+    let c3 = c1 .before .before in
+    let a = c3 .args in
+    let l = c1 .loop in
+    (l .inv .0 .done, (end (unitsOf (now (a .s)) (a .p) (a .n)) (l .i) (l .len) (l .inv .0) (omega (arith, units-length (now (a .s)) (a .p) (a .n))), sym (l .inv .0 .long)))
 
 pub utf16-length-spec : {M : Type 1} → statement M
 utf16-length-spec =

@@ -36,7 +36,11 @@ is-utf8-requires : tie.Need-is-utf8-requires
 is-utf8-requires c κs = search needs
 
 returns-3 : tie.Need-returns-3
-returns-3 c = c .is-utf8 .ensures ∙ ap utf8 (part (now (c .before .before .before .before .before .args .s)) (λ k. omega (arith, c .before .before .before .before .shared-slice-known .given k)) (c .before .before .before .before .before .args .p) (c .before .before .before .before .before .args .n) (omega arith) (c .before .before .if2 .left))
+returns-3 c = let c2 = c .before .before in
+    let c4 = c2 .before .before in
+    let c5 = c4 .before in
+    let a = c5 .args in
+    c .is-utf8 .ensures ∙ ap utf8 (part (now (a .s)) (λ k. omega (arith, c4 .shared-slice-known .given k)) (a .p) (a .n) (omega arith) (c2 .if2 .left))
 
 pub utf8-at-spec : {M : Type 1} → statement M
 utf8-at-spec =

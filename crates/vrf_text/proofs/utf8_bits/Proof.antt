@@ -36,8 +36,14 @@ step-requires : tie.Need-step-requires Inv-loop μ-loop
 step-requires c κs = tt
 
 returns : tie.Need-returns Inv-loop μ-loop
-returns c = bad (bytesOf (now (c .before .before .before .before .before .before .args .s)) (c .before .before .before .before .before .before .args .p) (c .before .before .before .before .before .before .args .n)) (c .before .before .before .before .loop .i) (c .before .before .before .before .loop .inv) (c .before .step .result) (c .if1 .taken)
-    (rest-at (now (c .before .before .before .before .before .before .args .s)) (c .before .before .before .before .before .before .args .p) (c .before .before .before .before .before .before .args .n) (c .before .before .before .before .loop .i) (c .before .step .result) (c .before .step .ensures .passed _ (c .before .before .word-at .ensures)))
+returns c = let c1 = c .before in
+    let c2 = c1 .before in
+    let c4 = c2 .before .before in
+    let c6 = c4 .before .before in
+    let a = c6 .args in
+    let l = c4 .loop in
+    bad (bytesOf (now (a .s)) (a .p) (a .n)) (l .i) (l .inv) (c1 .step .result) (c .if1 .taken)
+    (rest-at (now (a .s)) (a .p) (a .n) (l .i) (c1 .step .result) (c1 .step .ensures .passed _ (c2 .word-at .ensures)))
 
 add-i : tie.Need-add-i Inv-loop μ-loop
 add-i c = omega (arith, c .before .step .ensures .few)
@@ -46,11 +52,21 @@ loop-less : tie.Need-loop-less Inv-loop μ-loop
 loop-less c = omega arith
 
 loop-again : tie.Need-loop-again Inv-loop μ-loop
-loop-again c = on (bytesOf (now (c .before .before .before .before .before .before .args .s)) (c .before .before .before .before .before .before .args .p) (c .before .before .before .before .before .before .args .n)) (c .before .before .before .before .loop .i) (c .before .before .before .before .loop .inv) (c .before .step .result) (c .if1 .left)
-    (rest-at (now (c .before .before .before .before .before .before .args .s)) (c .before .before .before .before .before .before .args .p) (c .before .before .before .before .before .before .args .n) (c .before .before .before .before .loop .i) (c .before .step .result) (c .before .step .ensures .passed _ (c .before .before .word-at .ensures)))
+loop-again c = let c1 = c .before in
+    let c2 = c1 .before in
+    let c4 = c2 .before .before in
+    let c6 = c4 .before .before in
+    let a = c6 .args in
+    let l = c4 .loop in
+    on (bytesOf (now (a .s)) (a .p) (a .n)) (l .i) (l .inv) (c1 .step .result) (c .if1 .left)
+    (rest-at (now (a .s)) (a .p) (a .n) (l .i) (c1 .step .result) (c1 .step .ensures .passed _ (c2 .word-at .ensures)))
 
 returns-2 : tie.Need-returns-2 Inv-loop μ-loop
-returns-2 c = end (bytesOf (now (c .before .before .before .args .s)) (c .before .before .before .args .p) (c .before .before .before .args .n)) (c .before .loop .i) (c .before .loop .inv) (omega (arith, bytes-length (now (c .before .before .before .args .s)) (c .before .before .before .args .p) (c .before .before .before .args .n)))
+returns-2 c = let c1 = c .before in
+    let c3 = c1 .before .before in
+    let a = c3 .args in
+    let l = c1 .loop in
+    end (bytesOf (now (a .s)) (a .p) (a .n)) (l .i) (l .inv) (omega (arith, bytes-length (now (a .s)) (a .p) (a .n)))
 
 pub utf8-bits-spec : {M : Type 1} → statement M
 utf8-bits-spec =
