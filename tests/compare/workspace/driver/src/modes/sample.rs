@@ -1,0 +1,141 @@
+//! Scripts to be stored with the original's answers: short ones that meet every
+//! call, every reading and every refusal, and some random ones.
+
+mod bits;
+
+use std::fs;
+use std::path::Path;
+
+use crate::modes::books::nth_rng;
+use crate::oracle;
+use crate::random_books::{calls, reads, seats};
+use crate::random_calls::RandomCall;
+use crate::rng::Rng;
+use crate::scenes::{self, Theme};
+use crate::script::Script;
+use crate::trouble::Trouble;
+
+pub struct Sample {
+    pub name: String,
+    pub script: Script,
+}
+
+/// The most bytes of a script with random calls.
+const RANDOM_LENGTH: usize = 10_000;
+
+/// The most bytes that such a script with book calls is answered with.
+const RANDOM_ANSWERS: usize = 30_000;
+
+/// How many random scripts of book calls are tried for one sample.
+const TRIES: u64 = 30;
+
+pub fn run(seed: u64, folder: &str) -> Result<(), Trouble> {
+    for sample in samples(seed)? {
+        let answers = oracle::play(sample.script.as_bytes(), Vec::new())?;
+        write(folder, &sample.name, "vjs", sample.script.as_bytes())?;
+        write(folder, &sample.name, "txt", &answers)?;
+    }
+    Ok(())
+}
+
+fn write(folder: &str, name: &str, ending: &str, bytes: &[u8]) -> Result<(), Trouble> {
+    let file = Path::new(folder).join(format!("{name}.{ending}"));
+    fs::create_dir_all(folder)
+        .and_then(|()| fs::write(&file, bytes))
+        .map_err(|e| Trouble::File(file.display().to_string(), e))
+}
+
+pub fn samples(seed: u64) -> Result<Vec<Sample>, Trouble> {
+    let mut samples = bits_samples(seed);
+    samples.extend(scenes::themes().iter().map(of_theme));
+    for nth in 1..=3 {
+        let seed = seed.wrapping_add(nth);
+        samples.push(random_books(
+            format!("calls-random-{nth}"),
+            seed,
+            calls::script,
+        )?);
+        samples.push(random_books(
+            format!("reads-random-{nth}"),
+            seed,
+            reads::script,
+        )?);
+        samples.push(random_books(format!("seats-random-{nth}"), seed, |rng| {
+            seats::seats(rng).script
+        })?);
+    }
+    Ok(samples)
+}
+
+fn bits_samples(seed: u64) -> Vec<Sample> {
+    let sample = |name: &str, write: fn(&mut Script)| {
+        let mut script = Script::new();
+        write(&mut script);
+        Sample {
+            name: name.to_owned(),
+            script,
+        }
+    };
+    vec![
+        sample("bits-numbers", bits::numbers),
+        sample("bits-packed", bits::packed),
+        sample("bits-text", bits::text),
+        sample("bits-long-text", bits::long_text),
+        sample("bits-names", bits::names),
+        sample("bits-copies", bits::copies),
+        sample("bits-windows", bits::windows),
+        random_bits("bits-random-1", seed),
+        random_bits("bits-random-2", seed.wrapping_add(1)),
+    ]
+}
+
+/// Ends before the first call that would make the script too long.
+fn random_bits(name: &str, seed: u64) -> Sample {
+    let mut rng = Rng::new(seed);
+    let mut script = Script::new();
+    loop {
+        let call = RandomCall::new(&mut rng);
+        let mut longer = script.clone();
+        longer.bits(&call.win(), &call.readings);
+        if longer.len() > RANDOM_LENGTH {
+            return Sample {
+                name: name.to_owned(),
+                script,
+            };
+        }
+        script = longer;
+    }
+}
+
+/// A theme's scenes, one after another. Each opens the books it needs, but for
+/// one that needs them unopened, which is the first.
+fn of_theme(theme: &Theme) -> Sample {
+    let mut script = Script::new();
+    for scene in &theme.scenes {
+        script.append(&scene.script);
+    }
+    Sample {
+        name: theme.name.to_owned(),
+        script,
+    }
+}
+
+/// As many scripts, one after another, as stay short with their answers.
+fn random_books(
+    name: String,
+    seed: u64,
+    make: impl Fn(&mut Rng) -> Script,
+) -> Result<Sample, Trouble> {
+    let mut script = Script::new();
+    for nth in 0..TRIES {
+        let mut longer = script.clone();
+        longer.append(&make(&mut nth_rng(seed, nth)));
+        if longer.len() > RANDOM_LENGTH {
+            continue;
+        }
+        if oracle::play(longer.as_bytes(), Vec::new())?.len() <= RANDOM_ANSWERS {
+            script = longer;
+        }
+    }
+    Ok(Sample { name, script })
+}
