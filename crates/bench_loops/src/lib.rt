@@ -1,0 +1,122 @@
+// What tests/compare times beside the Rust: readings in a loop, over a slice that the caller lends. The loops promise that they end
+// and stay in bounds; what each reading answers is promised by the crates below.
+use vrf_bitio::Bits;
+use vrf_bitio::Copied;
+use vrf_bitio::Cursor;
+use vrf_bitio::Opened;
+use vrf_bitio::Word;
+use vrf_text::Text;
+
+// The cursor over all of s, or an empty one where s is too large for a window.
+fn whole(s: &[u8]) -> Cursor {
+    if 268_435_456 < s.len() {
+        return Cursor {
+            first: 0,
+            count: 0,
+            pos: 0,
+        };
+    }
+    match Cursor::window(s, 0, (s.len() as u64) * 8) {
+        Opened::Window(c) => c,
+        Opened::Refused(_) => Cursor {
+            first: 0,
+            count: 0,
+            pos: 0,
+        },
+    }
+}
+
+fn byte_at(s: &[u8], k: usize) -> u8 {
+    if k < s.len() { s[k] } else { 0 }
+}
+
+// The place behind k, from the start again at the end.
+fn next_of(s: &[u8], k: usize) -> usize {
+    if k < s.len() {
+        if k + 1 < s.len() { k + 1 } else { 0 }
+    } else {
+        0
+    }
+}
+
+// Reads as many bits as each of widths says, over and over, until a reading is refused; answers the wrapping sum of the values.
+#[no_mangle]
+pub extern "C" fn bench_read_bits(s: &[u8], widths: &[u8]) -> u64 {
+    let mut c = whole(s);
+    let mut sum: u64 = 0;
+    let mut k: usize = 0;
+    let mut turns: u64 = 0;
+    while turns < 4_294_967_296 {
+        match c.read_bits(s, byte_at(widths, k) as u32) {
+            Bits::Refused(_) => return sum,
+            Bits::Value(v, next) => {
+                sum = std::num::wrapping_add_u64(sum, v);
+                c = next;
+            }
+        }
+        k = next_of(widths, k);
+        turns += 1;
+    }
+    sum
+}
+
+// Reads packed numbers until one is refused; answers the wrapping sum.
+#[no_mangle]
+pub extern "C" fn bench_read_int_packed(s: &[u8]) -> u64 {
+    let mut c = whole(s);
+    let mut sum: u64 = 0;
+    let mut turns: u64 = 0;
+    while turns < 4_294_967_296 {
+        match c.read_int_packed(s) {
+            Word::Refused(_) => return sum,
+            Word::Value(v, next) => {
+                sum = std::num::wrapping_add_u64(sum, v as u64);
+                c = next;
+            }
+        }
+        turns += 1;
+    }
+    sum
+}
+
+// Reads texts into out until one is refused; answers the wrapping sum of their lengths.
+#[no_mangle]
+pub extern "C" fn bench_read_fstring(s: &[u8], out: &mut [u8]) -> u64 {
+    let mut c = whole(s);
+    let mut sum: u64 = 0;
+    let mut turns: u64 = 0;
+    while turns < 4_294_967_296 {
+        match vrf_text::read_fstring(s, c, out) {
+            Text::Refused(_) => return sum,
+            Text::Read(n, next) => {
+                sum = std::num::wrapping_add_u64(sum, n as u64);
+                c = next;
+            }
+        }
+        turns += 1;
+    }
+    sum
+}
+
+// Skips some bits, then copies as many as asked into dst until a copy is refused; answers how many copies were made.
+#[no_mangle]
+pub extern "C" fn bench_copy_bits_to(s: &[u8], skip: u64, dst: &mut [u8], bits: u64) -> u64 {
+    let mut c = whole(s);
+    match c.read_bits(s, (skip % 65) as u32) {
+        Bits::Refused(_) => return 0,
+        Bits::Value(_, next) => {
+            c = next;
+        }
+    }
+    let mut turns: u64 = 0;
+    while turns < 4_294_967_296 {
+        match c.copy_bits_to(s, dst, bits) {
+            Copied::Refused(_) => return turns,
+            Copied::Done(next) => {
+                c = next;
+            }
+        }
+        turns += 1;
+    }
+    turns
+}

@@ -1,0 +1,21 @@
+-- A text that was read stands in the room that was lent for it.
+use mathlib.Core.List.{List}
+use mathlib.Core.Path.{_≡_, subst}
+use Prim.Native.Nat.{ℕ, _≤_}
+use native.Mathlib.Omega.{arith}
+use lib.ListN.{length, length-append}
+use Rattle.vrf_bitio.specs.Pasted.{pasted}
+use Rattle.vrf_bitio.specs.Reading.{Read}
+use Rattle.vrf_bitio.specs.declared.Cursor.{Cursor}
+use Rattle.vrf_text.specs.Answers.{TextAnswer}
+use Rattle.vrf_text.specs.declared.Text.{Text}
+use Rattle.vrf_text.specs.declared.Text.the-variants.{Read as Done}
+
+within : (n : ℕ) (v before after : List ℕ) → n ≡ length v → after ≡ pasted before 0 v → n ≤ length after
+unfolding pasted
+within n v before after e p = rw p (simp length-append (omega arith))
+
+pub in-room : (s : List ℕ) (c : Cursor) (x : Read (List ℕ)) (before after : List ℕ) (n : ℕ) (d : Cursor) {r : Text} → r ≡ Done n d → TextAnswer s c x before after r → n ≤ length after
+in-room s c x before after n d e h =
+    let done : TextAnswer s c x before after (Done n d) = subst (TextAnswer s c x before after) e h in
+    within n (done .0) before after (done .1 .1 .0) (done .1 .1 .1)

@@ -1,0 +1,55 @@
+use mathlib.Core.Path.{_≡_}
+use Prim.Native.Nat.{_-_, _≤_}
+use lib.ListN.{length}
+use borrow.Author.Needs.{needs}
+use Rattle.vrf_replay.proofs.answer.word.Statement.{statement}
+use Rattle.vrf_replay.proofs.answer.word.Tie as tie
+
+abbrev Inv-loop : tie.InvT-loop
+Inv-loop out₀ to text to₀ k₀ k-end out to' k = (k ≤ k-end) × (to' ≤ length out) × (length out ≡ length out₀)
+
+abbrev μ-loop : tie.MeasureT-loop
+μ-loop out₀ to text to₀ k₀ k-end out to' k = k-end - k
+
+clipped-requires : tie.Need-clipped-requires Inv-loop μ-loop
+clipped-requires c κs = search needs
+
+loop-holds : tie.Need-loop-holds Inv-loop μ-loop
+loop-holds c = search needs
+
+shared-slice-read-byte : tie.Need-shared-slice-read-byte Inv-loop μ-loop
+shared-slice-read-byte c = search needs
+
+byte-requires : tie.Need-byte-requires Inv-loop μ-loop
+byte-requires c κs = search needs
+
+add-k : tie.Need-add-k Inv-loop μ-loop
+add-k c = search needs
+
+loop-less : tie.Need-loop-less Inv-loop μ-loop
+loop-less c = search needs
+
+loop-again : tie.Need-loop-again Inv-loop μ-loop
+loop-again c = search needs
+
+same-length : tie.Need-same-length Inv-loop μ-loop
+same-length c = search needs
+
+returns : tie.Need-returns Inv-loop μ-loop
+returns c = search needs
+
+pub word-spec : {M : Type 1} → statement M
+word-spec =
+    tie.close
+    (tie.spec
+    Inv-loop
+    μ-loop
+    clipped-requires
+    loop-holds
+    shared-slice-read-byte
+    byte-requires
+    add-k
+    loop-less
+    loop-again
+    same-length
+    returns)

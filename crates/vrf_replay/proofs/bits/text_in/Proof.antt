@@ -1,0 +1,77 @@
+use Rattle.vrf_replay.proofs.Rooms.{in-room}
+use borrow.Author.Needs.{needs}
+use Rattle.vrf_replay.proofs.bits.text_in.Statement.{statement}
+use Rattle.vrf_replay.proofs.bits.text_in.Tie as tie
+
+read-fstring-requires : tie.Need-read-fstring-requires
+read-fstring-requires c κs = search needs
+
+enum-known-r : tie.Need-enum-known-r
+enum-known-r c = search needs
+
+refused-requires : tie.Need-refused-requires
+refused-requires c κs = search needs
+
+enum-known-n : tie.Need-enum-known-n
+enum-known-n c = search needs
+
+slice-aggregate-word : tie.Need-slice-aggregate-word
+slice-aggregate-word c = search needs
+
+word-requires : tie.Need-word-requires
+word-requires c κs = search needs
+
+cast-k : tie.Need-cast-k
+cast-k c = search needs
+
+sub-quoted : tie.Need-sub-quoted
+sub-quoted c = search needs
+
+part-quoted-start : tie.Need-part-quoted-start
+part-quoted-start c = search needs
+
+part-quoted-end : tie.Need-part-quoted-end
+part-quoted-end c = in-room _ _ _ _ _ _ _ (c .before .before .before .before .before .before .before .before .n .given .1) (c .before .before .before .before .before .before .before .before .before .before .before .before .read-fstring .ensures)
+
+quoted-requires : tie.Need-quoted-requires
+quoted-requires c κs = search needs
+
+same-length : tie.Need-same-length
+same-length c = search needs
+
+same-length-2 : tie.Need-same-length-2
+same-length-2 c = search needs
+
+returns : tie.Need-returns
+returns c = search needs
+
+same-length-3 : tie.Need-same-length-3
+same-length-3 c = search needs
+
+same-length-4 : tie.Need-same-length-4
+same-length-4 c = search needs
+
+returns-2 : tie.Need-returns-2
+returns-2 c = search needs
+
+pub text-in-spec : {M : Type 1} → statement M
+text-in-spec =
+    tie.close
+    (tie.spec
+    read-fstring-requires
+    enum-known-r
+    refused-requires
+    enum-known-n
+    slice-aggregate-word
+    word-requires
+    cast-k
+    sub-quoted
+    part-quoted-start
+    part-quoted-end
+    quoted-requires
+    same-length
+    same-length-2
+    returns
+    same-length-3
+    same-length-4
+    returns-2)

@@ -1,0 +1,110 @@
+// Writing answers into a lent buffer. Each function takes the place to write at and answers the place behind what it wrote, which is
+// never past the buffer's end: what does not fit is left out.
+use vrf_bitio::Refusal;
+ghost use Prim.Native.Nat.{_≤_};
+ghost use lib.ListN.{length};
+
+// The place itself, or the end where it is past it.
+fn clipped(out: &[u8], to: usize) -> usize
+    ensures { λ r. ⌜ r ≤ length (now (out .entry)) ⌝ }
+{
+    if to < out.len() { to } else { out.len() }
+}
+
+pub fn byte(out: &mut [u8], to: usize, b: u8) -> usize
+    ensures { λ r. ⌜ r ≤ length (now (out .entry)) ⌝ }
+{
+    if to < out.len() {
+        out[to] = b;
+        to + 1
+    } else {
+        out.len()
+    }
+}
+
+pub fn word(out: &mut [u8], to: usize, text: &[u8]) -> usize
+    ensures { λ r. ⌜ r ≤ length (now (out .entry)) ⌝ }
+{
+    let mut to = clipped(out, to);
+    for k in 0..text.len() {
+        to = byte(out, to, text[k]);
+    }
+    to
+}
+
+// In decimal. The digits before the last are those of a tenth.
+pub fn number(out: &mut [u8], to: usize, n: u64) -> usize
+    ensures { λ r. ⌜ r ≤ length (now (out .entry)) ⌝ }
+{
+    if n < 10 {
+        return byte(out, to, 48 + n as u8);
+    }
+    let at = number(out, to, n / 10);
+    byte(out, at, 48 + (n % 10) as u8)
+}
+
+// In decimal, below 0 with a sign. The lowest number has no positive one, so the number after it is negated.
+pub fn signed(out: &mut [u8], to: usize, n: i32) -> usize
+    ensures { λ r. ⌜ r ≤ length (now (out .entry)) ⌝ }
+{
+    if n < 0 {
+        let at = byte(out, to, b'-');
+        return number(out, at, ((-1 - n) as u64) + 1);
+    }
+    number(out, to, n as u64)
+}
+
+// The digit of a number below 16.
+fn digit(n: u8) -> u8
+    requires { ⌜ n ≤ 15 ⌝ }
+{
+    if n < 10 { 48 + n } else { 87 + n }
+}
+
+// A byte of a text: as it is, or as `\xHH`.
+fn shown(out: &mut [u8], to: usize, b: u8) -> usize
+    ensures { λ r. ⌜ r ≤ length (now (out .entry)) ⌝ }
+{
+    if 0x20 <= b && b <= 0x7E && b != b'"' && b != b'\\' {
+        return byte(out, to, b);
+    }
+    let slash = byte(out, to, b'\\');
+    let x = byte(out, slash, b'x');
+    let high = byte(out, x, digit(b / 16));
+    byte(out, high, digit(b % 16))
+}
+
+pub fn quoted(out: &mut [u8], to: usize, text: &[u8]) -> usize
+    ensures { λ r. ⌜ r ≤ length (now (out .entry)) ⌝ }
+{
+    let mut at = byte(out, to, b'"');
+    for k in 0..text.len() {
+        at = shown(out, at, text[k]);
+    }
+    byte(out, at, b'"')
+}
+
+pub fn refusal(out: &mut [u8], to: usize, r: Refusal) -> usize
+    ensures { λ r. ⌜ r ≤ length (now (out .entry)) ⌝ }
+{
+    let said = word(out, to, b"refused ");
+    let number_end = number(out, said, r.number as u64);
+    let a = byte(out, number_end, b' ');
+    let a_end = number(out, a, r.a);
+    let b = byte(out, a_end, b' ');
+    number(out, b, r.b)
+}
+
+// What every line begins with: the number of its call.
+pub fn begin(out: &mut [u8], to: usize, call: u64) -> usize
+    ensures { λ r. ⌜ r ≤ length (now (out .entry)) ⌝ }
+{
+    let at = number(out, to, call);
+    byte(out, at, b' ')
+}
+
+pub fn end(out: &mut [u8], to: usize) -> usize
+    ensures { λ r. ⌜ r ≤ length (now (out .entry)) ⌝ }
+{
+    byte(out, to, b'\n')
+}

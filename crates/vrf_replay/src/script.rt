@@ -1,0 +1,168 @@
+// Taking things off a script. A place is never past the script's end, and a number that the end cuts off reads as if zeros followed:
+// whoever takes numbers asks first whether enough bytes are left.
+use vrf_bitio::Cursor;
+use vrf_bitio::Opened;
+ghost use mathlib.Core.Path.{_≡_};
+ghost use Prim.Native.Nat.{_+_, _-_, _≤_};
+ghost use lib.ListN.{length};
+ghost use Rattle.vrf_replay.specs.Places.{BlobIn, AskedIn};
+
+// A blob's length from here on stands for one that is filled.
+const FILLED: usize = 0x8000_0000;
+
+// The bytes of a blob. They stand in the script from the first place up to the second; or only the first of them do, and the byte
+// behind those fills the blob up to its length.
+pub enum Blob {
+    Here(usize, usize),
+    Filled(usize, usize, usize),
+    Cut,
+}
+
+// A reading of the call `bits`, with what it is given.
+pub enum Reading {
+    Bit,
+    Bits(u32),
+    U8,
+    U32,
+    I32,
+    Packed,
+    Text,
+    Copy(u32, u64),
+    Sub(u64),
+    Up,
+    Unknown,
+}
+
+// A reading and the place behind it.
+pub enum Asked {
+    Reading(Reading, usize),
+    Cut,
+}
+
+// How many bytes are left at a place.
+pub fn left(s: &[u8], at: usize) -> usize
+    ensures { λ r. ⌜ r ≡ length (now (s .entry)) - at ⌝ }
+{
+    if at < s.len() { s.len() - at } else { 0 }
+}
+
+pub fn long_at(s: &[u8], at: usize) -> u64 {
+    if at < s.len() {
+        vrf_bitio::bits_at(&s[at..], 0, 64)
+    } else {
+        0
+    }
+}
+
+pub fn word_at(s: &[u8], at: usize) -> u32 {
+    (long_at(s, at) % 0x1_0000_0000) as u32
+}
+
+pub fn take_blob(s: &[u8], at: usize) -> Blob
+    ensures { λ r. ⌜ BlobIn (length (now (s .entry))) r ⌝ }
+{
+    if left(s, at) < 4 {
+        return Blob::Cut;
+    }
+    let n = word_at(s, at) as usize;
+    let from = at + 4;
+    if FILLED <= n {
+        return take_filled(s, from, n - FILLED);
+    }
+    if left(s, from) < n {
+        return Blob::Cut;
+    }
+    Blob::Here(from, from + n)
+}
+
+// A filled blob of n bytes. Where it is said to begin with more than those it is no blob.
+fn take_filled(s: &[u8], at: usize, n: usize) -> Blob
+    ensures { λ r. ⌜ BlobIn (length (now (s .entry))) r ⌝ }
+{
+    if left(s, at) < 4 {
+        return Blob::Cut;
+    }
+    let head = word_at(s, at) as usize;
+    let from = at + 4;
+    if n < head {
+        return Blob::Cut;
+    }
+    if left(s, from) <= head {
+        return Blob::Cut;
+    }
+    Blob::Filled(from, from + head, n)
+}
+
+fn copy_in(dst: &mut [u8], src: &[u8])
+    requires { ⌜ length (now src) ≤ length (now dst) ⌝ }
+{
+    for k in 0..src.len() {
+        dst[k] = src[k];
+    }
+}
+
+fn fill_from(dst: &mut [u8], from: usize, b: u8) {
+    for k in from..dst.len() {
+        dst[k] = b;
+    }
+}
+
+// Lays a filled blob out: its head, and then its last byte up to the end.
+pub fn lay_out(dst: &mut [u8], head: &[u8], fill: u8)
+    requires { ⌜ length (now head) ≤ length (now dst) ⌝ }
+{
+    copy_in(dst, head);
+    fill_from(dst, head.len(), fill);
+}
+
+// A window's two numbers stand behind its blob, whose bytes are s.
+pub fn window(s: &[u8], script: &[u8], at: usize) -> Opened
+    requires { ⌜ at + 16 ≤ length (now script) ⌝ }
+{
+    Cursor::window(s, long_at(script, at), long_at(script, at + 8))
+}
+
+// How many bytes of arguments follow the byte of a reading.
+fn arguments(kind: u8) -> usize
+    ensures { λ r. ⌜ r ≤ 12 ⌝ }
+{
+    match kind {
+        1 => 4,
+        8 => 12,
+        9 => 8,
+        _ => 0,
+    }
+}
+
+fn reading_of(s: &[u8], kind: u8, at: usize) -> Reading
+    requires { ⌜ at ≤ length (now s) ⌝ }
+{
+    match kind {
+        0 => Reading::Bit,
+        1 => Reading::Bits(word_at(s, at)),
+        2 => Reading::U8,
+        3 => Reading::U32,
+        4 => Reading::I32,
+        5 => Reading::Packed,
+        6 => Reading::Text,
+        8 => Reading::Copy(word_at(s, at), long_at(s, at + 4)),
+        9 => Reading::Sub(long_at(s, at)),
+        10 => Reading::Up,
+        _ => Reading::Unknown,
+    }
+}
+
+pub fn take_reading(s: &[u8], at: usize) -> Asked
+    ensures { λ r. ⌜ AskedIn (length (now (s .entry))) r ⌝ }
+{
+    if s.len() <= at {
+        return Asked::Cut;
+    }
+    let kind = s[at];
+    let from = at + 1;
+    let n = arguments(kind);
+    if left(s, from) < n {
+        return Asked::Cut;
+    }
+    Asked::Reading(reading_of(s, kind, from), from + n)
+}
