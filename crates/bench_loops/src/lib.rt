@@ -6,6 +6,8 @@ use vrf_bitio::Cursor;
 use vrf_bitio::Opened;
 use vrf_bitio::Word;
 use vrf_text::Text;
+ghost use Prim.Native.Nat.{_<_};
+ghost use lib.ListN.{length};
 
 // The cursor over all of s, or an empty one where s is too large for a window.
 fn whole(s: &[u8]) -> Cursor {
@@ -26,35 +28,56 @@ fn whole(s: &[u8]) -> Cursor {
     }
 }
 
-fn byte_at(s: &[u8], k: usize) -> u8 {
-    if k < s.len() { s[k] } else { 0 }
+fn width_at(widths: &[u8], k: usize) -> u8
+    requires { ⌜ k < length (now widths) ⌝ }
+{
+    widths[k]
 }
 
-// The place behind k, from the start again at the end.
-fn next_of(s: &[u8], k: usize) -> usize {
-    if k < s.len() {
-        if k + 1 < s.len() { k + 1 } else { 0 }
-    } else {
-        0
-    }
+// What a turn over all widths leaves.
+struct Turn {
+    c: Cursor,
+    sum: u64,
+    refused: bool,
 }
 
-// Reads as many bits as each of widths says, over and over, until a reading is refused; answers the wrapping sum of the values.
-#[no_mangle]
-pub extern "C" fn bench_read_bits(s: &[u8], widths: &[u8]) -> u64 {
-    let mut c = whole(s);
-    let mut sum: u64 = 0;
-    let mut k: usize = 0;
-    let mut turns: u64 = 0;
-    while turns < 4_294_967_296 {
-        match c.read_bits(s, byte_at(widths, k) as u32) {
-            Bits::Refused(_) => return sum,
+// Reads as many bits as each of widths says, until a reading is refused.
+fn read_widths(s: &[u8], widths: &[u8], from: Cursor, sum: u64) -> Turn {
+    let mut c = from;
+    let mut sum = sum;
+    for k in 0..widths.len() {
+        match c.read_bits(s, width_at(widths, k) as u32) {
+            Bits::Refused(_) => return Turn {
+                c: c,
+                sum: sum,
+                refused: true,
+            },
             Bits::Value(v, next) => {
                 sum = std::num::wrapping_add_u64(sum, v);
                 c = next;
             }
         }
-        k = next_of(widths, k);
+    }
+    Turn {
+        c: c,
+        sum: sum,
+        refused: false,
+    }
+}
+
+// Reads as widths say, over and over, until a reading is refused; answers the wrapping sum of the values.
+#[no_mangle]
+pub extern "C" fn bench_read_bits(s: &[u8], widths: &[u8]) -> u64 {
+    let mut c = whole(s);
+    let mut sum: u64 = 0;
+    let mut turns: u64 = 0;
+    while turns < 4_294_967_296 {
+        let t = read_widths(s, widths, c, sum);
+        if t.refused {
+            return t.sum;
+        }
+        c = t.c;
+        sum = t.sum;
         turns += 1;
     }
     sum

@@ -97,6 +97,8 @@ pub struct Session {
     sides: Sides,
     script: Script,
     calls: u64,
+    /// The ported code has no field names yet: their parts are read instead.
+    names_in_parts: bool,
 }
 
 impl Session {
@@ -105,11 +107,16 @@ impl Session {
             sides: Sides::open(memory)?,
             script: Script::new(),
             calls: 0,
+            names_in_parts: env::var_os("VRF_COMPARE_NO_NAMES").is_some(),
         })
     }
 
     pub fn bits(&mut self, win: &Win<'_>, readings: &[Reading]) -> Result<(), Trouble> {
-        self.script.bits(win, readings);
+        if self.names_in_parts {
+            self.script.bits(win, &in_parts(readings));
+        } else {
+            self.script.bits(win, readings);
+        }
         self.calls += 1;
         if self.script.len() < CHUNK {
             return Ok(());
@@ -134,6 +141,15 @@ impl Session {
         self.script.clear();
         Ok(())
     }
+}
+
+/// A field name read as what it most often consists of.
+fn in_parts(readings: &[Reading]) -> Vec<Reading> {
+    let parts = |reading: &Reading| match reading {
+        Reading::Name => vec![Reading::U8, Reading::Text, Reading::I32],
+        other => vec![*other],
+    };
+    readings.iter().flat_map(parts).collect()
 }
 
 fn count_calls(script: &Script) -> Result<u64, Trouble> {
