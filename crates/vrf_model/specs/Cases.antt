@@ -109,17 +109,18 @@ keeping =
 -- a second group with a leaf makes it ambiguous, and what is ambiguous ends the search
 abbrev claiming : List (Call × Answer)
 claiming =
+    add-export-group (ascii "/X") 1 0 ⇒ at-place 0 ∷
     unique-leaf-match (ascii "X") ⇒ found none ∷
-    add-export-group (ascii "/a.X") 1 0 ⇒ at-place 0 ∷
-    unique-leaf-match (ascii "X") ⇒ found (some 0) ∷
-    add-export-group (ascii "/b.X") 2 0 ⇒ at-place 1 ∷
-    add-export-group (ascii "/c.XComponent") 3 0 ⇒ at-place 2 ∷
+    add-export-group (ascii "/a.X") 2 0 ⇒ at-place 1 ∷
+    unique-leaf-match (ascii "X") ⇒ found (some 1) ∷
+    add-export-group (ascii "/b.X") 3 0 ⇒ at-place 2 ∷
+    add-export-group (ascii "/c.XComponent") 4 0 ⇒ at-place 3 ∷
     unique-leaf-match (ascii "X") ⇒ found none ∷
-    unique-leaf-match (ascii "XComponent") ⇒ found (some 2) ∷
+    unique-leaf-match (ascii "XComponent") ⇒ found (some 3) ∷
     -- the second claim goes with its group
-    add-export-group (ascii "/b.Y_C") 2 0 ⇒ at-place 1 ∷
-    unique-leaf-match (ascii "X") ⇒ found (some 0) ∷
-    unique-leaf-match (ascii "Y") ⇒ found (some 1) ∷
+    add-export-group (ascii "/b.Y_C") 3 0 ⇒ at-place 2 ∷
+    unique-leaf-match (ascii "X") ⇒ found (some 1) ∷
+    unique-leaf-match (ascii "Y") ⇒ found (some 2) ∷
     unique-leaf-match (ascii "a.X") ⇒ found none ∷ []
 
 -- no shorter stem after an ambiguous claim
@@ -172,11 +173,18 @@ exporting-stops =
     read-net-field-exports (whole (two-exports 2 0 (0 ∷ []))) ⇒ refusal-of 20 2 0 ∷
     group-path 0 ⇒ text (ascii "/a") ∷
     read-net-field-exports (whole (two-exports 1 2 (0 ∷ []))) ⇒ refusal-of 21 1 2 ∷
-    read-net-field-exports (whole (two-exports 1 0 [])) ⇒ refusal-of 10 (8 * 30) 8 ∷ []
+    read-net-field-exports (whole (two-exports 1 0 [])) ⇒ refusal-of 10 (8 * 30) 8 ∷
+    read-net-field-exports (whole (two-exports 1 1 (sent "/a" ++ 3 ∷ 1 ∷ 8 ∷ []))) ⇒ refusal-of 22 65537 0 ∷ []
 
--- GUID 5 with a checksum, inside GUID 7; the inner object is recorded first
+-- 65,536 slots pass
+abbrev exporting-many : List (Call × Answer)
+exporting-many =
+    read-net-field-exports (whole (small 1 ∷ small 1 ∷ small 1 ∷ [] ++ sent "/a" ++ 1 ∷ 1 ∷ 8 ∷ 0 ∷ [])) ⇒ ran 1 (8 * 14) ∷
+    group-slots 0 ⇒ number 65536 ∷ []
+
+-- GUID 5 with a path and a checksum, inside GUID 7, which is recorded first
 abbrev one-object : ℕ → List ℕ → List ℕ
-one-object size more = small 1 ∷ [] ++ word size ++ small 5 ∷ 5 ∷ small 7 ∷ 1 ∷ 0 ∷ [] ++ sent "Q" ++ sent "P" ++ word 9 ++ more
+one-object size more = small 1 ∷ [] ++ word size ++ small 5 ∷ 0xFD ∷ small 7 ∷ 1 ∷ 0 ∷ [] ++ sent "Q" ++ sent "P" ++ word 9 ++ more
 
 abbrev exporting-guids : List (Call × Answer)
 exporting-guids =
@@ -184,7 +192,11 @@ exporting-guids =
     guid-path 0 ⇒ text (ascii "Q") ∷
     guid-path 1 ⇒ text (ascii "P") ∷
     get-outer-guid 5 ⇒ found (some 7) ∷
+    get-outer-guid 7 ⇒ found none ∷
     read-export-guids (whole (one-object 22 (0 ∷ []))) ⇒ refusal-of 25 1 0 ∷
+    read-export-guids (whole (one-object 2 [])) ⇒ refusal-of 10 (8 * 2) 8 ∷
+    read-export-guids (whole (small 1 ∷ 0 ∷ 0 ∷ 0 ∷ 0x80 ∷ [])) ⇒ refusal-of 24 0x80000000 0 ∷
+    read-export-guids (whole (small 1 ∷ 0xFF ∷ 0xFF ∷ 0xFF ∷ 0x7F ∷ [])) ⇒ refusal-of 10 (8 * 5) (8 * 0x7FFFFFFF) ∷
     read-export-guids (whole (one-object 22 [])) ⇒ refusal-of 10 (8 * 5) (8 * 22) ∷
     load-object (whole (small 5 ∷ 1 ∷ [])) false 0 ⇒ ran 5 8 ∷
     load-object (whole (small 1 ∷ 0 ∷ [])) false 15 ⇒ ran 1 16 ∷
@@ -295,9 +307,9 @@ two-named =
 abbrev two-joining : List (Call × Answer)
 two-joining = read-checkpoint-tables (whole (encodeBook (play (calls two-named) sparse .content))) ⇒ refusal-of 42 5 0 ∷ []
 
--- a counter at its top
+-- counters at their tops
 abbrev full : Book
-full = record { content = opened .content; counters = record { schema = 0; guid = 0; dropped = 2 ^ 64 - 1; replaced = 0; renamed = 0 } }
+full = record { content = opened .content; counters = record { schema = 2 ^ 64 - 1; guid = 2 ^ 64 - 1; dropped = 2 ^ 64 - 1; replaced = 2 ^ 64 - 1; renamed = 2 ^ 64 - 1 } }
 
 pub record Case-answers : Type 0 where
   pub added : Answered adding opened
@@ -311,6 +323,7 @@ pub record Case-answers : Type 0 where
   pub tagged : Answered tagging opened
   pub exported : Answered exporting opened
   pub exports-stopped : Answered exporting-stops opened
+  pub many-exported : Answered exporting-many opened
   pub guids-exported : Answered exporting-guids opened
   pub guids-read : Answered reading-guids opened
   pub literals-read : Answered reading-literals tight
@@ -326,7 +339,7 @@ pub record Case-answers : Type 0 where
   pub two-named-early : Answered two-named sparse
   pub two-written : write 44 (play (calls two-named) sparse .content) ≡ written 44
   pub two-refused : Answered two-joining sparse
-  pub counter-wraps : runBook (set-field-on-group 1 0 5 []) full .counters .dropped ≡ 0
+  pub tops-passed : play (calls stepping) full .counters ≡ record { schema = 3; guid = 2; dropped = 1; replaced = 0; renamed = 0 }
   pub name-fits : limited (replicate 4096 65) 0 [] ≡ ok (replicate 4096 65) 0 []
   pub name-too-long : limited (replicate 4097 65) 0 [] ≡ refused 41 4097 0
 
@@ -344,6 +357,7 @@ case-answers = record {
   tagged = refl;
   exported = refl;
   exports-stopped = refl;
+  many-exported = refl;
   guids-exported = refl;
   guids-read = refl;
   literals-read = refl;
@@ -359,7 +373,7 @@ case-answers = record {
   two-named-early = refl;
   two-written = refl;
   two-refused = refl;
-  counter-wraps = refl;
+  tops-passed = refl;
   name-fits = refl;
   name-too-long = refl;
 }

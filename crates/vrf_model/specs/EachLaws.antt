@@ -36,7 +36,7 @@ module _ {A : Type 0} {P : A → Type 0} where
   each-or (cons h t) k zero = h
   each-or (cons h t) k (suc i) = each-or t k i
 
-  -- and so of each
+  -- what holds at every place holds of each
   pub or-each : (l : List A) (d : A) → ((i : ℕ) → P (getD l i d)) → Each P l
   or-each [] d h = nil
   or-each (a ∷ l) d h = cons (h 0) (or-each l d (λ i. h (suc i)))
