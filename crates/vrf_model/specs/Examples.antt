@@ -12,6 +12,7 @@ use Rattle.vrf_bitio.specs.Examples.{Packed-examples, packed-examples}
 use Rattle.vrf_path.specs.Keys.{defaultPrefix, keys}
 use Rattle.vrf_names.specs.Names.{rendered}
 use Rattle.vrf_path.specs.Examples as path-examples
+use Rattle.vrf_names.specs.Examples as name-examples
 use Rattle.vrf_model.specs.Book.{Allowances, Content, Book, freshBook}
 use Rattle.vrf_model.specs.Setting.{refuses, addGroup}
 use Rattle.vrf_model.specs.Intake.{stop}
@@ -89,7 +90,7 @@ document-01-examples = record {
   P1-P4 = packed-examples;
   K1 = path-examples.K1;
   K2 = refl;
-  N1 = path-examples.N1;
+  N1 = name-examples.N1;
   G1 = refl;
   G1-writing = refl;
   G2 = refl;
