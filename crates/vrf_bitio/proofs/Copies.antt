@@ -14,6 +14,7 @@ use Rattle.vrf_bitio.specs.Number.{lowBytes}
 use Rattle.vrf_bitio.specs.NumberLaws.{lowBytes-length}
 use Rattle.vrf_bitio.specs.Pasted.{pasted}
 use Rattle.vrf_bitio.specs.PastedLaws.{pasted-nil, pasted-cons, pasted-length, pasted-append}
+use Rattle.vrf_bitio.proofs.Words.{cut, join}
 
 -- `put_bytes` after k of t bytes: l is the list at the start, m the list now, left what is still to be written
 pub record Putting (l m : List ℕ) (at v t k left : ℕ) : Type 0 where
@@ -105,30 +106,63 @@ packed-low s q (suc k) m h =
     let ih = packed-low s (q + 8) k (m - 8) (omega arith) in
     by-order m 8 (last-byte s q k m ih) (whole-byte s q k m ih)
 
--- `copy_bits` before its first word
-pub copy-start : (s d : List ℕ) (p : ℕ) → d ≡ pasted d 0 (bytesOf s p (8 * 0))
-unfolding bytesOf
-copy-start s d p = sym (pasted-nil d 0)
+-- `copy_bits` after k of its words: d is the target at the start, m the target now, i the byte of the word that is carried
+pub record Copying (s d m : List ℕ) (p words i carry k : ℕ) : Type 0 where
+  pub few : k ≤ words
+  pub long : length m ≡ length d
+  pub same : m ≡ pasted d 0 (bytesOf s p (8 * k))
+  pub place : i ≡ p / 8 + 8 * k
+  pub held : carry ≡ bitsOf s (8 * i) 64
 
--- `copy_bits` after k words: d is the target at the start, m the target now
-module _ (s d m : List ℕ) (p k w : ℕ) (e : w ≡ bitsOf s (p + 64 * k) 64) where
-  pub copy-step : m ≡ pasted d 0 (bytesOf s p (8 * k)) → 8 * (k + 1) ≤ length d → pasted m (8 * k) (lowBytes 8 w) ≡ pasted d 0 (bytesOf s p (8 * (k + 1)))
-  copy-step i fits =
-      let word : lowBytes 8 w ≡ bytesOf s (p + 64 * k) 8 = ap (lowBytes 8) e ∙ sym (bytes-low s (p + 64 * k) 8) in
+pub copy-start : (s d : List ℕ) (p words carry : ℕ) → carry ≡ bitsOf s (8 * (p / 8)) 64 → Copying s d d p words (p / 8) carry 0
+unfolding bytesOf
+copy-start s d p words carry e = record { few = omega arith; long = refl; same = sym (pasted-nil d 0); place = omega arith; held = e }
+
+module _ (s d m : List ℕ) (p words i carry k : ℕ) (c : Copying s d m p words i carry k) where
+  -- at its end, with w the bits that are left, in as many bytes as they take
+  pub copy-end : (n w : ℕ) → n / 64 ≡ k → bytesFor n ≤ length d → w ≡ bitsOf s (p + 64 * k) (n % 64)
+      → pasted m (8 * (n / 64)) (lowBytes ((n % 64 + 7) / 8) w) ≡ pasted d 0 (packedBits s p n (bytesFor n))
+  copy-end n w at-end fits e =
       let at : 8 * k ≡ 0 + length (bytesOf s p (8 * k)) = rw bytes-length (omega arith) in
       let room : 8 * k ≤ length d = omega arith in
-      let next : 8 * (k + 1) ≡ 8 * k + 8 = omega arith in
-      let bit : 64 * k ≡ 8 * (8 * k) = omega arith in
-      rw (i, word) (pasted-append (bytesOf s p (8 * k)) (bytesOf s (p + 64 * k) 8) d 0 (8 * k) at room ∙ ap (pasted d 0) (rw (next, bytes-append s p (8 * k) 8, bit)))
+      let count : bytesFor n ≡ 8 * k + (n % 64 + 7) / 8 = omega arith in
+      let left : n - 8 * (8 * k) ≡ n % 64 = omega arith in
+      let bit : p + 8 * (8 * k) ≡ p + 64 * k = omega arith in
+      rw (at-end, c .same) (pasted-append (bytesOf s p (8 * k)) (lowBytes ((n % 64 + 7) / 8) w) d 0 (8 * k) at room
+      ∙ ap (pasted d 0) (rw (count, packed-split s p n (8 * k) ((n % 64 + 7) / 8) (omega arith), left, bit, packed-low s (p + 64 * k) ((n % 64 + 7) / 8) (n % 64) (omega arith), e)))
 
--- and at its end: the bits that are left, in as many bytes as they take
-pub copy-end : (s d m : List ℕ) (p n w : ℕ) → w ≡ bitsOf s (p + 64 * (n / 64)) (n % 64) → m ≡ pasted d 0 (bytesOf s p (8 * (n / 64))) → bytesFor n ≤ length d
-    → pasted m (8 * (n / 64)) (lowBytes ((n % 64 + 7) / 8) w) ≡ pasted d 0 (packedBits s p n (bytesFor n))
-copy-end s d m p n w e i fits =
-    let at : 8 * (n / 64) ≡ 0 + length (bytesOf s p (8 * (n / 64))) = rw bytes-length (omega arith) in
-    let room : 8 * (n / 64) ≤ length d = omega arith in
-    let count : bytesFor n ≡ 8 * (n / 64) + (n % 64 + 7) / 8 = omega arith in
-    let left : n - 8 * (8 * (n / 64)) ≡ n % 64 = omega arith in
-    let bit : p + 8 * (8 * (n / 64)) ≡ p + 64 * (n / 64) = omega arith in
-    rw i (pasted-append (bytesOf s p (8 * (n / 64))) (lowBytes ((n % 64 + 7) / 8) w) d 0 (8 * (n / 64)) at room
-    ∙ ap (pasted d 0) (rw (count, packed-split s p n (8 * (n / 64)) ((n % 64 + 7) / 8) (omega arith), left, bit, packed-low s (p + 64 * (n / 64)) ((n % 64 + 7) / 8) (n % 64) (omega arith), e)))
+  -- and with none
+  pub copy-whole : (n : ℕ) → n / 64 ≡ k → bytesFor n ≤ length d → n % 64 ≤ 0 → m ≡ pasted d 0 (packedBits s p n (bytesFor n))
+  unfolding lowBytes
+  copy-whole n at-end fits h =
+      let none : n % 64 ≡ 0 = omega arith in
+      let no-bytes : (n % 64 + 7) / 8 ≡ 0 = omega arith in
+      sym (pasted-nil m (8 * (n / 64))) ∙ rw no-bytes at (copy-end n 0 at-end fits (rw none (sym (no-bits s (p + 64 * k)))))
+
+  -- the word that is carried and the one behind it
+  module _ (next w : ℕ) (en : next ≡ bitsOf s (8 * (i + 8)) 64) (ew : w ≡ carry / 2 ^ (p % 8) + next % 2 ^ (p % 8) * 2 ^ (64 - p % 8)) where
+    word : w ≡ bitsOf s (p + 64 * k) 64
+    word =
+        let behind : 8 * (i + 8) ≡ 8 * i + 64 = omega arith in
+        let here : 8 * i + p % 8 ≡ p + 64 * k = omega (arith, c .place) in
+        ew ∙ join s (8 * i) (p % 8) carry next (omega arith) (c .held) (rw behind at en) ∙ ap (λ (q : ℕ). bitsOf s q 64) here
+
+    -- one of its turns
+    pub copy-step : (m′ : List ℕ) → m′ ≡ pasted m (8 * k) (lowBytes 8 w) → length m′ ≡ length m → k < words → 8 * words ≤ length d → Copying s d m′ p words (i + 8) next (k + 1)
+    copy-step m′ e l more fits =
+        let bytes : lowBytes 8 w ≡ bytesOf s (p + 64 * k) 8 = ap (lowBytes 8) word ∙ sym (bytes-low s (p + 64 * k) 8) in
+        let at : 8 * k ≡ 0 + length (bytesOf s p (8 * k)) = rw bytes-length (omega arith) in
+        let room : 8 * k ≤ length d = omega arith in
+        let on : 8 * (k + 1) ≡ 8 * k + 8 = omega arith in
+        let bit : 64 * k ≡ 8 * (8 * k) = omega arith in
+        record {
+          few = omega arith;
+          long = l ∙ c .long;
+          same = e ∙ rw (c .same, bytes) (pasted-append (bytesOf s p (8 * k)) (bytesOf s (p + 64 * k) 8) d 0 (8 * k) at room ∙ ap (pasted d 0) (rw (on, bytes-append s p (8 * k) 8, bit)));
+          place = omega (arith, c .place);
+          held = en;
+        }
+
+    -- what the last turn writes of it
+    pub last-word : (n v : ℕ) → v ≡ w % 2 ^ (n % 64) → v ≡ bitsOf s (p + 64 * k) (n % 64)
+    last-word n v e = e ∙ cut s (p + 64 * k) (n % 64) w (omega arith) word

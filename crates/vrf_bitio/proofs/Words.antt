@@ -2,10 +2,10 @@
 use mathlib.Core.Path.{_≡_, refl, sym, ap, _∙_, subst}
 use mathlib.Core.List.{List}
 use Prim.Native.Nat.{ℕ, suc, _+_, _-_, _*_, _/_, _%_, _^_, _<_, _≤_}
-use native.Mathlib.Nat.{lt-of-lt-of-le, mod-lt, one-mul, mul-comm, div-one, mod-eq-of-lt}
+use native.Mathlib.Nat.{lt-of-lt-of-le, mod-lt, one-mul, suc-mul, mul-comm, mul-assoc, mul-mod-left, mul-le-mul-right, div-one, mod-eq-of-lt}
 use native.Mathlib.Omega.{arith}
 use lib.ListN.{length, getD}
-use lib.Pow.{pow-pos, pow-lt, pow-mono, field, shl-shr, shl-exact}
+use lib.Pow.{pow-pos, pow-lt, pow-mono, pow-add, mod-pow-add, field, shr-lt, shl-shr, shl-exact}
 use Rattle.vrf_bitio.specs.Bits.{bitsOf}
 use Rattle.vrf_bitio.specs.BitsLaws.{bits-cons, bits-byte, bits-lt, bits-split, bits-high, bits-low, bits-inside, bits-past}
 
@@ -61,13 +61,51 @@ low x w h =
     let e : w + (64 - w) ≡ 64 = omega arith in
     subst (λ (n : ℕ). x * 2 ^ (64 - w) % 2 ^ n / 2 ^ (64 - w) ≡ x % 2 ^ w) e (field (x * 2 ^ (64 - w)) w (64 - w) ∙ ap (λ (y : ℕ). y % 2 ^ w) (shl-shr x (64 - w)))
 
+-- a load from bit q on, shifted by off, and its low off bits
+module _ (s : List ℕ) (q off word : ℕ) (h : off ≤ 64) (e : word ≡ bitsOf s q 64) where
+  all : off + (64 - off) ≡ 64
+  all = omega arith
+
+  shifted : word / 2 ^ off ≡ bitsOf s (q + off) (64 - off)
+  shifted = rw e (subst (λ (n : ℕ). bitsOf s q n / 2 ^ off ≡ bitsOf s (q + off) (64 - off)) all (bits-high s q off (64 - off)))
+
+  pub cut : word % 2 ^ off ≡ bitsOf s q off
+  cut = rw e (subst (λ (n : ℕ). bitsOf s q n % 2 ^ off ≡ bitsOf s q off) all (bits-low s q off (64 - off)))
+
+-- the 64 bits from bit off on of two loads, one behind the other
+pub join : (s : List ℕ) (q off carry next : ℕ) → off ≤ 64 → carry ≡ bitsOf s q 64 → next ≡ bitsOf s (q + 64) 64
+    → carry / 2 ^ off + next % 2 ^ off * 2 ^ (64 - off) ≡ bitsOf s (q + off) 64
+join s q off carry next h ec en =
+    let all : (64 - off) + off ≡ 64 = omega arith in
+    let behind : q + off + (64 - off) ≡ q + 64 = omega arith in
+    let both : bitsOf s (q + off) 64 ≡ bitsOf s (q + off) (64 - off) + 2 ^ (64 - off) * bitsOf s (q + 64) off = ap (bitsOf s (q + off)) (sym all) ∙ bits-split s (q + off) (64 - off) off ∙ rw behind in
+    rw (shifted s q off carry h ec, cut s (q + 64) off next h en, both, mul-comm (2 ^ (64 - off)))
+
+-- the upper of the two, by two shifts
+pub upper : (x off : ℕ) → off < 64 → x * 2 ^ (63 - off) % 2 ^ 64 * 2 ^ 1 % 2 ^ 64 ≡ x % 2 ^ off * 2 ^ (64 - off)
+upper x off h =
+    let one : (63 - off) + 1 ≡ 64 - off = omega arith in
+    let all : off + (64 - off) ≡ 64 = omega arith in
+    let power : x * 2 ^ (63 - off) * 2 ≡ x * 2 ^ (64 - off) = mul-assoc x (2 ^ (63 - off)) 2 ∙ ap (λ (y : ℕ). x * y) (sym (pow-add 2 (63 - off) 1) ∙ ap (λ (k : ℕ). 2 ^ k) one) in
+    let twice : x * 2 ^ (63 - off) % 2 ^ 64 * 2 % 2 ^ 64 ≡ x * 2 ^ (63 - off) * 2 % 2 ^ 64 = omega arith in
+    let fields : x * 2 ^ (64 - off) % 2 ^ 64 ≡ x % 2 ^ off * 2 ^ (64 - off) + 0 = ap (λ (k : ℕ). x * 2 ^ (64 - off) % 2 ^ k) (sym all) ∙ mod-pow-add (x * 2 ^ (64 - off)) off (64 - off) ∙ rw (shl-shr x (64 - off), mul-mod-left x (2 ^ (64 - off))) in
+    twice ∙ ap (λ (y : ℕ). y % 2 ^ 64) power ∙ fields ∙ omega arith
+
+-- and the two fit a word
+pub join-fits : (carry next off : ℕ) → off < 64 → carry < 2 ^ 64 → carry / 2 ^ off + next * 2 ^ (63 - off) % 2 ^ 64 * 2 ^ 1 % 2 ^ 64 < 2 ^ 64
+join-fits carry next off h hc =
+    let all : (64 - off) + off ≡ 64 = omega arith in
+    let all′ : off + (64 - off) ≡ 64 = omega arith in
+    let low : carry / 2 ^ off < 2 ^ (64 - off) = shr-lt (64 - off) off (subst (λ (k : ℕ). carry < 2 ^ k) (sym all) hc) in
+    let room : suc (next % 2 ^ off) * 2 ^ (64 - off) ≤ 2 ^ off * 2 ^ (64 - off) = mul-le-mul-right (2 ^ (64 - off)) (mod-lt next (pow-pos off)) in
+    let power : 2 ^ off * 2 ^ (64 - off) ≡ 2 ^ 64 = sym (pow-add 2 off (64 - off)) ∙ ap (λ (k : ℕ). 2 ^ k) all′ in
+    rw (upper next off h) (omega (arith, suc-mul (next % 2 ^ off) (2 ^ (64 - off))))
+
 -- a load at p's byte, shifted to p
 aligned : (s : List ℕ) (p word : ℕ) → word ≡ bitsOf s (8 * (p / 8)) 64 → word / 2 ^ (p % 8) ≡ bitsOf s p (64 - p % 8)
 aligned s p word e =
-    let e64 : p % 8 + (64 - p % 8) ≡ 64 = omega arith in
     let ep : 8 * (p / 8) + p % 8 ≡ p = omega arith in
-    rw e (subst (λ (n : ℕ). bitsOf s (8 * (p / 8)) n / 2 ^ (p % 8) ≡ bitsOf s p (64 - p % 8)) e64
-    (bits-high s (8 * (p / 8)) (p % 8) (64 - p % 8) ∙ ap (λ (q : ℕ). bitsOf s q (64 - p % 8)) ep))
+    shifted s (8 * (p / 8)) (p % 8) word (omega arith) e ∙ ap (λ (q : ℕ). bitsOf s q (64 - p % 8)) ep
 
 -- bits that one load holds
 pub within : (s : List ℕ) (p w word : ℕ) → word ≡ bitsOf s (8 * (p / 8)) 64 → w ≤ 64 - p % 8 → word / 2 ^ (p % 8) % 2 ^ w ≡ bitsOf s p w

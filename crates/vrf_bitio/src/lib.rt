@@ -203,25 +203,38 @@ fn put_bytes(dst: &mut [u8], at: usize, v: u64, t: usize)
     }
 }
 
-// Writes n bits from bit p on into the first bytes of dst, 64 at a time.
+// The 64 bits from bit off on of two words, carry and then next. The upper shift is made in two steps, as a shift by 64 is none.
+fn joined(carry: u64, next: u64, off: u32) -> u64
+    requires { ⌜ off < 64 ⌝ }
+    ensures { λ r. ⌜ r ≡ carry / 2 ^ off + next % 2 ^ off * 2 ^ (64 - off) ⌝ }
+{
+    (carry >> off) + ((next << (63 - off)) << 1)
+}
+
+// Writes n bits from bit p on into the first bytes of dst, 64 at a time. A word that was loaded for its low bits is carried into the
+// next turn for its others, so that each turn loads once.
 fn copy_bits(s: &[u8], p: u64, dst: &mut [u8], n: u32)
     requires { ⌜ (p < 2 ^ 33) × (bytesFor n ≤ length (now dst)) ⌝ }
     ensures { λ r. ⌜ now (dst .exit) ≡ pasted (now (dst .entry)) 0 (packedBits (now (s .entry)) p n (bytesFor n)) ⌝ }
 {
     let words = (n / 64) as usize;
+    let off = (p % 8) as u32;
+    let mut i = (p / 8) as usize;
+    let mut carry = load_u64(s, i);
     let mut k: usize = 0;
     while k < words {
-        put_bytes(dst, 8 * k, bits_within(s, p + 64 * (k as u64), 64), 8);
+        i += 8;
+        let next = load_u64(s, i);
+        put_bytes(dst, 8 * k, joined(carry, next, off), 8);
+        carry = next;
         k += 1;
     }
     let left = n % 64;
-    let tail = ((left + 7) / 8) as usize;
-    put_bytes(
-        dst,
-        8 * words,
-        bits_within(s, p + 64 * (words as u64), left),
-        tail,
-    );
+    if 0 < left {
+        let last = joined(carry, load_u64(s, i + 8), off);
+        let tail = ((left + 7) / 8) as usize;
+        put_bytes(dst, 8 * words, low_bits(last, left), tail);
+    }
 }
 
 // A packed number's value with one more chunk, the upper seven bits of b, above k others.
@@ -503,8 +516,6 @@ impl Cursor {
             (copied (now (s .entry)) (self .first) (self .count) (length (now (dst .entry))) n (self .pos))
             (now (dst .entry)) (now (dst .exit)) r ⌝ }
     {
-        let first = self.first;
-        let count = self.count;
         let pos = self.pos;
         let room = dst.len();
         if room < (n / 8 + (n % 8 + 7) / 8) as usize {
@@ -522,11 +533,10 @@ impl Cursor {
             });
         }
         copy_bits(s, self.at(), dst, n as u32);
-        Copied::Done(Cursor {
-            first,
-            count,
-            pos: pos + (n as u32),
-        })
+        // The cursor is copied whole and not field by field: a caller that loads two fields at once then need not wait for two stores.
+        let mut next = self;
+        next.pos = pos + (n as u32);
+        Copied::Done(next)
     }
 }
 

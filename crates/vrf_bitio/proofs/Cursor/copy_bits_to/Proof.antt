@@ -16,8 +16,8 @@ add-if1 c = search needs
 add-if1-2 : tie.Need-add-if1-2
 add-if1-2 c = search needs
 
-mul-t17 : tie.Need-mul-t17
-mul-t17 c = search needs
+mul-t16 : tie.Need-mul-t16
+mul-t16 c = search needs
 
 returns : tie.Need-returns
 returns c = (copy-short (now (c .before .before .before .args .s)) (c .before .before .before .args .self) (length (now (c .before .before .before .args .dst))) (c .before .before .before .args .n) (omega arith), refl)
@@ -25,8 +25,8 @@ returns c = (copy-short (now (c .before .before .before .args .s)) (c .before .b
 lacks-requires : tie.Need-lacks-requires
 lacks-requires c κs = search needs
 
-cast-t20 : tie.Need-cast-t20
-cast-t20 c = search needs
+cast-t19 : tie.Need-cast-t19
+cast-t19 c = search needs
 
 returns-2 : tie.Need-returns-2
 returns-2 c = (copy-lacking (now (c .before .before .before .before .before .args .s)) (c .before .before .before .before .before .args .self) (length (now (c .before .before .before .before .before .args .dst))) (c .before .before .before .before .before .args .n) (omega arith) (lacking (c .before .before .before .before .before .args .self) (c .before .before .before .before .before .args .n) (c .before .lacks .ensures) (c .if2 .taken)), refl)
@@ -40,17 +40,20 @@ cast-copy-bits c = omega (arith, enough (c .before .before .before .before .befo
 copy-bits-requires : tie.Need-copy-bits-requires
 copy-bits-requires c κs = search needs
 
-cast-t25 : tie.Need-cast-t25
-cast-t25 c = omega (arith, enough (c .before .before .before .before .before .before .before .before .before .before .args .self) (c .before .before .before .before .before .before .before .before .before .before .args .n) (c .before .before .before .before .before .before .lacks .ensures) (c .before .before .before .before .before .if2 .left))
+cast-next : tie.Need-cast-next
+cast-next c = let a = c .before .before .before .before .before .before .before .before .before .before .args in
+    omega (arith, enough (a .self) (a .n) (c .before .before .before .before .before .before .lacks .ensures) (c .before .before .before .before .before .if2 .left))
 
-add-t26 : tie.Need-add-t26
-add-t26 c = omega (arith, enough (c .before .before .before .before .before .before .before .before .before .before .args .self) (c .before .before .before .before .before .before .before .before .before .before .args .n) (c .before .before .before .before .before .before .lacks .ensures) (c .before .before .before .before .before .if2 .left))
+add-next : tie.Need-add-next
+add-next c = let a = c .before .before .before .before .before .before .before .before .before .before .args in
+    omega (arith, enough (a .self) (a .n) (c .before .before .before .before .before .before .lacks .ensures) (c .before .before .before .before .before .if2 .left))
 
 same-length : tie.Need-same-length
 same-length c = search needs
 
 returns-3 : tie.Need-returns-3
-returns-3 c = (packedBits (now (c .before .before .before .before .before .before .before .before .before .before .args .s)) ((c .before .before .before .before .before .before .before .before .before .before .args .self) .first + (c .before .before .before .before .before .before .before .before .before .before .args .self) .pos) (c .before .before .before .before .before .before .before .before .before .before .args .n) (bytesFor (c .before .before .before .before .before .before .before .before .before .before .args .n)), (copy-gave (now (c .before .before .before .before .before .before .before .before .before .before .args .s)) (c .before .before .before .before .before .before .before .before .before .before .args .self) (length (now (c .before .before .before .before .before .before .before .before .before .before .args .dst))) (c .before .before .before .before .before .before .before .before .before .before .args .n) (omega arith) (enough (c .before .before .before .before .before .before .before .before .before .before .args .self) (c .before .before .before .before .before .before .before .before .before .before .args .n) (c .before .before .before .before .before .before .lacks .ensures) (c .before .before .before .before .before .if2 .left)), rw (c .before .before .before .before .at .ensures) at (c .before .before .copy-bits .ensures)))
+returns-3 c = let a = c .before .before .before .before .before .before .before .before .before .before .args in
+    (packedBits (now (a .s)) ((a .self) .first + (a .self) .pos) (a .n) (bytesFor (a .n)), (copy-gave (now (a .s)) (a .self) (length (now (a .dst))) (a .n) (omega arith) (enough (a .self) (a .n) (c .before .before .before .before .before .before .lacks .ensures) (c .before .before .before .before .before .if2 .left)), rw (c .before .before .before .before .at .ensures) at (c .before .before .copy-bits .ensures)))
 
 pub copy-bits-to-spec : {M : Type 1} → statement M
 copy-bits-to-spec =
@@ -58,15 +61,15 @@ copy-bits-to-spec =
     (tie.spec
     add-if1
     add-if1-2
-    mul-t17
+    mul-t16
     returns
     lacks-requires
-    cast-t20
+    cast-t19
     returns-2
     at-requires
     cast-copy-bits
     copy-bits-requires
-    cast-t25
-    add-t26
+    cast-next
+    add-next
     same-length
     returns-3)
