@@ -28,6 +28,18 @@ fn whole(s: &[u8]) -> Cursor {
     }
 }
 
+// The cursor behind the first bits of s, at most 64 of them, or an empty one where they are not there.
+fn behind(s: &[u8], skip: u64) -> Cursor {
+    match whole(s).read_bits(s, (skip % 65) as u32) {
+        Bits::Value(_, c) => c,
+        Bits::Refused(_) => Cursor {
+            first: 0,
+            count: 0,
+            pos: 0,
+        },
+    }
+}
+
 fn width_at(widths: &[u8], k: usize) -> u8
     requires { ⌜ k < length (now widths) ⌝ }
 {
@@ -102,10 +114,10 @@ pub extern "C" fn bench_read_int_packed(s: &[u8]) -> u64 {
     sum
 }
 
-// Reads texts into out until one is refused; answers the wrapping sum of their lengths.
+// Skips some bits, then reads texts into out until one is refused; answers the wrapping sum of their lengths.
 #[no_mangle]
-pub extern "C" fn bench_read_fstring(s: &[u8], out: &mut [u8]) -> u64 {
-    let mut c = whole(s);
+pub extern "C" fn bench_read_fstring(s: &[u8], skip: u64, out: &mut [u8]) -> u64 {
+    let mut c = behind(s, skip);
     let mut sum: u64 = 0;
     let mut turns: u64 = 0;
     while turns < 4_294_967_296 {
@@ -124,13 +136,7 @@ pub extern "C" fn bench_read_fstring(s: &[u8], out: &mut [u8]) -> u64 {
 // Skips some bits, then copies as many as asked into dst until a copy is refused; answers how many copies were made.
 #[no_mangle]
 pub extern "C" fn bench_copy_bits_to(s: &[u8], skip: u64, dst: &mut [u8], bits: u64) -> u64 {
-    let mut c = whole(s);
-    match c.read_bits(s, (skip % 65) as u32) {
-        Bits::Refused(_) => return 0,
-        Bits::Value(_, next) => {
-            c = next;
-        }
-    }
+    let mut c = behind(s, skip);
     let mut turns: u64 = 0;
     while turns < 4_294_967_296 {
         match c.copy_bits_to(s, dst, bits) {

@@ -1,5 +1,5 @@
 use Prim.Native.Nat.{_-_, _≤_}
-use mathlib.Core.Path.{_≡_, refl, _∙_}
+use mathlib.Core.Path.{_≡_}
 use lib.ListN.{length}
 use borrow.Author.Needs.{needs}
 use Rattle.bench_loops.proofs.bench_copy_bits_to.Statement.{statement}
@@ -11,23 +11,8 @@ Inv-loop s skip dst₀ bits c₀ turns₀ dst c turns = (turns ≤ 4294967296) �
 abbrev μ-loop : tie.MeasureT-loop
 μ-loop s skip dst₀ bits c₀ turns₀ dst c turns = 4294967296 - turns
 
-whole-requires : tie.Need-whole-requires Inv-loop μ-loop
-whole-requires c κs = search needs
-
-cast-read-bits : tie.Need-cast-read-bits Inv-loop μ-loop
-cast-read-bits c = search needs
-
-read-bits-requires : tie.Need-read-bits-requires Inv-loop μ-loop
-read-bits-requires c κs = search needs
-
-enum-told : tie.Need-enum-told Inv-loop μ-loop
-enum-told c = search needs
-
-returns : tie.Need-returns Inv-loop μ-loop
-returns c = search needs
-
-enum-known-next : tie.Need-enum-known-next Inv-loop μ-loop
-enum-known-next c = search needs
+behind-requires : tie.Need-behind-requires Inv-loop μ-loop
+behind-requires c κs = search needs
 
 loop-holds : tie.Need-loop-holds Inv-loop μ-loop
 loop-holds c = search needs
@@ -35,17 +20,17 @@ loop-holds c = search needs
 copy-bits-to-requires : tie.Need-copy-bits-to-requires Inv-loop μ-loop
 copy-bits-to-requires c κs = search needs
 
-enum-told-2 : tie.Need-enum-told-2 Inv-loop μ-loop
-enum-told-2 c = search needs
+enum-told : tie.Need-enum-told Inv-loop μ-loop
+enum-told c = search needs
 
 same-length : tie.Need-same-length Inv-loop μ-loop
 same-length c = search needs
 
-returns-2 : tie.Need-returns-2 Inv-loop μ-loop
-returns-2 c = search needs
+returns : tie.Need-returns Inv-loop μ-loop
+returns c = search needs
 
-enum-known-next-2 : tie.Need-enum-known-next-2 Inv-loop μ-loop
-enum-known-next-2 c = search needs
+enum-known-next : tie.Need-enum-known-next Inv-loop μ-loop
+enum-known-next c = search needs
 
 add-turns : tie.Need-add-turns Inv-loop μ-loop
 add-turns c = search needs
@@ -59,8 +44,8 @@ loop-again c = search needs
 same-length-2 : tie.Need-same-length-2 Inv-loop μ-loop
 same-length-2 c = search needs
 
-returns-3 : tie.Need-returns-3 Inv-loop μ-loop
-returns-3 c = search needs
+returns-2 : tie.Need-returns-2 Inv-loop μ-loop
+returns-2 c = search needs
 
 pub bench-copy-bits-to-spec : {M : Type 1} → statement M
 bench-copy-bits-to-spec =
@@ -68,20 +53,15 @@ bench-copy-bits-to-spec =
     (tie.spec
     Inv-loop
     μ-loop
-    whole-requires
-    cast-read-bits
-    read-bits-requires
-    enum-told
-    returns
-    enum-known-next
+    behind-requires
     loop-holds
     copy-bits-to-requires
-    enum-told-2
+    enum-told
     same-length
-    returns-2
-    enum-known-next-2
+    returns
+    enum-known-next
     add-turns
     loop-less
     loop-again
     same-length-2
-    returns-3)
+    returns-2)

@@ -6,13 +6,13 @@ use Rattle.bench_loops.proofs.bench_read_fstring.Statement.{statement}
 use Rattle.bench_loops.proofs.bench_read_fstring.Tie as tie
 
 abbrev Inv-loop : tie.InvT-loop
-Inv-loop s out₀ c₀ sum₀ turns₀ out c sum turns = (turns ≤ 4294967296) × (length out ≡ length out₀)
+Inv-loop s skip out₀ c₀ sum₀ turns₀ out c sum turns = (turns ≤ 4294967296) × (length out ≡ length out₀)
 
 abbrev μ-loop : tie.MeasureT-loop
-μ-loop s out₀ c₀ sum₀ turns₀ out c sum turns = 4294967296 - turns
+μ-loop s skip out₀ c₀ sum₀ turns₀ out c sum turns = 4294967296 - turns
 
-whole-requires : tie.Need-whole-requires Inv-loop μ-loop
-whole-requires c κs = search needs
+behind-requires : tie.Need-behind-requires Inv-loop μ-loop
+behind-requires c κs = search needs
 
 loop-holds : tie.Need-loop-holds Inv-loop μ-loop
 loop-holds c = search needs
@@ -59,7 +59,7 @@ bench-read-fstring-spec =
     (tie.spec
     Inv-loop
     μ-loop
-    whole-requires
+    behind-requires
     loop-holds
     read-fstring-requires
     enum-told

@@ -160,7 +160,13 @@ pub mod loops {
         unsafe extern "C" {
             pub fn bench_read_bits(s: *const u8, n: usize, widths: *const u8, m: usize) -> u64;
             pub fn bench_read_int_packed(s: *const u8, n: usize) -> u64;
-            pub fn bench_read_fstring(s: *const u8, n: usize, out: *mut u8, m: usize) -> u64;
+            pub fn bench_read_fstring(
+                s: *const u8,
+                n: usize,
+                skip: u64,
+                out: *mut u8,
+                m: usize,
+            ) -> u64;
             pub fn bench_copy_bits_to(
                 s: *const u8,
                 n: usize,
@@ -182,8 +188,8 @@ pub mod loops {
         unsafe { c::bench_read_int_packed(s.as_ptr(), s.len()) }
     }
 
-    pub fn read_fstring(s: &[u8], out: &mut [u8]) -> u64 {
-        unsafe { c::bench_read_fstring(s.as_ptr(), s.len(), out.as_mut_ptr(), out.len()) }
+    pub fn read_fstring(s: &[u8], skip: u64, out: &mut [u8]) -> u64 {
+        unsafe { c::bench_read_fstring(s.as_ptr(), s.len(), skip, out.as_mut_ptr(), out.len()) }
     }
 
     pub fn copy_bits_to(s: &[u8], skip: u64, dst: &mut [u8], bits: u64) -> u64 {

@@ -61,7 +61,7 @@ mod linked {
 
     /// The two loops of a case, and the best time of each so far.
     struct Race {
-        name: &'static str,
+        name: String,
         rust: Loop,
         port: Loop,
         repeats: u32,
@@ -72,10 +72,11 @@ mod linked {
     impl Race {
         /// Times are worth nothing unless both sides read the same.
         fn new(
-            name: &'static str,
+            name: impl Into<String>,
             mut rust: impl FnMut() -> u64 + 'static,
             mut port: impl FnMut() -> u64 + 'static,
         ) -> Result<Self, Trouble> {
+            let name = name.into();
             let (due, got) = (rust(), port());
             if due != got {
                 let text = format!("{name}: the original sums {due}, the port {got}");
@@ -158,44 +159,37 @@ mod linked {
         };
         let long = |rng: &mut Rng| object_path(rng, 3_000);
         let inputs = [
-            ("read_fstring_ascii", text_stream(rng, write_utf8, typical)),
-            (
-                "read_fstring_ascii_long",
-                text_stream(rng, write_utf8, long),
-            ),
-            (
-                "read_fstring_mixed",
-                text_stream(rng, write_utf8, mixed_path),
-            ),
-            (
-                "read_fstring_utf16",
-                text_stream(rng, write_utf16, mixed_path),
-            ),
-            (
-                "read_fstring_utf16_ascii",
-                text_stream(rng, write_utf16, typical),
-            ),
+            ("ascii", 0, text_stream(rng, 0, write_utf8, typical)),
+            ("ascii_skip_3", 3, text_stream(rng, 3, write_utf8, typical)),
+            ("ascii_long", 0, text_stream(rng, 0, write_utf8, long)),
+            ("ascii_long_skip_3", 3, text_stream(rng, 3, write_utf8, long)),
+            ("mixed", 0, text_stream(rng, 0, write_utf8, mixed_path)),
+            ("mixed_skip_3", 3, text_stream(rng, 3, write_utf8, mixed_path)),
+            ("utf16", 0, text_stream(rng, 0, write_utf16, mixed_path)),
+            ("utf16_ascii", 0, text_stream(rng, 0, write_utf16, typical)),
         ];
         let mut races = Vec::new();
-        for (name, input) in inputs {
+        for (name, skip, input) in inputs {
             let (rust, port) = shared(input);
             let mut room = vec![0; TEXT_ROOM];
             races.push(Race::new(
-                name,
-                move || original::read_fstring(&rust),
-                move || loops::read_fstring(&port, &mut room),
+                format!("read_fstring_{name}"),
+                move || original::read_fstring(&rust, skip),
+                move || loops::read_fstring(&port, skip, &mut room),
             )?);
         }
         Ok(races)
     }
 
-    /// Texts one behind another, each with its final zero.
+    /// Some bits, and behind them texts, each with its final zero.
     fn text_stream(
         rng: &mut Rng,
+        skip: u64,
         write: impl Fn(&mut Stream, &str),
         text: impl Fn(&mut Rng) -> String,
     ) -> Vec<u8> {
         let mut stream = Stream::new();
+        stream.bits(0, skip as u32);
         while stream.len() < INPUT * 8 {
             write(&mut stream, &(text(rng) + "\0"));
         }
@@ -310,9 +304,12 @@ mod linked {
         }
 
         #[inline(never)]
-        pub fn read_fstring(s: &[u8]) -> u64 {
+        pub fn read_fstring(s: &[u8], skip: u64) -> u64 {
             let mut reader = BitReader::new(black_box(s));
             let mut sum = 0_u64;
+            if reader.read_bits(skip as u32).is_err() {
+                return sum;
+            }
             while let Ok(text) = reader.read_fstring(WIRE_TEXT_TOP) {
                 // The text must be made, not only measured.
                 sum = sum.wrapping_add(black_box(text).len() as u64);
