@@ -8,7 +8,8 @@ use lib.ListN.{length, take, drop, length-drop, drop-of-length-le}
 use lib.Seq.{take-all, drop-drop}
 use Rattle.vrf_bitio.specs.Bits.{bytesOf}
 use Rattle.vrf_text.specs.Utf8.{utf8, utf8From}
-use Rattle.vrf_text.specs.Steps.{Passed}
+use Rattle.vrf_text.specs.Steps.{Passed, Clear}
+use Rattle.vrf_text.proofs.Ascii.{clear-on}
 use Rattle.vrf_text.proofs.Runs.{bytes-drop}
 
 -- where a step is not 0
@@ -34,13 +35,12 @@ lent l i = take-all (length l - i) (drop i l) (omega (arith, length-drop i l))
 pub rest : (l : List ℕ) (i k : ℕ) → Passed (take (length l - i) (drop i l)) k → Passed (drop i l) k
 rest l i k p = rw (lent l i) at p
 
--- 32 bytes of it that decide nothing
-pub block : (l : List ℕ) (i : ℕ) → utf8 (drop i l) ≡ utf8 l
-    → (32 ≤ length (take (length l - i) (drop i l))) × (utf8 (drop 32 (take (length l - i) (drop i l))) ≡ utf8 (take (length l - i) (drop i l)))
-    → (i + 32 ≤ length l) × (utf8 (drop (i + 32) l) ≡ utf8 l)
-block l i inv p =
-    let q = rw (lent l i) at p in
-    (omega (arith, q .0, length-drop i l), on l i inv 32 (λ e. omega arith) (q .1))
+-- 32 bytes of it, clear at bit b
+pub block : (l : List ℕ) (b i : ℕ) → Clear l b i → (32 ≤ length (take (length l - i) (drop i l))) × Clear (take (length l - i) (drop i l)) b 32
+    → (i + 32 ≤ length l) × Clear l b (i + 32)
+block l b i c p =
+    let q : (32 ≤ length (drop i l)) × Clear (drop i l) b 32 = subst (λ (m : List ℕ). (32 ≤ length m) × Clear m b 32) (lent l i) p in
+    (omega (arith, q .0, length-drop i l), clear-on l b i 32 c (q .1))
 
 -- bytes at a bit from a place on, as the code reads them
 pub rest-at : (s : List ℕ) (p n i k : ℕ) → Passed (bytesOf s (p + 8 * i) (n - i)) k → Passed (drop i (bytesOf s p n)) k

@@ -41,6 +41,10 @@ pub record Step (w m r : ℕ) : Type 0 where
   pub few : r ≤ m
   pub passed : (l : List ℕ) → Holds w l → Passed l r
 
+-- bit b is 0 in each of the first n bytes of l
+abbrev pub Clear : List ℕ → ℕ → ℕ → Type 0
+Clear l b n = (j : ℕ) → j < n → getD l j 0 / 2 ^ b % 2 ≡ 0
+
 -- ---- UTF-16
 
 -- the n units at bit p of a slice

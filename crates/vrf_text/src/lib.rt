@@ -17,6 +17,7 @@ ghost use Rattle.vrf_text.specs.Utf8.{utf8, within};
 ghost use Rattle.vrf_text.specs.Utf16.{utf8Of, unitsToUtf8};
 ghost use Rattle.vrf_text.specs.Steps.{
   Step,
+  Clear,
   Holds,
   Passed,
   Step16,
@@ -46,8 +47,10 @@ const WIRE_BYTES: u64 = 1_048_576;
 
 const TEXT_BYTES: u32 = 4_096;
 
-// The top bit of each byte of a word.
+// The top bit of each byte of a word, and the lowest.
 const HIGH: u64 = 0x8080_8080_8080_8080;
+
+const LOW: u64 = 0x0101_0101_0101_0101;
 
 // A text that was read: its length in bytes and the cursor behind it.
 pub enum Text {
@@ -153,27 +156,30 @@ fn step(w: u64) -> usize
     if w & HIGH == 0 { 8 } else { char_len(w) }
 }
 
-// Whether s begins with 32 ASCII bytes: one test of four words.
-fn ascii_32(s: &[u8]) -> bool
-    ensures { λ r. ⌜ (r ≡ true → (32 ≤ length (now (s .entry))) × (utf8 (drop 32 (now (s .entry))) ≡ utf8 (now (s .entry)))) ⌝ }
+// Whether bit b is 0 in each of the first 32 bytes of s: one test of four words.
+fn clear_32(s: &[u8], b: u32) -> bool
+    requires { ⌜ b < 8 ⌝ }
+    ensures { λ r. ⌜ (r ≡ true → (32 ≤ length (now (s .entry))) × Clear (now (s .entry)) b 32) ⌝ }
 {
     if s.len() < 32 {
         return false;
     }
-    let a = vrf_bitio::bits_at(s, 0, 64) & HIGH;
-    let b = vrf_bitio::bits_at(s, 64, 64) & HIGH;
-    let c = vrf_bitio::bits_at(s, 128, 64) & HIGH;
-    let d = vrf_bitio::bits_at(s, 192, 64) & HIGH;
-    a | b | c | d == 0
+    let mask = LOW << b;
+    let x = vrf_bitio::bits_at(s, 0, 64) & mask;
+    let y = vrf_bitio::bits_at(s, 64, 64) & mask;
+    let z = vrf_bitio::bits_at(s, 128, 64) & mask;
+    let w = vrf_bitio::bits_at(s, 192, 64) & mask;
+    x | y | z | w == 0
 }
 
-// How many bytes of s may be passed at its start, in blocks of ASCII.
-fn ascii_run(s: &[u8]) -> usize
-    ensures { λ r. ⌜ (r ≤ length (now (s .entry))) × (utf8 (drop r (now (s .entry))) ≡ utf8 (now (s .entry))) ⌝ }
+// How many bytes of s have 0 as bit b, in blocks from its start on.
+fn clear_run(s: &[u8], b: u32) -> usize
+    requires { ⌜ b < 8 ⌝ }
+    ensures { λ r. ⌜ (r ≤ length (now (s .entry))) × Clear (now (s .entry)) b r ⌝ }
 {
     let mut i = 0;
     while i < s.len() {
-        if !ascii_32(&s[i..]) {
+        if !clear_32(&s[i..], b) {
             return i;
         }
         i += 32;
@@ -186,14 +192,14 @@ fn step_in(s: &[u8]) -> usize
     ensures { λ r. ⌜ (r ≤ 32) × Passed (now (s .entry)) r ⌝ }
 {
     let k = step(vrf_bitio::bits_at(s, 0, 64));
-    if k == 8 && ascii_32(s) { 32 } else { k }
+    if k == 8 && clear_32(s, 7) { 32 } else { k }
 }
 
 // Whether t is UTF-8.
 pub fn is_utf8(t: &[u8]) -> bool
     ensures { λ r. ⌜ r ≡ utf8 (now (t .entry)) ⌝ }
 {
-    let mut i = ascii_run(t);
+    let mut i = clear_run(t, 7);
     while i < t.len() {
         let k = step_in(&t[i..]);
         if k == 0 {
@@ -215,6 +221,24 @@ fn word_at(s: &[u8], p: u64, n: usize) -> u64
     }
 }
 
+// How many of the n bytes from bit p of s on may be passed as ASCII, in blocks from their start on. Each has its top bit seven bits
+// on, at the same place of one byte of s after another, so that no byte is put together.
+fn ascii_at(s: &[u8], p: u64, n: usize) -> usize
+    requires { ⌜ p + 8 * n < 2 ^ 64 ⌝ }
+    ensures { λ r. ⌜ utf8 (drop r (bytesOf (now (s .entry)) p n)) ≡ utf8 (bytesOf (now (s .entry)) p n) ⌝ }
+{
+    if n < 32 {
+        return 0;
+    }
+    let top = p + 7;
+    let a = (top / 8) as usize;
+    let e = a + n;
+    if s.len() < e {
+        return 0;
+    }
+    clear_run(&s[a..e], (top % 8) as u32)
+}
+
 // Whether the n bytes from bit p of s on are UTF-8: the steps of `is_utf8`, on words that are put together at a bit.
 // `is_utf8` is not this loop at bit 0. It takes a slice of any length, whose bits 64 bits do not number, and it reads a word by one
 // load. What is proved of a step is proved once, for both.
@@ -222,7 +246,7 @@ fn utf8_bits(s: &[u8], p: u64, n: usize) -> bool
     requires { ⌜ p + 8 * n < 2 ^ 64 ⌝ }
     ensures { λ r. ⌜ r ≡ utf8 (bytesOf (now (s .entry)) p n) ⌝ }
 {
-    let mut i: usize = 0;
+    let mut i = ascii_at(s, p, n);
     while i < n {
         let k = step(word_at(s, p + 8 * (i as u64), n - i));
         if k == 0 {

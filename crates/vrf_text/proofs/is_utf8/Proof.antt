@@ -5,6 +5,7 @@ use mathlib.Core.Path.{_≡_}
 use Prim.Native.Nat.{_-_}
 use lib.ListN.{length, drop}
 use Rattle.vrf_text.specs.Utf8.{utf8}
+use Rattle.vrf_text.proofs.Ascii.{clear-passed}
 use Rattle.vrf_text.proofs.Walks.{bad, on, end, rest}
 use Rattle.vrf_text.proofs.is_utf8.Statement.{statement}
 use Rattle.vrf_text.proofs.is_utf8.Tie as tie
@@ -15,11 +16,11 @@ Inv-loop t i₀ i = utf8 (drop i t) ≡ utf8 t
 abbrev μ-loop : tie.MeasureT-loop
 μ-loop t i₀ i = length t - i
 
-ascii-run-requires : tie.Need-ascii-run-requires Inv-loop μ-loop
-ascii-run-requires c κs = tt
+clear-run-requires : tie.Need-clear-run-requires Inv-loop μ-loop
+clear-run-requires c κs = omega arith
 
 loop-holds : tie.Need-loop-holds Inv-loop μ-loop
-loop-holds c = c .ascii-run .ensures .1
+loop-holds c = clear-passed (now (c .before .before .args .t)) (λ k. omega (arith, c .before .shared-slice-known .given k)) (c .clear-run .result) (c .clear-run .ensures .1)
 
 sub-step-in : tie.Need-sub-step-in Inv-loop μ-loop
 sub-step-in c = omega arith
@@ -66,7 +67,7 @@ is-utf8-spec =
     (tie.spec
     Inv-loop
     μ-loop
-    ascii-run-requires
+    clear-run-requires
     loop-holds
     sub-step-in
     part-step-in-start

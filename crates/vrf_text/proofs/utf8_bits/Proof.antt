@@ -1,7 +1,7 @@
 -- `vrf_text::utf8_bits` meets its contract: each step passes bytes that decide nothing.
 use native.Mathlib.Omega.{arith}
 use denote.Ref.{now}
-use mathlib.Core.Path.{_≡_, refl}
+use mathlib.Core.Path.{_≡_}
 use Prim.Native.Nat.{_-_}
 use lib.ListN.{drop}
 use Rattle.vrf_bitio.specs.Bits.{bytesOf}
@@ -17,8 +17,11 @@ Inv-loop s p n i₀ i = utf8 (drop i (bytesOf s p n)) ≡ utf8 (bytesOf s p n)
 abbrev μ-loop : tie.MeasureT-loop
 μ-loop s p n i₀ i = n - i
 
+ascii-at-requires : tie.Need-ascii-at-requires Inv-loop μ-loop
+ascii-at-requires c κs = omega arith
+
 loop-holds : tie.Need-loop-holds Inv-loop μ-loop
-loop-holds c = refl
+loop-holds c = c .ascii-at .ensures
 
 mul-word-at : tie.Need-mul-word-at Inv-loop μ-loop
 mul-word-at c = omega arith
@@ -39,8 +42,7 @@ returns : tie.Need-returns Inv-loop μ-loop
 returns c = let c1 = c .before in
     let c2 = c1 .before in
     let c4 = c2 .before .before in
-    let c6 = c4 .before .before in
-    let a = c6 .args in
+    let a = c4 .before .before .before .args in
     let l = c4 .loop in
     bad (bytesOf (now (a .s)) (a .p) (a .n)) (l .i) (l .inv) (c1 .step .result) (c .if1 .taken)
     (rest-at (now (a .s)) (a .p) (a .n) (l .i) (c1 .step .result) (c1 .step .ensures .passed _ (c2 .word-at .ensures)))
@@ -55,16 +57,14 @@ loop-again : tie.Need-loop-again Inv-loop μ-loop
 loop-again c = let c1 = c .before in
     let c2 = c1 .before in
     let c4 = c2 .before .before in
-    let c6 = c4 .before .before in
-    let a = c6 .args in
+    let a = c4 .before .before .before .args in
     let l = c4 .loop in
     on (bytesOf (now (a .s)) (a .p) (a .n)) (l .i) (l .inv) (c1 .step .result) (c .if1 .left)
     (rest-at (now (a .s)) (a .p) (a .n) (l .i) (c1 .step .result) (c1 .step .ensures .passed _ (c2 .word-at .ensures)))
 
 returns-2 : tie.Need-returns-2 Inv-loop μ-loop
 returns-2 c = let c1 = c .before in
-    let c3 = c1 .before .before in
-    let a = c3 .args in
+    let a = c1 .before .before .before .args in
     let l = c1 .loop in
     end (bytesOf (now (a .s)) (a .p) (a .n)) (l .i) (l .inv) (omega (arith, bytes-length (now (a .s)) (a .p) (a .n)))
 
@@ -74,6 +74,7 @@ utf8-bits-spec =
     (tie.spec
     Inv-loop
     μ-loop
+    ascii-at-requires
     loop-holds
     mul-word-at
     add-word-at
