@@ -162,9 +162,17 @@ mod linked {
             ("ascii", 0, text_stream(rng, 0, write_utf8, typical)),
             ("ascii_skip_3", 3, text_stream(rng, 3, write_utf8, typical)),
             ("ascii_long", 0, text_stream(rng, 0, write_utf8, long)),
-            ("ascii_long_skip_3", 3, text_stream(rng, 3, write_utf8, long)),
+            (
+                "ascii_long_skip_3",
+                3,
+                text_stream(rng, 3, write_utf8, long),
+            ),
             ("mixed", 0, text_stream(rng, 0, write_utf8, mixed_path)),
-            ("mixed_skip_3", 3, text_stream(rng, 3, write_utf8, mixed_path)),
+            (
+                "mixed_skip_3",
+                3,
+                text_stream(rng, 3, write_utf8, mixed_path),
+            ),
             ("utf16", 0, text_stream(rng, 0, write_utf16, mixed_path)),
             ("utf16_ascii", 0, text_stream(rng, 0, write_utf16, typical)),
         ];
