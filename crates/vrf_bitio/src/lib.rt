@@ -117,7 +117,7 @@ fn whole_word(s: &[u8], i: usize) -> u64
     half_word(s, i) + half_word(s, i + 4) * 0x1_0000_0000
 }
 
-// How many of n bytes stand from place i on.
+// How many of n bytes or bits stand from place i on.
 fn left_from(n: usize, i: usize) -> usize
     ensures { λ r. ⌜ r ≡ n - i ⌝ }
 {
@@ -298,13 +298,7 @@ impl Cursor {
     fn lacks(self, n: u64) -> bool
         ensures { λ r. ⌜ r ≡ ltb (self .count - self .pos) n ⌝ }
     {
-        let pos = self.pos;
-        let count = self.count;
-        if pos <= count {
-            ((count - pos) as u64) < n
-        } else {
-            0 < n
-        }
+        (left_from(self.count as usize, self.pos as usize) as u64) < n
     }
 
     // The bit at the position, as an index into the slice.
