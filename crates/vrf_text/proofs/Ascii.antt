@@ -53,10 +53,17 @@ unfolding byteOf
 byte-lt w zero = omega arith
 byte-lt w (suc j) = byte-lt (w / 256) j
 
--- eight bytes by their word
-pub ascii : (w : ℕ) → bitAnd w 0x8080808080808080 ≡ 0 → (l : List ℕ) → Holds w l → utf8 (drop 8 l) ≡ utf8 l
+-- the first k bytes, of eight, by their word
+ascii : (k : ℕ) → k ≤ 8 → (w : ℕ) → bitAnd w (marks 7 k) ≡ 0 → (l : List ℕ) → Holds w l → utf8 (drop k l) ≡ utf8 l
+ascii k few w e l h = utf8-ascii k l λ i j. omega (arith, h i (omega arith), byte-lt w i, unmarked 7 (omega arith) k w e i j)
+
+pub ascii-8 : (w : ℕ) → bitAnd w 0x8080808080808080 ≡ 0 → (l : List ℕ) → Holds w l → utf8 (drop 8 l) ≡ utf8 l
 unfolding marks
-ascii w e l h = utf8-ascii 8 l λ i k. omega (arith, h i k, byte-lt w i, unmarked 7 (omega arith) 8 w e i k)
+ascii-8 = ascii 8 (omega arith)
+
+pub ascii-4 : (w : ℕ) → bitAnd w 0x80808080 ≡ 0 → (l : List ℕ) → Holds w l → utf8 (drop 4 l) ≡ utf8 l
+unfolding marks
+ascii-4 = ascii 4 (omega arith)
 
 -- bytes that are clear, and more behind them
 pub clear-on : (l : List ℕ) (b i n : ℕ) → Clear l b i → Clear (drop i l) b n → Clear l b (i + n)

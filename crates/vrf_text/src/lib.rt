@@ -47,8 +47,10 @@ const WIRE_BYTES: u64 = 1_048_576;
 
 const TEXT_BYTES: u32 = 4_096;
 
-// The top bit of each byte of a word, and the lowest.
+// The top bit of each byte of a word, of its first four bytes, and the lowest bit of each.
 const HIGH: u64 = 0x8080_8080_8080_8080;
+
+const HIGH_4: u64 = 0x8080_8080;
 
 const LOW: u64 = 0x0101_0101_0101_0101;
 
@@ -148,12 +150,18 @@ fn char_len(w: u64) -> usize
     }
 }
 
-// How many bytes may be passed where the word w holds the next eight: all of them where they are ASCII, else a character; 0 says
-// that the text is bad.
+// How many bytes may be passed where the word w holds the next eight: all of them or the first four where they are ASCII, else a
+// character; 0 says that the text is bad.
 fn step(w: u64) -> usize
     ensures { λ r. ⌜ Step w 8 r ⌝ }
 {
-    if w & HIGH == 0 { 8 } else { char_len(w) }
+    if w & HIGH == 0 {
+        8
+    } else if w & HIGH_4 == 0 {
+        4
+    } else {
+        char_len(w)
+    }
 }
 
 // Whether bit b is 0 in each of the first 32 bytes of s: one test of four words.
@@ -187,7 +195,7 @@ fn clear_run(s: &[u8], b: u32) -> usize
     i
 }
 
-// How many bytes of s may be passed at its start: a block of ASCII, a word of it, or a character.
+// How many bytes of s may be passed at its start: a block of ASCII, a word or half a word of it, or a character.
 fn step_in(s: &[u8]) -> usize
     ensures { λ r. ⌜ (r ≤ 32) × Passed (now (s .entry)) r ⌝ }
 {

@@ -1,6 +1,6 @@
--- `vrf_text::step` meets its contract: eight ASCII bytes, or one character.
+-- `vrf_text::step` meets its contract: eight ASCII bytes, or four, or one character.
 use native.Mathlib.Omega.{arith}
-use Rattle.vrf_text.proofs.Ascii.{ascii}
+use Rattle.vrf_text.proofs.Ascii.{ascii-8, ascii-4}
 use borrow.Author.Needs.{needs}
 use Rattle.vrf_text.proofs.step.Statement.{statement}
 use Rattle.vrf_text.proofs.step.Tie as tie
@@ -9,10 +9,13 @@ char-len-requires : tie.Need-char-len-requires
 char-len-requires c κs = search needs
 
 returns : tie.Need-returns
-returns c = record { few = omega arith; passed = ascii (c .before .args .w) (c .if1 .taken) }
+returns c = record { few = omega arith; passed = ascii-8 (c .before .args .w) (c .if1 .taken) }
 
 returns-2 : tie.Need-returns-2
-returns-2 c = record { few = omega arith; passed = c .char-len .ensures .passed }
+returns-2 c = record { few = omega arith; passed = ascii-4 (c .before .before .args .w) (c .if2 .taken) }
+
+returns-3 : tie.Need-returns-3
+returns-3 c = record { few = omega arith; passed = c .char-len .ensures .passed }
 
 pub step-spec : {M : Type 1} → statement M
-step-spec = tie.close (tie.spec char-len-requires returns returns-2)
+step-spec = tie.close (tie.spec char-len-requires returns returns-2 returns-3)
