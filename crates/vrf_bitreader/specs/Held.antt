@@ -1,0 +1,31 @@
+-- A reader is a slice with a cursor of it. What its functions answer is said by the definitions of the cursor's crate, at these.
+use mathlib.Core.List.{List}
+use Prim.Native.Nat.{ℕ, _*_}
+use lib.ListN.{length}
+use denote.Ref.{RefT, now}
+use Rattle.vrf_bitio.specs.Reading.{Read, handOn}
+use Rattle.vrf_bitio.specs.Window.{window}
+use Rattle.vrf_bitio.specs.Number.{packed}
+use Rattle.vrf_bitio.specs.declared.Cursor.{Cursor}
+use Rattle.vrf_bitreader.specs.declared.BitReader.{BitReader}
+
+abbrev pub cursor : ℕ → ℕ → ℕ → Cursor
+cursor f n p = record { first = f; count = n; pos = p }
+
+abbrev pub cursorOf : BitReader → Cursor
+cursorOf r = cursor (r .first) (r .count) (r .pos)
+
+abbrev pub readerOf : RefT (List ℕ) → Cursor → BitReader
+readerOf s c = record { «data» = s; first = c .first; count = c .count; pos = c .pos }
+
+-- the window of all of a slice's bits
+abbrev pub whole : List ℕ → Read (ℕ × ℕ)
+whole s = window s 0 (8 * length s)
+
+-- its start
+abbrev pub start : List ℕ → Cursor
+start s = cursor 0 (8 * length s) 0
+
+-- the packed number that a slice begins with
+abbrev pub firstPacked : List ℕ → Read ℕ
+firstPacked s = handOn (λ w. packed) (whole s)

@@ -1,0 +1,148 @@
+// The bit reader of document 01 as a struct that holds the byte slice, over the cursor functions of vrf_bitio. Names follow
+// vrf-bitio's lib.rs. The borrow checker covers no function over such a struct, so each takes the reader apart and calls a
+// covered function on the slice and the numbers, and is proved by hand. A reader is passed by value: a refused reading moves nothing.
+use vrf_bitio::Bits;
+use vrf_bitio::Cursor;
+use vrf_bitio::Opened;
+use vrf_bitio::Sub;
+use vrf_bitio::Word;
+ghost use mathlib.Core.Path.{_≡_};
+ghost use Prim.Native.Nat.{_-_};
+ghost use Rattle.vrf_bitio.specs.Window.{window, inner, bits};
+ghost use Rattle.vrf_bitio.specs.Number.{packed};
+ghost use Rattle.vrf_bitio.specs.Answers.{readAt, OpenedAnswer, SubAnswer, BitsAnswer, WordAnswer};
+ghost use Rattle.vrf_bitreader.specs.Held.{cursor, cursorOf, readerOf, whole, start, firstPacked};
+
+// A window has at most this many bytes.
+const WINDOW_BYTES: usize = 268_435_456;
+
+// The bytes, a window of them (first bit and bit count), and the position in it.
+pub struct BitReader<'a> {
+    pub data: &'a [u8],
+    pub first: u32,
+    pub count: u32,
+    pub pos: u32,
+}
+
+// How many of count bits are left at a position.
+fn left_of(count: u32, pos: u32) -> u32
+    ensures { λ r. ⌜ r ≡ count - pos ⌝ }
+{
+    if pos < count { count - pos } else { 0 }
+}
+
+fn bits_of(width: u32, s: &[u8], first: u32, count: u32, pos: u32) -> Bits
+    ensures { λ r. ⌜ BitsAnswer (now (s .entry)) (cursor first count pos) (bits (now (s .entry)) first count width pos) r ⌝ }
+{
+    Cursor { first, count, pos }.read_bits(s, width)
+}
+
+fn packed_of(s: &[u8], first: u32, count: u32, pos: u32) -> Word
+    ensures { λ r. ⌜ WordAnswer (now (s .entry)) (cursor first count pos) (readAt (now (s .entry)) (cursor first count pos) packed) r ⌝ }
+{
+    Cursor { first, count, pos }.read_int_packed(s)
+}
+
+fn inner_of(n: u64, s: &[u8], first: u32, count: u32, pos: u32) -> Sub
+    ensures { λ r. ⌜ SubAnswer (now (s .entry)) (cursor first count pos) (inner (now (s .entry)) first count n pos) r ⌝ }
+{
+    Cursor { first, count, pos }.sub_reader(s, n)
+}
+
+impl<'a> BitReader<'a> {
+    // The window of all of a slice, or why there is none. No enum can hold a reader: `over` makes it of the window.
+    pub fn new(data: &[u8]) -> Opened
+        ensures { λ r. ⌜ OpenedAnswer (now («data» .entry)) (whole (now («data» .entry))) r ⌝ }
+    {
+        let n = data.len();
+        // Such a window is refused whatever its bit count, which might not fit a u64.
+        if WINDOW_BYTES < n {
+            return Cursor::window(data, 0, 0);
+        }
+        Cursor::window(data, 0, (n as u64) * 8)
+    }
+
+    // The window of the first bit_len bits of a slice.
+    pub fn with_bit_len(data: &[u8], bit_len: u64) -> Opened
+        ensures { λ r. ⌜ OpenedAnswer (now («data» .entry)) (window (now («data» .entry)) 0 «bit_len») r ⌝ }
+    {
+        Cursor::with_bit_len(data, bit_len)
+    }
+
+    // The reader of a slice that stands at a cursor.
+    pub fn over(data: &'a [u8], c: Cursor) -> BitReader<'a>
+        ensures { λ r. ⌜ r ≡ readerOf («data» .entry) c ⌝ }
+    {
+        BitReader {
+            data,
+            first: c.first,
+            count: c.count,
+            pos: c.pos,
+        }
+    }
+
+    // The reader of the same slice that stands at a cursor.
+    pub fn at(self, c: Cursor) -> BitReader<'a>
+        ensures { λ r. ⌜ r ≡ readerOf (self .entry .«data») c ⌝ }
+    {
+        BitReader {
+            data: self.data,
+            first: c.first,
+            count: c.count,
+            pos: c.pos,
+        }
+    }
+
+    pub fn position(self) -> u32
+        ensures { λ r. ⌜ r ≡ self .entry .pos ⌝ }
+    {
+        self.pos
+    }
+
+    pub fn bits_remaining(self) -> u32
+        ensures { λ r. ⌜ r ≡ self .entry .count - self .entry .pos ⌝ }
+    {
+        left_of(self.count, self.pos)
+    }
+
+    // Reads width bits, 0 to 64, as a number.
+    pub fn read_bits(self, width: u32) -> Bits
+        ensures { λ r. ⌜ BitsAnswer (now (self .entry .«data»)) (cursorOf (self .entry))
+            (bits (now (self .entry .«data»)) (self .entry .first) (self .entry .count) width (self .entry .pos)) r ⌝ }
+    {
+        bits_of(width, self.data, self.first, self.count, self.pos)
+    }
+
+    // Reads a packed number.
+    pub fn read_int_packed(self) -> Word
+        ensures { λ r. ⌜ WordAnswer (now (self .entry .«data»)) (cursorOf (self .entry))
+            (readAt (now (self .entry .«data»)) (cursorOf (self .entry)) packed) r ⌝ }
+    {
+        packed_of(self.data, self.first, self.count, self.pos)
+    }
+
+    // The window of the next n bits, and the cursor behind them.
+    pub fn sub_reader(self, n: u64) -> Sub
+        ensures { λ r. ⌜ SubAnswer (now (self .entry .«data»)) (cursorOf (self .entry))
+            (inner (now (self .entry .«data»)) (self .entry .first) (self .entry .count) n (self .entry .pos)) r ⌝ }
+    {
+        inner_of(n, self.data, self.first, self.count, self.pos)
+    }
+}
+
+// The packed number at a cursor of a slice.
+fn packed_over(data: &[u8], c: Cursor) -> Word
+    ensures { λ r. ⌜ WordAnswer (now («data» .entry)) c (readAt (now («data» .entry)) c packed) r ⌝ }
+{
+    BitReader::over(data, c).read_int_packed()
+}
+
+// The packed number that a slice begins with. Its parameters are plain, so whoever calls it needs no walk by hand.
+pub fn first_packed(data: &[u8]) -> Word
+    ensures { λ r. ⌜ WordAnswer (now («data» .entry)) (start (now («data» .entry))) (firstPacked (now («data» .entry))) r ⌝ }
+{
+    match BitReader::new(data) {
+        Opened::Refused(r) => Word::Refused(r),
+        Opened::Window(c) => packed_over(data, c),
+    }
+}
