@@ -1,3 +1,4 @@
+pub mod Walk
 pub mod Held
 pub mod Taken
 pub mod Whole

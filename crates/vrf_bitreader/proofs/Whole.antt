@@ -10,7 +10,7 @@ use lib.ListN.{length}
 use Rattle.vrf_bitio.specs.Reading.{Read, ok, refused, handOn}
 use Rattle.vrf_bitio.specs.Window.{window}
 use Rattle.vrf_bitio.specs.Number.{packed}
-use Rattle.vrf_bitio.specs.Answers.{restOf, readAt, Refuses, OpenedAnswer, WordAnswer}
+use Rattle.vrf_bitio.specs.Answers.{restOf, readAt, Refuses, WordAnswer}
 use Rattle.vrf_bitio.specs.AnswersLaws.{word-from}
 use Rattle.vrf_bitio.specs.declared.Cursor.{Cursor}
 use Rattle.vrf_bitio.specs.declared.Refusal.{Refusal}

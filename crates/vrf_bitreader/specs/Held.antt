@@ -2,7 +2,7 @@
 use mathlib.Core.List.{List}
 use Prim.Native.Nat.{ℕ, _*_}
 use lib.ListN.{length}
-use denote.Ref.{RefT, now}
+use denote.Ref.{RefT}
 use Rattle.vrf_bitio.specs.Reading.{Read, handOn}
 use Rattle.vrf_bitio.specs.Window.{window}
 use Rattle.vrf_bitio.specs.Number.{packed}

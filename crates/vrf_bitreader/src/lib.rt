@@ -18,10 +18,10 @@ const WINDOW_BYTES: usize = 268_435_456;
 
 // The bytes, a window of them (first bit and bit count), and the position in it.
 pub struct BitReader<'a> {
-    pub data: &'a [u8],
-    pub first: u32,
-    pub count: u32,
-    pub pos: u32,
+    data: &'a [u8],
+    first: u32,
+    count: u32,
+    pos: u32,
 }
 
 // How many of count bits are left at a position.
@@ -31,6 +31,7 @@ fn left_of(count: u32, pos: u32) -> u32
     if pos < count { count - pos } else { 0 }
 }
 
+// The cursor's readings on a reader's fields, for the methods below. A method's own number comes first, and then the fields in their order.
 fn bits_of(width: u32, s: &[u8], first: u32, count: u32, pos: u32) -> Bits
     ensures { λ r. ⌜ BitsAnswer (now (s .entry)) (cursor first count pos) (bits (now (s .entry)) first count width pos) r ⌝ }
 {
@@ -50,7 +51,7 @@ fn inner_of(n: u64, s: &[u8], first: u32, count: u32, pos: u32) -> Sub
 }
 
 impl<'a> BitReader<'a> {
-    // The window of all of a slice, or why there is none. No enum can hold a reader: `over` makes it of the window.
+    // The window of all of a slice, or why there is none. No enum can hold a reader, so `over` makes it of the window.
     pub fn new(data: &[u8]) -> Opened
         ensures { λ r. ⌜ OpenedAnswer (now («data» .entry)) (whole (now («data» .entry))) r ⌝ }
     {
@@ -81,7 +82,7 @@ impl<'a> BitReader<'a> {
         }
     }
 
-    // The reader of the same slice that stands at a cursor.
+    // The same slice read on from a cursor that a reading answered: a reader is moved by hand, since its readings take it by value.
     pub fn at(self, c: Cursor) -> BitReader<'a>
         ensures { λ r. ⌜ r ≡ readerOf (self .entry .«data») c ⌝ }
     {
@@ -93,12 +94,14 @@ impl<'a> BitReader<'a> {
         }
     }
 
+    // Bits consumed so far.
     pub fn position(self) -> u32
         ensures { λ r. ⌜ r ≡ self .entry .pos ⌝ }
     {
         self.pos
     }
 
+    // Bits left to read.
     pub fn bits_remaining(self) -> u32
         ensures { λ r. ⌜ r ≡ self .entry .count - self .entry .pos ⌝ }
     {
