@@ -2,6 +2,8 @@
 -- Assumes nothing.
 use Prim.Native.Nat.{ℕ}
 use mir.Syntax.{w32}
+use base.Logic.{emp}
+use contract.Monad.{factI}
 use contract.Running.{givenOf, tables, tablesOf}
 use denote.Enum.Laws as EL
 use denote.Ref.{now}
@@ -31,5 +33,5 @@ unfolding code.routine tablesOf
 read-bits-spec 𝓤 H 𝓜 𝓖 𝓡 =
     entered 𝓤 H (tripleOf 𝓤 H (𝓖 .A) read-bits.signature (read-bits.spec 𝓤 H (𝓖 .A) (𝓜 .mem) (𝓡 .run)))
     (tables 𝓤 H 𝓜 𝓡 code.env .C) (tables 𝓤 H 𝓜 𝓡 code.env .Λ) #read-bits code.function (code.unfolded 𝓤 H 𝓜 𝓡)
-    (meets w32 S.the-row Said 𝓤 H (𝓖 .A) (givenOf 𝓤 H 𝓜 𝓖) #bits-of S′.mir (λ r u is. EL.lawful S.the-type S′.the-laws 𝓤 H (𝓖 .A) (givenOf 𝓤 H 𝓜 𝓖) tt .typed r _ is .0) (tablesOf 𝓤 H 𝓜 (tables 𝓤 H 𝓜 𝓡 code.env))
+    (meets w32 S.the-row Said 𝓤 H (𝓖 .A) (givenOf 𝓤 H 𝓜 𝓖) (read-bits.clauses 𝓤 H (𝓖 .A) (𝓜 .mem) (𝓡 .run)) (λ κs a g r e said. factI 𝓤 _ (emp 𝓤) said) #bits-of S′.mir (λ r u is. EL.lawful S.the-type S′.the-laws 𝓤 H (𝓖 .A) (givenOf 𝓤 H 𝓜 𝓖) tt .typed r _ is .0) (tablesOf 𝓤 H 𝓜 (tables 𝓤 H 𝓜 𝓡 code.env))
     (cited 𝓤 H (Asked w32 S.the-row Said 𝓤 H (𝓖 .A)) 𝓜 𝓡 code.env #bits-of bits-of-def.routine code.calls-vrf-bitreader·bits-of (bits-of-thm.met 𝓤 H 𝓜 𝓖 𝓡)))

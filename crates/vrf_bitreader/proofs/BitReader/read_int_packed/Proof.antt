@@ -1,4 +1,4 @@
--- `BitReader::read_int_packed` meets its contract: a walk of its MIR, by hand. The reader is taken apart, and `packed_of` is called on its fields. All that the proof knows of `packed_of` is that it meets its contract.
+-- `BitReader::read_int_packed` meets its contract: a walk of its MIR, by hand, as in `Taken.antt` but with no number. The reader is taken apart, and `packed_of` is called on its fields. All that the proof knows of `packed_of` is that it meets its contract.
 -- Assumes nothing.
 use mathlib.Core.Path.{refl}
 use mathlib.Core.List.{[], _∷_}

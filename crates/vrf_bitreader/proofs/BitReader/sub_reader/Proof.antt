@@ -2,6 +2,8 @@
 -- Assumes nothing.
 use Prim.Native.Nat.{ℕ}
 use mir.Syntax.{w64}
+use base.Logic.{emp}
+use contract.Monad.{factI}
 use contract.Running.{givenOf, tables, tablesOf}
 use denote.Enum.Laws as EL
 use denote.Ref.{now}
@@ -31,5 +33,5 @@ unfolding code.routine tablesOf
 sub-reader-spec 𝓤 H 𝓜 𝓖 𝓡 =
     entered 𝓤 H (tripleOf 𝓤 H (𝓖 .A) sub-reader.signature (sub-reader.spec 𝓤 H (𝓖 .A) (𝓜 .mem) (𝓡 .run)))
     (tables 𝓤 H 𝓜 𝓡 code.env .C) (tables 𝓤 H 𝓜 𝓡 code.env .Λ) #sub-reader code.function (code.unfolded 𝓤 H 𝓜 𝓡)
-    (meets w64 S.the-row Said 𝓤 H (𝓖 .A) (givenOf 𝓤 H 𝓜 𝓖) #inner-of S′.mir (λ r u is. EL.lawful S.the-type S′.the-laws 𝓤 H (𝓖 .A) (givenOf 𝓤 H 𝓜 𝓖) tt .typed r _ is .0) (tablesOf 𝓤 H 𝓜 (tables 𝓤 H 𝓜 𝓡 code.env))
+    (meets w64 S.the-row Said 𝓤 H (𝓖 .A) (givenOf 𝓤 H 𝓜 𝓖) (sub-reader.clauses 𝓤 H (𝓖 .A) (𝓜 .mem) (𝓡 .run)) (λ κs a g r e said. factI 𝓤 _ (emp 𝓤) said) #inner-of S′.mir (λ r u is. EL.lawful S.the-type S′.the-laws 𝓤 H (𝓖 .A) (givenOf 𝓤 H 𝓜 𝓖) tt .typed r _ is .0) (tablesOf 𝓤 H 𝓜 (tables 𝓤 H 𝓜 𝓡 code.env))
     (cited 𝓤 H (Asked w64 S.the-row Said 𝓤 H (𝓖 .A)) 𝓜 𝓡 code.env #inner-of inner-of-def.routine code.calls-vrf-bitreader·inner-of (inner-of-thm.met 𝓤 H 𝓜 𝓖 𝓡)))
