@@ -1,0 +1,97 @@
+// A lent memory as words of 32 bits, low byte first, and parts of it.
+ghost use mathlib.Core.Path.{_≡_};
+ghost use Prim.Native.Nat.{_+_, _*_, _/_, _%_, _^_, _<_, _≤_};
+ghost use lib.ListN.{length, replicate};
+ghost use Rattle.vrf_bitio.specs.Pasted.{pasted};
+ghost use Rattle.vrf_words.specs.Words.{part, word, setWord, Apart};
+
+// A byte as a number of 32 bits.
+fn wide(x: u8) -> u32
+    ensures { λ r. ⌜ (r ≡ x) × (r < 256) ⌝ }
+{
+    x as u32
+}
+
+// The low byte of a number.
+fn low(v: u32) -> u8
+    ensures { λ r. ⌜ r ≡ v % 256 ⌝ }
+{
+    (v % 256) as u8
+}
+
+// Word i: one load.
+pub fn get32(s: &[u8], i: usize) -> u32
+    requires { ⌜ 4 * i + 4 ≤ length (now s) ⌝ }
+    ensures { λ r. ⌜ r ≡ word (now (s .entry)) i ⌝ }
+{
+    let at = 4 * i;
+    wide(s[at])
+        + 0x100 * wide(s[at + 1])
+        + 0x1_0000 * wide(s[at + 2])
+        + 0x100_0000 * wide(s[at + 3])
+}
+
+// Writes v as word i: one store.
+pub fn put32(s: &mut [u8], i: usize, v: u32)
+    requires { ⌜ 4 * i + 4 ≤ length (now s) ⌝ }
+    ensures { λ _. ⌜ now (s .exit) ≡ setWord (now (s .entry)) i v ⌝ }
+{
+    let at = 4 * i;
+    s[at] = low(v);
+    s[at + 1] = low(v / 256);
+    s[at + 2] = low(v / 256 / 256);
+    s[at + 3] = low(v / 256 / 256 / 256);
+}
+
+// Words i and i + 1 as one number.
+pub fn get64(s: &[u8], i: usize) -> u64
+    requires { ⌜ 4 * i + 8 ≤ length (now s) ⌝ }
+    ensures { λ r. ⌜ r ≡ word (now (s .entry)) i + 2 ^ 32 * word (now (s .entry)) (i + 1) ⌝ }
+{
+    (get32(s, i) as u64) + 0x1_0000_0000 * (get32(s, i + 1) as u64)
+}
+
+// Writes v as words i and i + 1.
+pub fn put64(s: &mut [u8], i: usize, v: u64)
+    requires { ⌜ 4 * i + 8 ≤ length (now s) ⌝ }
+    ensures { λ _. ⌜ now (s .exit) ≡ setWord (setWord (now (s .entry)) i (v % 2 ^ 32)) (i + 1) (v / 2 ^ 32) ⌝ }
+{
+    put32(s, i, (v % 0x1_0000_0000) as u32);
+    put32(s, i + 1, (v / 0x1_0000_0000) as u32);
+}
+
+// Writes t into m, from byte at on.
+pub fn put_part(m: &mut [u8], at: usize, t: &[u8])
+    requires { ⌜ at + length (now t) ≤ length (now m) ⌝ }
+    ensures { λ _. ⌜ now (m .exit) ≡ pasted (now (m .entry)) at (now (t .entry)) ⌝ }
+{
+    let mut k = 0;
+    while k < t.len() {
+        m[at + k] = t[k];
+        k += 1;
+    }
+}
+
+// Copies n bytes of m to a place apart from them.
+pub fn move_part(m: &mut [u8], from: usize, to: usize, n: usize)
+    requires { ⌜ (from + n ≤ length (now m)) × (to + n ≤ length (now m)) × Apart from n to n ⌝ }
+    ensures { λ _. ⌜ now (m .exit) ≡ pasted (now (m .entry)) to (part (now (m .entry)) from n) ⌝ }
+{
+    let mut k = 0;
+    while k < n {
+        m[to + k] = m[from + k];
+        k += 1;
+    }
+}
+
+// Writes 0 as the n words from word i on.
+pub fn zero_words(m: &mut [u8], i: usize, n: usize)
+    requires { ⌜ 4 * (i + n) ≤ length (now m) ⌝ }
+    ensures { λ _. ⌜ now (m .exit) ≡ pasted (now (m .entry)) (4 * i) (replicate (4 * n) 0) ⌝ }
+{
+    let mut k = 0;
+    while k < n {
+        put32(m, i + k, 0);
+        k += 1;
+    }
+}
