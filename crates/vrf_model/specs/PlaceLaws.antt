@@ -64,7 +64,7 @@ module _ {A : Type 0} (p : A → Bool) where
     lastPlace-hit [] e = rw e
     lastPlace-hit (x ∷ l) e = rw (lastPlace-hit l e)
 
-    lastPlace-miss : (l : List A) → p a ≡ false → lastPlace p (l ++ (a ∷ [])) ≡ lastPlace p l
+    pub lastPlace-miss : (l : List A) → p a ≡ false → lastPlace p (l ++ (a ∷ [])) ≡ lastPlace p l
     unfolding lastPlace orHead
     lastPlace-miss [] e = rw e
     lastPlace-miss (x ∷ l) e = rw (lastPlace-miss l e)

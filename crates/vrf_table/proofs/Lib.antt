@@ -1,0 +1,4 @@
+-- Pure lemmas of the proofs, by subject.
+pub mod Hashes
+pub mod Texts
+pub mod Walks
