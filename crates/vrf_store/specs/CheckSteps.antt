@@ -1,0 +1,322 @@
+-- The check in the steps that the code takes: first the sum of the lengths, which bounds the work that follows, then each table's
+-- texts, then its rows, then the keys and the leaves of the groups, whose walks read texts of any group.
+use mathlib.Core.Path.{_≡_, refl, sym, ap, _∙_}
+use mathlib.Core.Bool.{Bool, true, false, not, _&&_}
+use mathlib.Core.List.{List, _∷_}
+use mathlib.Core.Option.{Option, none, some}
+use Prim.Native.Nat.{ℕ, _+_, _-_, _*_, _/_, _%_, _^_, _<_, _≤_}
+use native.Mathlib.Numerals.{add-one}
+use native.Mathlib.Omega.{arith}
+use borrow.Author.Tests.{lt-ltb, le-ltb, not-true, not-false}
+use lib.Dec.{eqb, ltb, leb}
+use lib.ListN.{length, getD, set, take, drop, length-append, length-take, length-drop}
+use lib.Seq.{take-all, take-suc, take-suc-set}
+use Rattle.vrf_bitio.specs.BitsLaws.{Bytes}
+use Rattle.vrf_words.specs.WordsLaws.{word-bound}
+use Rattle.vrf_text.specs.Cases.{clash}
+use Rattle.vrf_path.specs.Keys.{defaultPrefix, charactersCore, defaultAlias, coreAlias}
+use Rattle.vrf_path.specs.Leaf.{leaf}
+use Rattle.vrf_path.specs.Answers.{spelled, keyBytes, absent}
+use Rattle.vrf_path.specs.AnswersLaws.{spelled-bytes, spelled-absent}
+use Rattle.vrf_path.specs.declared.Key.{Key}
+use Rattle.vrf_path.specs.declared.Key.the-variants.{Itself, Stripped, Prefixed, Cut, Inserted, Absent}
+use Rattle.vrf_model.specs.Lookup.{Claim}
+use Rattle.vrf_table.specs.Table.{key, at, len, info, text}
+use Rattle.vrf_table.specs.TextIndex.{numbered, findPath, claimOf}
+use Rattle.vrf_table.specs.Answers.{Texts}
+use Rattle.vrf_store.specs.UpTo.{allBelow, sumBelow}
+use Rattle.vrf_store.specs.UpToLaws.{and-true, allBelow-each}
+use Rattle.vrf_store.specs.Layout
+use Rattle.vrf_store.specs.Store.{Store, headerOf, storeOf}
+use Rattle.vrf_store.specs.Check.{textOk, foundOk, is32, notBefore, reachOk, isSettled, settledOk, guidOk, keyOk, leafOk, groupOk, slotOk, fieldOk, textSum, storeOk, laidOk}
+use Rattle.vrf_store.specs.Valid.{Shaped, GoodHeader}
+use Rattle.vrf_store.specs.CheckLaws.{told, header-good, row-length}
+use Rattle.vrf_store.specs.CheckValid.{laid-shaped}
+use Rattle.vrf_store.specs.Good.{Enough}
+
+-- ---- the steps, on lists
+
+-- a row of a GUID, but for its text
+unfoldable pub guidRow : List ℕ → List ℕ → ℕ → ℕ → ℕ → Bool
+guidRow r heads b n e = is32 (key r e) && (is32 (info r e) && foundOk r heads b n e)
+
+unfoldable pub groupRow : List ℕ → List ℕ → ℕ → ℕ → ℕ → Bool
+groupRow r heads b n e = is32 (key r e) && (leb (info r e) 65536 && foundOk r heads b n e)
+
+-- k is a slot of one of n groups, whose rows are g
+unfoldable pub slotIn : List ℕ → ℕ → ℕ → Bool
+slotIn g n k = ltb (k / 65536) n && ltb (k % 65536) (info g (k / 65536))
+
+unfoldable pub fieldRow : List ℕ → ℕ → List ℕ → List ℕ → ℕ → ℕ → ℕ → Bool
+fieldRow g groups r heads b n e = slotIn g groups (key r e) && (is32 (info r e) && foundOk r heads b n e)
+
+-- the key of this number of group g
+unfoldable pub keyReach : List ℕ → List ℕ → List ℕ → List ℕ → ℕ → ℕ → ℕ → ℕ → Bool
+keyReach r x links heads b n g j = reachOk (findPath r x links heads b n) (3 * g + j) (numbered (text r x g) j)
+
+unfoldable pub keysReach : List ℕ → List ℕ → List ℕ → List ℕ → ℕ → ℕ → ℕ → Bool
+keysReach r x links heads b n g = keyReach r x links heads b n g 0 && (keyReach r x links heads b n g 1 && keyReach r x links heads b n g 2)
+
+unfoldable pub leafSettled : List ℕ → List ℕ → List ℕ → List ℕ → ℕ → ℕ → ℕ → Bool
+leafSettled r x links heads b n g = settledOk (claimOf r x links heads b n) g (leaf (text r x g))
+
+-- ---- the steps, on a store
+
+unfoldable pub sumOk : Store → Bool
+sumOk s = eqb (textSum s) (s .header .held)
+
+unfoldable pub guidTexts : Store → Bool
+guidTexts s = allBelow (textOk (s .header .used) (s .texts) (s .guidRows)) (s .header .guids)
+
+unfoldable pub groupTexts : Store → Bool
+groupTexts s = allBelow (textOk (s .header .used) (s .texts) (s .groupRows)) (s .header .groups)
+
+unfoldable pub fieldTexts : Store → Bool
+fieldTexts s = allBelow (textOk (s .header .used) (s .texts) (s .fieldRows)) (s .header .fields)
+
+unfoldable pub textsOk : Store → Bool
+textsOk s = guidTexts s && (groupTexts s && fieldTexts s)
+
+unfoldable pub guidsOk : Store → Bool
+guidsOk s = allBelow (guidRow (s .guidRows) (s .guidHeads) (Layout.guidBuckets (s .header .allowed)) (s .header .guids)) (s .header .guids)
+
+unfoldable pub groupsOk : Store → Bool
+groupsOk s = allBelow (groupRow (s .groupRows) (s .groupHeads) (Layout.groupBuckets (s .header .allowed)) (s .header .groups)) (s .header .groups)
+
+unfoldable pub fieldsOk : Store → Bool
+fieldsOk s = allBelow (fieldRow (s .groupRows) (s .header .groups) (s .fieldRows) (s .fieldHeads) (Layout.fieldBuckets (s .header .allowed)) (s .header .fields)) (s .header .fields)
+
+unfoldable pub pathsOk : Store → Bool
+pathsOk s = allBelow (keysReach (s .groupRows) (s .texts) (s .pathLinks) (s .pathHeads) (Layout.groupBuckets (s .header .allowed)) (s .header .groups)) (s .header .groups)
+
+unfoldable pub leavesOk : Store → Bool
+leavesOk s = allBelow (leafSettled (s .groupRows) (s .texts) (s .leafLinks) (s .leafHeads) (Layout.groupBuckets (s .header .allowed)) (s .header .groups)) (s .header .groups)
+
+unfoldable pub stepsOk : Store → Bool
+stepsOk s = sumOk s && (textsOk s && (guidsOk s && (groupsOk s && (fieldsOk s && (pathsOk s && leavesOk s)))))
+
+-- ---- the steps are the check
+
+same-tests : (a b : Bool) → (a ≡ true → b ≡ true) → (b ≡ true → a ≡ true) → a ≡ b
+same-tests true b f g = sym (f refl)
+same-tests false true f g = g refl
+same-tests false false f g = refl
+
+module _ (s : Store) where
+  key-reach : (g j : ℕ) → j < 3 → keyOk s (3 * g + j) ≡ keyReach (s .groupRows) (s .texts) (s .pathLinks) (s .pathHeads) (Layout.groupBuckets (s .header .allowed)) (s .header .groups) g j
+  unfolding keyOk keyReach
+  key-reach g j h =
+      let group : (3 * g + j) / 3 ≡ g = omega arith in
+      let number : (3 * g + j) % 3 ≡ j = omega arith in
+      rw (group, number)
+
+  key-first : (g : ℕ) → keyOk s (3 * g) ≡ keyReach (s .groupRows) (s .texts) (s .pathLinks) (s .pathHeads) (Layout.groupBuckets (s .header .allowed)) (s .header .groups) g 0
+  key-first g = let none : 3 * g ≡ 3 * g + 0 = omega arith in ap (keyOk s) none ∙ key-reach g 0 (omega arith)
+
+  pub store-steps : storeOk s ≡ stepsOk s
+  unfolding storeOk guidOk groupOk fieldOk slotOk leafOk stepsOk sumOk textsOk guidTexts groupTexts fieldTexts guidsOk groupsOk fieldsOk pathsOk leavesOk guidRow groupRow fieldRow slotIn keysReach leafSettled
+  store-steps = same-tests (storeOk s) (stepsOk s)
+      (λ h. let f = simp told at h in
+      let guid = f .0 in
+      let group = f .1 .0 in
+      let field = f .1 .1 .0 in
+      simp told (
+        f .1 .1 .1,
+        (
+          ((λ e k. guid e k .0), ((λ e k. group e k .0), (λ e k. field e k .0))),
+          (
+            (λ e k. guid e k .1),
+            (
+              (λ e k. let g = group e k .1 in (g .0, (g .1 .0, g .1 .1 .0))),
+              (
+                (λ e k. field e k .1),
+                ((λ e k. let g = group e k .1 .1 .1 .1 in (sym (key-first e) ∙ g .0, (sym (key-reach e 1 (omega arith)) ∙ g .1 .0, sym (key-reach e 2 (omega arith)) ∙ g .1 .1 .0))), (λ e k. group e k .1 .1 .1 .1 .1 .1 .1)),
+              ),
+            ),
+          ),
+        ),
+      ))
+      (λ h. let f = simp told at h in
+      let texts = f .1 .0 in
+      let rows = f .1 .1 in
+      simp told (
+        (λ e k. (texts .0 e k, rows .0 e k)),
+        (
+          (λ e k. let g = rows .1 .0 e k in let p = rows .1 .1 .1 .0 e k in
+              (texts .1 .0 e k, (g .0, (g .1 .0, (g .1 .1, (key-first e ∙ p .0, (key-reach e 1 (omega arith) ∙ p .1 .0, (key-reach e 2 (omega arith) ∙ p .1 .1, rows .1 .1 .1 .1 e k)))))))),
+          ((λ e k. (texts .1 .1 e k, rows .1 .1 .0 e k)), f .0),
+        ),
+      ))
+
+-- ---- what the steps require
+
+-- a memory whose allowances and header are in bounds
+pub record Laid (m : List ℕ) : Type 0 where
+  pub enough : Enough m
+  pub shaped : Shaped (storeOf m)
+  pub header : GoodHeader (headerOf m)
+
+pub laid : (m : List ℕ) → laidOk (headerOf m) (length m) ≡ true → Laid m
+unfolding laidOk storeOf headerOf
+laid m h = let facts = simp told at h in record { enough = facts .1 .1 .0; shaped = laid-shaped m h; header = header-good (headerOf m) (facts .1 .0) (facts .1 .1 .1) }
+
+-- what the walks over n groups by their texts need: `per` bytes of links for each, and texts that lie in x and are no longer than a text
+pub record Walked (r x l h : List ℕ) (per b n : ℕ) : Type 0 where
+  pub rows : 24 * n ≤ length r
+  pub links : per * n ≤ length l
+  pub heads : 4 * b ≤ length h
+  pub buckets : 0 < b
+  pub few : n ≤ 100000
+  pub texts : Texts r x n
+  pub short : (e : ℕ) → e < n → len r e ≤ 4096
+
+pub texts-group : (s : Store) → textsOk s ≡ true → groupTexts s ≡ true
+unfolding textsOk
+texts-group s h = let both = and-true (guidTexts s) (groupTexts s && fieldTexts s) h in and-true (groupTexts s) (fieldTexts s) (both .1) .0
+
+module _ (m : List ℕ) (l : Laid m) (h : groupTexts (storeOf m) ≡ true) where
+  each-text : (e : ℕ) → e < headerOf m .groups → (at (storeOf m .groupRows) e + len (storeOf m .groupRows) e ≤ headerOf m .used) × (len (storeOf m .groupRows) e ≤ 4096)
+  unfolding groupTexts textOk
+  each-text e k = let f = (simp told at h) e k in (f .0, f .1 .0)
+
+  pub paths-walked : Walked (storeOf m .groupRows) (storeOf m .texts) (storeOf m .pathLinks) (storeOf m .pathHeads) 12 (Layout.groupBuckets (headerOf m .allowed)) (headerOf m .groups)
+  paths-walked = record {
+    rows = omega (arith, l .shaped, l .header);
+    links = omega (arith, l .shaped, l .header);
+    heads = omega (arith, l .shaped);
+    buckets = omega arith;
+    few = omega (arith, l .header);
+    texts = λ e k. omega (arith, each-text e k, l .shaped, l .header);
+    short = λ e k. each-text e k .1;
+  }
+
+  pub leaves-walked : Walked (storeOf m .groupRows) (storeOf m .texts) (storeOf m .leafLinks) (storeOf m .leafHeads) 4 (Layout.groupBuckets (headerOf m .allowed)) (headerOf m .groups)
+  leaves-walked = record {
+    rows = paths-walked .rows;
+    links = omega (arith, l .shaped, l .header);
+    heads = omega (arith, l .shaped);
+    buckets = omega arith;
+    few = paths-walked .few;
+    texts = paths-walked .texts;
+    short = paths-walked .short;
+  }
+
+-- ---- a conjunction as the code takes it: a test that fails ends it
+
+module _ {a : Bool} where
+  pub and-stop : (b : Bool) → a ≡ false → false ≡ (a && b)
+  and-stop b h = rw h
+
+  pub and-on : {b s : Bool} → a ≡ true → s ≡ b → s ≡ (a && b)
+  and-on h e = rw h e
+
+-- r is what a test answers, and `if !r` asks
+module _ {r a : Bool} (e : r ≡ a) where
+  pub fails : not r ≡ true → a ≡ false
+  fails t = sym e ∙ not-true r t
+
+  pub holds : not r ≡ false → a ≡ true
+  holds t = sym e ∙ not-false r t
+
+-- a loop over the numbers below n
+module _ (ok : ℕ → Bool) where
+  pub all-first : allBelow ok 0 ≡ true
+  unfolding allBelow
+  all-first = refl
+
+  pub all-last : (i n : ℕ) → i ≤ n → n ≤ i → allBelow ok i ≡ true → true ≡ allBelow ok n
+  all-last i n a b h = let q : n ≡ i = omega arith in rw q (sym h)
+
+  module _ (i : ℕ) {r : Bool} (e : r ≡ ok i) where
+    pub all-next : not r ≡ false → allBelow ok i ≡ true → allBelow ok (i + 1) ≡ true
+    unfolding allBelow
+    all-next t h = rw (add-one, h) (holds e t)
+
+    pub all-stop : (n : ℕ) → i < n → not r ≡ true → false ≡ allBelow ok n
+    all-stop n k t = by (allBelow ok n) refl
+      where
+        by : (b : Bool) → allBelow ok n ≡ b → false ≡ b
+        by true q = clash (let one = allBelow-each ok n q i k in let zero = fails e t in cc)
+        by false q = refl
+
+pub sum-next : (f : ℕ → ℕ) (i : ℕ) → sumBelow f (i + 1) ≡ sumBelow f i + f i
+unfolding sumBelow
+sum-next f i = rw add-one
+
+-- ---- numbers of 32 bits
+
+pub is-32 : (n : ℕ) → n < 2 ^ 32 → is32 n ≡ true
+unfolding is32
+is-32 n h = lt-ltb n (2 ^ 32) h
+
+pub not-32 : (n : ℕ) → 2 ^ 32 ≤ n → is32 n ≡ false
+unfolding is32
+not-32 n h = le-ltb n (2 ^ 32) h
+
+-- a word is one
+pub info-32 : (r : List ℕ) (e : ℕ) → Bytes r → is32 (info r e) ≡ true
+unfolding info
+info-32 r e b = is-32 (info r e) (word-bound r (6 * e + 5) b)
+
+-- ---- keys and leaves of a group, whose text is path
+
+module _ {r x l h : List ℕ} {per b n : ℕ} (w : Walked r x l h per b n) {g : ℕ} (k : g < n) {path : List ℕ} (e : path ≡ text r x g) where
+  pub path-short : length path ≤ 4096
+  path-short = rw e (omega (arith, row-length (length x) x r (omega arith) g (w .texts g k), w .short g k))
+
+  pub leaf-short : (i : ℕ) → length (take (length path - i) (drop i path)) < 2 ^ 31
+  leaf-short i = omega (arith, path-short, length-take (length path - i) (drop i path), length-drop i path)
+
+module _ (find : List ℕ → Option ℕ) {path t : List ℕ} (e : path ≡ t) (g : ℕ) where
+  -- the path itself
+  pub itself : {r : Bool} → r ≡ notBefore (3 * g) (find path) → r ≡ reachOk find (3 * g + 0) (numbered t 0)
+  unfolding reachOk numbered
+  itself er = let none : 3 * g + 0 ≡ 3 * g = omega arith in rw (none, ← e) er
+
+  pub default-key : {r : Bool} {o : Option (List ℕ)} → o ≡ defaultAlias path → r ≡ reachOk find (3 * g + 1) o → r ≡ reachOk find (3 * g + 1) (numbered t 1)
+  unfolding numbered
+  default-key eo er = rw (← e, ← eo) er
+
+  pub core-key : {r : Bool} {o : Option (List ℕ)} → o ≡ coreAlias path → r ≡ reachOk find (3 * g + 2) o → r ≡ reachOk find (3 * g + 2) (numbered t 2)
+  unfolding numbered
+  core-key eo er = rw (← e, ← eo) er
+
+-- a key that may be missing
+module _ (find : List ℕ → Option ℕ) (e : ℕ) (t : List ℕ) (k : Key) {a : Bool} (ea : a ≡ absent k) where
+  pub alias-gone : a ≡ true → true ≡ reachOk find e (spelled t k)
+  unfolding reachOk
+  alias-gone h = rw (spelled-absent t k (sym ea ∙ h))
+
+  pub alias-there : {r : Bool} → a ≡ false → r ≡ notBefore e (find (keyBytes t k)) → r ≡ reachOk find e (spelled t k)
+  unfolding reachOk
+  alias-there h er = rw (spelled-bytes t k (sym ea ∙ h)) er
+
+module _ (claim : List ℕ → Claim) {path t : List ℕ} (e : path ≡ t) (g : ℕ) where
+  -- the part `&path[i..]`, which is the leaf
+  pub leaf-there : (i : ℕ) {v : Claim} {r : Bool} → leaf path ≡ some (drop i path) → v ≡ claim (take (length path - i) (drop i path)) → r ≡ isSettled g v → r ≡ settledOk claim g (leaf t)
+  unfolding settledOk
+  leaf-there i el ev er =
+      let whole = take-all (length path - i) (drop i path) (rw length-drop (omega arith)) in
+      rw (← e, el) (er ∙ ap (isSettled g) (ev ∙ ap claim whole))
+
+  pub leaf-none : leaf path ≡ none → true ≡ settledOk claim g (leaf t)
+  unfolding settledOk
+  leaf-none el = rw (← e, el)
+
+-- ---- a key that is spelled out, byte by byte: l becomes k
+
+pub key-room : (t : List ℕ) (k : Key) → length (keyBytes t k) ≤ length t + 23
+unfolding defaultPrefix charactersCore
+key-room t Itself = omega arith
+key-room t Stripped = omega (arith, length-drop 9 t)
+key-room t Prefixed = omega arith
+key-room t (Cut i) = omega (arith, length-append (take i t) (47 ∷ drop (i + 7) t), length-take i t, length-drop (i + 7) t)
+key-room t Inserted = omega (arith, length-drop 17 t)
+key-room t Absent = omega arith
+
+module _ (l k : List ℕ) (i : ℕ) (h : take i l ≡ take i k) where
+  pub spell-next : (b : ℕ) → i < length l → i < length k → b ≡ getD k i 0 → take (i + 1) (set l i b) ≡ take (i + 1) k
+  spell-next b hl hk e = rw (add-one, take-suc-set l i b hl, take-suc k i 0 hk, h, e)
+
+  pub spell-last : (n : ℕ) → i ≤ n → n ≤ i → n ≡ length k → take n l ≡ k
+  spell-last n a b e = let q : n ≡ i = omega arith in rw q (h ∙ take-all i k (omega arith))

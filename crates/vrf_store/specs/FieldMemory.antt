@@ -1,0 +1,108 @@
+-- What writing the fields makes of a memory, as the functions write it: the table is lent, and then the counts are written.
+use mathlib.Core.Path.{_≡_, refl, sym, ap, _∙_}
+use mathlib.Core.List.{List, _++_}
+use Prim.Native.Nat.{ℕ, suc, _+_, _-_, _*_, _/_, _%_, _^_, _<_, _≤_}
+use native.Mathlib.Numerals.{add-one}
+use native.Mathlib.Omega.{arith}
+use lib.ListN.{length}
+use Rattle.vrf_bitio.specs.BitsLaws.{Bytes}
+use Rattle.vrf_bitio.specs.Pasted.{pasted}
+use Rattle.vrf_words.specs.Words.{setWord, part}
+use Rattle.vrf_words.specs.WordsLaws.{bytes-part, word-bound, length-part}
+use Rattle.vrf_model.specs.Book.{filled, Content}
+use Rattle.vrf_model.specs.Lawful.{Is32}
+use Rattle.vrf_table.specs.Table.{key, len, setText, keyStart}
+use Rattle.vrf_store.specs.Layout
+use Rattle.vrf_store.specs.Store.{allowancesOf, headerOf, storeOf, words, slotKey, contentOf}
+use Rattle.vrf_store.specs.Valid.{Valid}
+use Rattle.vrf_store.specs.Good.{Good}
+use Rattle.vrf_store.specs.Stepped.{Stepped, held}
+use Rattle.vrf_store.specs.Written.{unwritten, stepped, wrote-fieldTable, wrote-fields, wrote-held}
+use Rattle.vrf_store.specs.TableMemory.{pushed, lentTo, Lent, lent, tableEnd, pushed-words, text-words, halves, lentPart, rows-words}
+use Rattle.vrf_store.specs.FieldMoves.{withFields, withGroup, NewField, push-valid, NewName, withField, push-content, rename-valid, rename-content}
+use Rattle.vrf_store.specs.FieldDrop.{Pass, passOf, passRows, headless, headless-is, dropped, emptied, gone-held, drop-valid, drop-content}
+
+-- the rows of the fields and, behind them, the heads
+abbrev fieldTable : List ℕ → List ℕ
+fieldTable m = part m (4 * Layout.fieldRowsAt (allowancesOf m)) (24 * allowancesOf m .fields + 4 * (allowancesOf m .fields + 1))
+
+module _ {m : List ℕ} (g : Good m) where
+  room : 128 ≤ length m
+  room = omega (arith, g .enough)
+
+  -- the table is written, and then the count of the fields and the bytes held
+  table-stepped : (r heads : List ℕ) (n h : ℕ) (t : List ℕ) (c : Content) → t ≡ r ++ heads → Valid (withFields (storeOf m) r heads n h) → contentOf (withFields (storeOf m) r heads n h) ≡ c → Stepped m (setWord (setWord (pasted m (4 * Layout.fieldRowsAt (allowancesOf m)) t) 7 n) 8 h) c
+  table-stepped r heads n h t c e v q =
+      let table = wrote-fieldTable (unwritten m) (g .enough) r heads (v .shaped .fieldRows) (v .shaped .fieldHeads) in
+      let counted = wrote-fields table n (omega (arith, v .header .fields, v .header .tops .fields)) room in
+      rw e (stepped (g .enough) (wrote-held counted h (omega (arith, v .header .held, v .header .tops .text)) room) v q)
+
+  -- a head has 32 bits
+  head-small : Bytes m → (k : ℕ) → keyStart (storeOf m .fieldHeads) (Layout.fieldBuckets (allowancesOf m)) k < 2 ^ 32
+  unfolding keyStart words
+  head-small bytes k = word-bound _ _ (bytes-part m _ _ bytes)
+
+  table-fits : 4 * Layout.fieldRowsAt (allowancesOf m) + 24 * allowancesOf m .fields + 4 * (allowancesOf m .fields + 1) ≤ length m
+  table-fits = omega (arith, g .enough)
+
+  pushed-stepped : Bytes m → (place slot a l i : ℕ) → NewField (storeOf m) place slot a l → Is32 i → Stepped m (setWord (setWord (pasted m (4 * Layout.fieldRowsAt (allowancesOf m)) (pushed (fieldTable m) (allowancesOf m .fields) (headerOf m .fields) (slotKey place slot) a l i)) 7 (suc (headerOf m .fields))) 8 (headerOf m .held + l)) (withField (held m) place slot (filled i (part (storeOf m .texts) a l)))
+  pushed-stepped bytes place slot a l i w small =
+      let head = head-small bytes (slotKey place slot) in
+      table-stepped _ _ _ _ _ _ (pushed-words m (Layout.fieldRowsAt (allowancesOf m)) (allowancesOf m .fields) table-fits (headerOf m .fields) (slotKey place slot) a l i)
+      (push-valid (g .valid) place slot a l i w small head) (push-content (g .valid) place slot a l i w small head)
+
+  renamed-stepped : (e a l i : ℕ) → NewName (storeOf m) e a l → Is32 i → Stepped m (setWord (pasted m (4 * Layout.fieldRowsAt (allowancesOf m)) (setText (fieldTable m) e a l i)) 8 (headerOf m .held - len (storeOf m .fieldRows) e + l)) (withField (held m) (key (storeOf m .fieldRows) e / 65536) (key (storeOf m .fieldRows) e % 65536) (filled i (part (storeOf m .texts) a l)))
+  renamed-stepped e a l i w small =
+      let few : e < allowancesOf m .fields = omega (arith, w .row, g .valid .header .fields) in
+      let v = rename-valid (g .valid) e a l i w small in
+      let table = wrote-fieldTable (unwritten m) (g .enough) (setText (storeOf m .fieldRows) e a l i) (storeOf m .fieldHeads) (v .shaped .fieldRows) (v .shaped .fieldHeads) in
+      rw (text-words m (Layout.fieldRowsAt (allowancesOf m)) (allowancesOf m .fields) table-fits e few a l i)
+      (stepped (g .enough) (wrote-held table _ (omega (arith, v .header .held, v .header .tops .text)) room) v (rename-content (g .valid) e a l i w small))
+
+-- ---- the table as it is lent
+
+module _ {m : List ℕ} (g : Good m) {cap from : ℕ} {f : List ℕ → List ℕ} {t : List ℕ} (ec : cap ≡ allowancesOf m .fields) (ef : from ≡ 4 * Layout.fieldRowsAt (allowancesOf m)) (table : Lent m from (tableEnd from cap) f t) where
+  -- the table comes back
+  came-back : lentTo m from (tableEnd from cap) t ≡ pasted m (4 * Layout.fieldRowsAt (allowancesOf m)) (f (fieldTable m))
+  came-back = lent (24 * cap + 4 * (cap + 1)) table (omega arith) (omega (arith, g .enough, ec, ef)) ∙ rw (ec, ef)
+
+-- ---- a field more
+
+module _ {m : List ℕ} (g : Good m) (bytes : Bytes m) (place slot a l i : ℕ) (w : NewField (storeOf m) place slot a l) (small : Is32 i) where
+  pub push-field : {cap from n total : ℕ} {t m₁ m′ : List ℕ} → cap ≡ allowancesOf m .fields → from ≡ 4 * Layout.fieldRowsAt (allowancesOf m) → n ≡ headerOf m .fields → total ≡ headerOf m .held
+      → Lent m from (tableEnd from cap) (λ x. pushed x cap n (65536 * place + slot) a l i) t → m₁ ≡ setWord (lentTo m from (tableEnd from cap) t) 7 (n + 1) → m′ ≡ setWord m₁ 8 (total + l)
+      → Stepped m m′ (withField (held m) place slot (filled i (part (storeOf m .texts) a l)))
+  unfolding slotKey
+  push-field {n = n} ec ef en et table e₁ e₂ = rw (e₂, e₁, add-one n, came-back g ec ef table, ec, en, et) (pushed-stepped g bytes place slot a l i w small)
+
+-- ---- another name and checksum
+
+module _ {m : List ℕ} (g : Good m) (e a l i : ℕ) (w : NewName (storeOf m) e a l) (small : Is32 i) where
+  pub set-field-row : {cap from total : ℕ} {t m′ : List ℕ} → cap ≡ allowancesOf m .fields → from ≡ 4 * Layout.fieldRowsAt (allowancesOf m) → total ≡ headerOf m .held - len (storeOf m .fieldRows) e + l
+      → Lent m from (tableEnd from cap) (λ x. setText x e a l i) t → m′ ≡ setWord (lentTo m from (tableEnd from cap) t) 8 total
+      → Stepped m m′ (withField (held m) (key (storeOf m .fieldRows) e / 65536) (key (storeOf m .fieldRows) e % 65536) (filled i (part (storeOf m .texts) a l)))
+  set-field-row ec ef et table e₁ = rw (e₁, came-back g ec ef table, et) (renamed-stepped g e a l i w small)
+
+-- ---- all fields of a group go
+
+module _ {m : List ℕ} (g : Good m) (place : ℕ) (in-groups : place < headerOf m .groups) {cap from n rows gone : ℕ} {t : List ℕ} (ec : cap ≡ allowancesOf m .fields) (ef : from ≡ 4 * Layout.fieldRowsAt (allowancesOf m)) (en : n ≡ headerOf m .fields) (long : length t ≡ length (lentPart m from (tableEnd from cap))) (ep : passOf t rows gone ≡ passRows cap place (headless cap (lentPart m from (tableEnd from cap))) n) where
+  lent-is : lentPart m from (tableEnd from cap) ≡ fieldTable m
+  unfolding part
+  lent-is = let size : tableEnd from cap - from ≡ 24 * cap + 4 * (cap + 1) = omega arith in rw (size, ec, ef)
+
+  table-long : length (fieldTable m) ≡ 24 * allowancesOf m .fields + 4 * (allowancesOf m .fields + 1)
+  table-long = length-part m _ _ (omega (arith, table-fits g))
+
+  end-is : passOf t rows gone ≡ dropped (storeOf m) place
+  end-is = ep ∙ rw (lent-is, ec, en, headless-is (allowancesOf m .fields) (fieldTable m) table-long, rows-words m (Layout.fieldRowsAt (allowancesOf m)) (allowancesOf m .fields) (table-fits g))
+
+  pub dropped-held : gone ≤ headerOf m .held
+  dropped-held = rw (ap (λ (p : Pass). p .gone) end-is) (gone-held (g .valid) place in-groups)
+
+  pub drop-fields : {total : ℕ} {m₁ m′ : List ℕ} → total ≡ headerOf m .held → m₁ ≡ setWord (lentTo m from (tableEnd from cap) t) 7 rows → m′ ≡ setWord m₁ 8 (total - gone) → Stepped m m′ (withGroup (held m) place emptied)
+  drop-fields et e₁ e₂ =
+      let back = came-back g {f = λ _. t} ec ef (record { long = long; made = refl }) in
+      let is-t = ap (λ (p : Pass). p .table) end-is in
+      let whole = halves (dropped (storeOf m) place .table) (allowancesOf m .fields) (ap length (sym is-t) ∙ long ∙ ap length lent-is ∙ table-long) in
+      rw (e₂, e₁, back, et, is-t, ap (λ (p : Pass). p .kept) end-is, ap (λ (p : Pass). p .gone) end-is)
+      (table-stepped g _ _ _ _ _ _ whole (drop-valid (g .valid) place in-groups) (drop-content (g .valid) place in-groups))

@@ -1,0 +1,59 @@
+-- What the code requires of the parts and numbers that it took of a valid store, to walk a table or an index and to read a row.
+use mathlib.Core.Path.{_≡_, ap}
+use mathlib.Core.List.{List}
+use Prim.Native.Nat.{ℕ, _+_, _*_, _^_, _<_, _≤_}
+use native.Mathlib.Omega.{arith}
+use lib.ListN.{length}
+use Rattle.vrf_table.specs.Table.{at, len}
+use Rattle.vrf_table.specs.Answers.{Texts}
+use Rattle.vrf_store.specs.Layout
+use Rattle.vrf_store.specs.Store.{Store}
+use Rattle.vrf_store.specs.Valid.{GoodTable, Valid}
+use Rattle.vrf_store.specs.CheckValid.{valid-fits}
+
+module _ {s : Store} (v : Valid s) where
+  -- ---- a table's rows and heads
+
+  pub guid-walk : {r heads : List ℕ} {b n : ℕ} → r ≡ s .guidRows → heads ≡ s .guidHeads → b ≡ Layout.guidBuckets (s .header .allowed) → n ≡ s .header .guids → (24 * n ≤ length r) × (4 * b ≤ length heads) × (0 < b)
+  guid-walk er eh eb en = omega (arith, ap length er, ap length eh)
+
+  pub group-walk : {r heads : List ℕ} {b n : ℕ} → r ≡ s .groupRows → heads ≡ s .groupHeads → b ≡ Layout.groupBuckets (s .header .allowed) → n ≡ s .header .groups → (24 * n ≤ length r) × (4 * b ≤ length heads) × (0 < b)
+  group-walk er eh eb en = omega (arith, ap length er, ap length eh)
+
+  pub field-walk : {r heads : List ℕ} {b n : ℕ} → r ≡ s .fieldRows → heads ≡ s .fieldHeads → b ≡ Layout.fieldBuckets (s .header .allowed) → n ≡ s .header .fields → (24 * n ≤ length r) × (4 * b ≤ length heads) × (0 < b)
+  field-walk er eh eb en = omega (arith, ap length er, ap length eh)
+
+  -- ---- a row, and its text
+
+  pub guid-row : {r : List ℕ} {i : ℕ} → r ≡ s .guidRows → i < s .header .guids → 24 * i + 24 ≤ length r
+  guid-row er h = omega (arith, ap length er)
+
+  pub group-row : {r : List ℕ} {i : ℕ} → r ≡ s .groupRows → i < s .header .groups → 24 * i + 24 ≤ length r
+  group-row er h = omega (arith, ap length er)
+
+  pub field-row : {r : List ℕ} {i : ℕ} → r ≡ s .fieldRows → i < s .header .fields → 24 * i + 24 ≤ length r
+  field-row er h = omega (arith, ap length er)
+
+  texts-in : {r x heads : List ℕ} {b n : ℕ} → GoodTable (s .header .used) (s .texts) r heads b n → x ≡ s .texts → Texts r x n
+  texts-in t ex i h = omega (arith, t .texts i h .within, valid-fits v, ap length ex)
+
+  pub guid-text : {r x : List ℕ} {i : ℕ} → r ≡ s .guidRows → x ≡ s .texts → i < s .header .guids → at r i + len r i ≤ length x
+  guid-text er ex h = rw er (texts-in (v .guidTable) ex _ h)
+
+  pub group-text : {r x : List ℕ} {i : ℕ} → r ≡ s .groupRows → x ≡ s .texts → i < s .header .groups → at r i + len r i ≤ length x
+  group-text er ex h = rw er (texts-in (v .groupTable) ex _ h)
+
+  pub field-text : {r x : List ℕ} {i : ℕ} → r ≡ s .fieldRows → x ≡ s .texts → i < s .header .fields → at r i + len r i ≤ length x
+  field-text er ex h = rw er (texts-in (v .fieldTable) ex _ h)
+
+  -- ---- the indices of the groups
+
+  module _ {r x : List ℕ} {b n : ℕ} (er : r ≡ s .groupRows) (ex : x ≡ s .texts) (eb : b ≡ Layout.groupBuckets (s .header .allowed)) (en : n ≡ s .header .groups) where
+    group-texts : Texts r x n
+    group-texts i h = group-text er ex (omega arith)
+
+    pub path-walk : {links heads : List ℕ} {k : ℕ} → links ≡ s .pathLinks → heads ≡ s .pathHeads → k < 2 ^ 31 → (24 * n ≤ length r) × (12 * n ≤ length links) × (4 * b ≤ length heads) × (0 < b) × (n ≤ 100000) × Texts r x n × (k < 2 ^ 31)
+    path-walk el eh h = let lr = ap length er in let ll = ap length el in let lh = ap length eh in (omega arith, omega arith, omega arith, omega arith, omega arith, group-texts, h)
+
+    pub leaf-walk : {links heads : List ℕ} {k : ℕ} → links ≡ s .leafLinks → heads ≡ s .leafHeads → k < 2 ^ 31 → (24 * n ≤ length r) × (4 * n ≤ length links) × (4 * b ≤ length heads) × (0 < b) × Texts r x n × (k < 2 ^ 31)
+    leaf-walk el eh h = let lr = ap length er in let ll = ap length el in let lh = ap length eh in (omega arith, omega arith, omega arith, omega arith, group-texts, h)

@@ -1,0 +1,115 @@
+-- What the code that indexes groups leaves of a memory.
+use mathlib.Core.Path.{_≡_, sym, ap, subst, _∙_}
+use mathlib.Core.List.{List, _++_}
+use mathlib.Core.Option.{Option}
+use Prim.Native.Nat.{ℕ, _+_, _*_, _<_, _≤_}
+use native.Mathlib.Numerals.{add-one}
+use native.Mathlib.Omega.{arith}
+use lib.ListN.{length}
+use Rattle.vrf_bitio.specs.BitsLaws.{Bytes}
+use Rattle.vrf_bitio.specs.Pasted.{pasted}
+use Rattle.vrf_words.specs.WordsLaws.{length-part, bytes-part}
+use Rattle.vrf_table.specs.Table.{at, len, text}
+use Rattle.vrf_model.specs.Book.{Allowances}
+use Rattle.vrf_store.specs.Layout
+use Rattle.vrf_store.specs.Store.{Store, Header, allowancesOf, headerOf, words, storeBy, storeOf}
+use Rattle.vrf_store.specs.CheckValid.{need-shaped}
+use Rattle.vrf_store.specs.Valid.{Shaped}
+use Rattle.vrf_store.specs.Good.{Enough}
+use Rattle.vrf_store.specs.Written.{Written, unwritten, wrote-groupTable, wrote-pathIndex, wrote-leafIndex}
+use Rattle.vrf_store.specs.TextMoves.{linked, headed, Below, length-linked, length-headed}
+use Rattle.vrf_store.specs.GroupIndex.{pushKey, pushPath, pushLeaf, indexGroup, Indexed, Relinked, Indexable, Pushable, Joined}
+use Rattle.vrf_store.specs.declared.groups.Buckets.{Buckets}
+use Rattle.vrf_store.specs.GroupBuckets.{bucketed, BucketsOf}
+use Rattle.vrf_store.specs.GroupIndexLaws.{Heads, index-indexed}
+use Rattle.vrf_store.specs.GroupLinks.{index-relinked}
+
+-- ---- one entry
+
+-- the links and the heads with an entry more, as they stand in the memory
+abbrev chained : List ℕ → (at n k i p : ℕ) → Option ℕ → List ℕ
+chained m at n k i p o = linked (words m at n) (words m (at + n) k) i o ++ headed (words m (at + n) k) p o
+
+-- the code reads the allowances g of GUID records and r of groups
+module _ (m m′ : List ℕ) (g r e : ℕ) (o : Option ℕ) (guids : g ≡ allowancesOf m .guids) (groups : r ≡ allowancesOf m .groups) where
+  shaped : Enough m → Shaped (storeOf m)
+  shaped = need-shaped (headerOf m) m
+
+  pub key-written : Pushable m 1 e o → m′ ≡ pasted m (4 * (33 + 7 * g)) (chained m (33 + 7 * g) (6 * r) (r + 1) (6 * e + 2) (e + 1) o) → Written m m′ (pushKey (storeOf m) e o)
+  unfolding pushKey
+  key-written h w = rw (w, guids, groups) (wrote-groupTable (unwritten m) (h .enough) _ _
+      (length-linked (storeOf m .groupRows) (storeOf m .groupHeads) (6 * e + 2) (omega (arith, h .low, shaped (h .enough) .groupRows)) o ∙ shaped (h .enough) .groupRows)
+      (length-headed (storeOf m .groupHeads) (allowancesOf m .groups + 1) (e + 1) (omega (arith, shaped (h .enough) .groupHeads)) o (h .below) ∙ shaped (h .enough) .groupHeads))
+
+  pub path-written : Pushable m 3 e o → m′ ≡ pasted m (4 * (34 + 7 * g + 7 * r)) (chained m (34 + 7 * g + 7 * r) (3 * r) (r + 1) e (e + 1) o) → Written m m′ (pushPath (storeOf m) e o)
+  unfolding pushPath
+  path-written h w =
+      let heads : 34 + 7 * allowancesOf m .guids + 7 * allowancesOf m .groups + 3 * allowancesOf m .groups ≡ Layout.pathHeadsAt (allowancesOf m) = omega arith in
+      rw (w, guids, groups, heads) (wrote-pathIndex (unwritten m) (h .enough) _ _
+      (length-linked (storeOf m .pathLinks) (storeOf m .pathHeads) e (omega (arith, h .low, shaped (h .enough) .pathLinks)) o ∙ shaped (h .enough) .pathLinks)
+      (length-headed (storeOf m .pathHeads) (allowancesOf m .groups + 1) (e + 1) (omega (arith, shaped (h .enough) .pathHeads)) o (h .below) ∙ shaped (h .enough) .pathHeads))
+
+  pub leaf-written : Pushable m 1 e o → m′ ≡ pasted m (4 * (35 + 7 * g + 11 * r)) (chained m (35 + 7 * g + 11 * r) r (r + 1) e (e + 1) o) → Written m m′ (pushLeaf (storeOf m) e o)
+  unfolding pushLeaf
+  leaf-written h w =
+      let heads : 35 + 7 * allowancesOf m .guids + 11 * allowancesOf m .groups + allowancesOf m .groups ≡ Layout.leafHeadsAt (allowancesOf m) = omega arith in
+      rw (w, guids, groups, heads) (wrote-leafIndex (unwritten m) (h .enough) _ _
+      (length-linked (storeOf m .leafLinks) (storeOf m .leafHeads) e (omega (arith, h .low, shaped (h .enough) .leafLinks)) o ∙ shaped (h .enough) .leafLinks)
+      (length-headed (storeOf m .leafHeads) (allowancesOf m .groups + 1) (e + 1) (omega (arith, shaped (h .enough) .leafHeads)) o (h .below) ∙ shaped (h .enough) .leafHeads))
+
+-- ---- all the entries of a group
+
+-- a row has as many bytes of text as it says
+pub text-long : (r x : List ℕ) (e : ℕ) → at r e + len r e ≤ length x → length (text r x e) ≡ len r e
+unfolding text
+text-long r x e h = length-part x (at r e) (len r e) h
+
+-- its row lies in the rows, and its path in the texts
+module _ {m : List ℕ} {g : ℕ} (i : Indexable m g) where
+  pub row-inside : 24 * g + 24 ≤ length (storeOf m .groupRows)
+  row-inside = omega (arith, need-shaped (headerOf m) m (i .enough) .groupRows, i .low)
+
+  pub path-inside : at (storeOf m .groupRows) g + len (storeOf m .groupRows) g ≤ length (storeOf m .texts)
+  path-inside = omega (arith, need-shaped (headerOf m) m (i .enough) .texts, i .within)
+
+  pub path-short : length (text (storeOf m .groupRows) (storeOf m .texts) g) ≤ 4096
+  path-short = omega (arith, text-long (storeOf m .groupRows) (storeOf m .texts) g path-inside, i .short)
+
+-- writes, and writes after them
+pub then : {m m′ m″ : List ℕ} {s : Store} (f : Store → Store) → Written m m′ s → Written m′ m″ (f (storeOf m′)) → Written m m″ (f s)
+then f w v = record { store = v .store ∙ ap f (w .store); allowed = v .allowed ∙ w .allowed; counters = v .counters ∙ w .counters; long = v .long ∙ w .long }
+
+pub after : {m m′ m″ : List ℕ} {s t : Store} → Written m m′ s → Written m′ m″ t → Written m m″ t
+after {t = t} w v = then (λ _. t) w v
+
+-- a group that can join the indexes still can after writes
+pub pushable : {m m′ : List ℕ} {s : Store} {g : ℕ} {o o′ : Option ℕ} (n e : ℕ) → Indexable m g → Written m m′ s → e < n * allowancesOf m .groups → o ≡ o′ → Below (allowancesOf m .groups + 1) o′ → Pushable m′ n e o
+pushable {m} {m′} {o = o} n e i w low same below =
+    let groups : allowancesOf m′ .groups ≡ allowancesOf m .groups = ap (λ (a : Allowances). a .groups) (w .allowed) in
+    record {
+      enough = omega (arith, ap Layout.need (w .allowed), w .long, i .enough);
+      few = rw groups (i .few);
+      low = rw groups low;
+      below = rw (groups, same) below;
+    }
+
+module _ {m m₁ m₂ m₃ m₄ m₅ : List ℕ} {g : ℕ} {r : Buckets} (b : BucketsOf (storeOf m) g r) where
+  pub group-written : Written m m₁ (pushKey (storeOf m) g (bucketed (r .key))) → Written m₁ m₂ (pushPath (storeOf m₁) (3 * g) (bucketed (r .own))) → Written m₂ m₃ (pushPath (storeOf m₂) (3 * g + 1) (bucketed (r .default))) → Written m₃ m₄ (pushPath (storeOf m₃) (3 * g + 2) (bucketed (r .core))) → Written m₄ m₅ (pushLeaf (storeOf m₄) g (bucketed (r .leaf))) → Written m m₅ (indexGroup (storeOf m) g)
+  unfolding indexGroup
+  group-written w₁ w₂ w₃ w₄ w₅ =
+      let all = then (λ z. pushLeaf z g (bucketed (r .leaf))) (then (λ z. pushPath z (3 * g + 2) (bucketed (r .core))) (then (λ z. pushPath z (3 * g + 1) (bucketed (r .default))) (then (λ z. pushPath z (3 * g) (bucketed (r .own))) w₁ w₂) w₃) w₄) w₅ in
+      rw (b .key, b .own, b .default, b .core, b .leaf) at all
+
+bytes-heads : (h : Header) (m : List ℕ) → Bytes m → Heads (storeBy h m)
+unfolding storeBy words
+bytes-heads h m b = record { groups = bytes-part m _ _ b; paths = bytes-part m _ _ b; leaves = bytes-part m _ _ b }
+
+pub group-joined : {m m′ : List ℕ} {g : ℕ} → Indexable m g → Bytes m → Written m m′ (indexGroup (storeOf m) g) → Joined m m′ g (g + 1)
+group-joined {m} {m′} {g} i b w =
+    let shaped = need-shaped (headerOf m) m (i .enough) in
+    record {
+      relinked = subst (λ (z : Store). Relinked (storeOf m) z) (sym (w .store)) (index-relinked (storeOf m) g shaped (i .low));
+      indexed = λ k. subst (λ (z : Store). Indexed z (g + 1)) (sym (w .store)) (subst (λ (n : ℕ). Indexed (indexGroup (storeOf m) g) n) (sym (add-one g)) (index-indexed (storeOf m) g shaped (i .few) (i .low) (bytes-heads (headerOf m) m b) k));
+      counters = w .counters;
+      long = w .long;
+    }

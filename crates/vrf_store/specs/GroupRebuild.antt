@@ -1,0 +1,106 @@
+-- The three indexes of the groups are made again: their heads are cleared, and one group after the other joins them.
+use mathlib.Core.Path.{_≡_, refl, sym, ap, subst, _∙_}
+use mathlib.Core.List.{List, _++_}
+use Prim.Native.Nat.{ℕ, _+_, _*_, _<_}
+use native.Mathlib.Omega.{arith}
+use lib.ListN.{length, replicate, length-replicate}
+use Rattle.vrf_bitio.specs.Pasted.{pasted}
+use Rattle.vrf_model.specs.Book.{Allowances}
+use Rattle.vrf_store.specs.Layout
+use Rattle.vrf_store.specs.Store.{Header, Store, allowancesOf, headerOf, storeOf}
+use Rattle.vrf_store.specs.CheckValid.{need-shaped}
+use Rattle.vrf_store.specs.Valid.{Shaped}
+use Rattle.vrf_store.specs.Good.{Enough}
+use Rattle.vrf_store.specs.Stepped.{held, Stepped}
+use Rattle.vrf_store.specs.Written.{Written, unwritten, wrote-groupTable, wrote-pathIndex, wrote-leafIndex}
+use Rattle.vrf_store.specs.EntryMemory.{heads-written}
+use Rattle.vrf_store.specs.GroupIndex.{Unindexed, Relinked, Indexable, Joined}
+use Rattle.vrf_store.specs.GroupIndexLaws.{none-indexed}
+use Rattle.vrf_store.specs.GroupLinks.{same-rows, relinked-refl, relinked-trans, relinked-header, relinked-unindexed}
+use Rattle.vrf_store.specs.GroupMoves.{indexable, joined-stepped}
+
+-- ---- one change after the other
+
+pub joined-refl : (m : List ℕ) (n : ℕ) → Joined m m n n
+joined-refl m n = record { relinked = relinked-refl (storeOf m); indexed = λ i. i; counters = refl; long = refl }
+
+pub joined-trans : {m m′ m″ : List ℕ} {a b c : ℕ} → Joined m m′ a b → Joined m′ m″ b c → Joined m m″ a c
+joined-trans p q = record {
+  relinked = relinked-trans (p .relinked) (q .relinked);
+  indexed = λ i. q .indexed (p .indexed i);
+  counters = q .counters ∙ p .counters;
+  long = q .long ∙ p .long;
+}
+
+joined-header : {m m′ : List ℕ} {a b : ℕ} → Joined m m′ a b → headerOf m′ ≡ headerOf m
+joined-header j = relinked-header (j .relinked)
+
+joined-enough : {m m′ : List ℕ} {a b : ℕ} → Joined m m′ a b → Enough m → Enough m′
+joined-enough j h = omega (arith, ap (λ (x : Header). Layout.need (x .allowed)) (joined-header j), j .long, h)
+
+-- ---- other heads
+
+-- what is written of links and heads alone
+other-heads : {m m′ : List ℕ} {s : Store} → Written m m′ s → Relinked (storeOf m) s → Joined m m′ 0 0
+other-heads {m} {m′} w p = record {
+  relinked = subst (λ (z : Store). Relinked (storeOf m) z) (sym (w .store)) p;
+  indexed = λ _. none-indexed (storeOf m′);
+  counters = w .counters;
+  long = w .long;
+}
+
+-- so many words of zeros
+abbrev zeros : ℕ → List ℕ
+zeros n = replicate (4 * n) 0
+
+module _ (m : List ℕ) {g r : ℕ} (guids : g ≡ allowancesOf m .guids) (groups : r ≡ allowancesOf m .groups) (enough : Enough m) where
+  abbrev s : Store
+  s = storeOf m
+
+  abbrev new : List ℕ
+  new = zeros (allowancesOf m .groups + 1)
+
+  shaped : Shaped s
+  shaped = need-shaped (headerOf m) m enough
+
+  long : length new ≡ 4 * Layout.groupBuckets (allowancesOf m)
+  long = length-replicate (4 * (allowancesOf m .groups + 1)) 0
+
+  clear-keys : {m′ : List ℕ} → m′ ≡ pasted m (4 * (33 + 7 * g + 6 * r)) (zeros (r + 1)) → Joined m m′ 0 0
+  clear-keys {m′} q =
+      let w = wrote-groupTable (unwritten m) enough (s .groupRows) new (shaped .groupRows) long in
+      let e : m′ ≡ pasted m (4 * Layout.groupRowsAt (allowancesOf m)) (s .groupRows ++ new) = q ∙ rw (guids, groups, heads-written m (Layout.groupRowsAt (allowancesOf m)) (6 * allowancesOf m .groups) (allowancesOf m .groups + 1) (omega (arith, enough)) new) in
+      rw e (other-heads w (record { rest = refl; rows = same-rows (s .groupRows); groupHeads = long ∙ sym (shaped .groupHeads); pathLinks = refl; pathHeads = refl; leafLinks = refl; leafHeads = refl }))
+
+  clear-paths : {m′ : List ℕ} → m′ ≡ pasted m (4 * (34 + 7 * g + 10 * r)) (zeros (r + 1)) → Joined m m′ 0 0
+  clear-paths {m′} q =
+      let w = wrote-pathIndex (unwritten m) enough (s .pathLinks) new (shaped .pathLinks) long in
+      let at : 34 + 7 * allowancesOf m .guids + 10 * allowancesOf m .groups ≡ Layout.pathLinksAt (allowancesOf m) + 3 * allowancesOf m .groups = omega arith in
+      let e : m′ ≡ pasted m (4 * Layout.pathLinksAt (allowancesOf m)) (s .pathLinks ++ new) = q ∙ rw (guids, groups, at, heads-written m (Layout.pathLinksAt (allowancesOf m)) (3 * allowancesOf m .groups) (allowancesOf m .groups + 1) (omega (arith, enough)) new) in
+      rw e (other-heads w (record { rest = refl; rows = same-rows (s .groupRows); groupHeads = refl; pathLinks = refl; pathHeads = long ∙ sym (shaped .pathHeads); leafLinks = refl; leafHeads = refl }))
+
+  clear-leaves : {m′ : List ℕ} → m′ ≡ pasted m (4 * (35 + 7 * g + 12 * r)) (zeros (r + 1)) → Joined m m′ 0 0
+  clear-leaves {m′} q =
+      let w = wrote-leafIndex (unwritten m) enough (s .leafLinks) new (shaped .leafLinks) long in
+      let at : 35 + 7 * allowancesOf m .guids + 12 * allowancesOf m .groups ≡ Layout.leafLinksAt (allowancesOf m) + allowancesOf m .groups = omega arith in
+      let e : m′ ≡ pasted m (4 * Layout.leafLinksAt (allowancesOf m)) (s .leafLinks ++ new) = q ∙ rw (guids, groups, at, heads-written m (Layout.leafLinksAt (allowancesOf m)) (allowancesOf m .groups) (allowancesOf m .groups + 1) (omega (arith, enough)) new) in
+      rw e (other-heads w (record { rest = refl; rows = same-rows (s .groupRows); groupHeads = refl; pathLinks = refl; pathHeads = refl; leafLinks = refl; leafHeads = long ∙ sym (shaped .leafHeads) }))
+
+pub clear-all : (m : List ℕ) {m₁ m₂ m₃ : List ℕ} {g r : ℕ} → g ≡ allowancesOf m .guids → r ≡ allowancesOf m .groups → Enough m
+    → m₁ ≡ pasted m (4 * (33 + 7 * g + 6 * r)) (zeros (r + 1)) → m₂ ≡ pasted m₁ (4 * (34 + 7 * g + 10 * r)) (zeros (r + 1)) → m₃ ≡ pasted m₂ (4 * (35 + 7 * g + 12 * r)) (zeros (r + 1)) → Joined m m₃ 0 0
+clear-all m {m₁} {m₂} guids groups enough e₁ e₂ e₃ =
+    let one = clear-keys m guids groups enough e₁ in
+    let a₁ = ap (λ (x : Header). x .allowed) (sym (joined-header one)) in
+    let two = joined-trans one (clear-paths m₁ (guids ∙ ap (λ (a : Allowances). a .guids) a₁) (groups ∙ ap (λ (a : Allowances). a .groups) a₁) (joined-enough one enough) e₂) in
+    let a₂ = ap (λ (x : Header). x .allowed) (sym (joined-header two)) in
+    joined-trans two (clear-leaves m₂ (guids ∙ ap (λ (a : Allowances). a .guids) a₂) (groups ∙ ap (λ (a : Allowances). a .groups) a₂) (joined-enough two enough) e₃)
+
+-- ---- all groups
+
+-- the next group can join
+pub next-indexable : {m m′ : List ℕ} {a b : ℕ} (g : ℕ) → Enough m → Unindexed (storeOf m) → Joined m m′ a b → g < headerOf m .groups → Indexable m′ g
+next-indexable {m} {m′} g enough u j low =
+    indexable g (joined-enough j enough) (unwritten m′) (relinked-unindexed (j .relinked) u) (subst (λ (x : Header). g < x .groups) (sym (joined-header j)) low)
+
+pub rebuilt : {m m′ : List ℕ} {n : ℕ} → Enough m → Unindexed (storeOf m) → Joined m m′ 0 n → n ≡ headerOf m .groups → Stepped m m′ (held m)
+rebuilt {m} enough u j q = joined-stepped enough (unwritten m) u (none-indexed (storeOf m)) refl j q

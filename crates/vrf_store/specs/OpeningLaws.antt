@@ -1,0 +1,167 @@
+-- Opening a book: when it is refused, and what is left of the memory where it is not.
+use mathlib.Core.Path.{_≡_, refl, sym, ap, _∙_}
+use mathlib.Core.List.{List}
+use mathlib.Core.Option.{Option, none, some}
+use Prim.Native.Nat.{ℕ, _+_, _*_, _^_, _<_, _≤_}
+use native.Mathlib.Omega.{arith}
+use lib.Dec.{ltb}
+use lib.ListN.{length, replicate, length-replicate}
+use borrow.Author.Tests.{ltb-false, lt-ltb, le-ltb}
+use Rattle.vrf_bitio.specs.Pasted.{pasted}
+use Rattle.vrf_bitio.specs.PastedLaws.{pasted-length}
+use Rattle.vrf_text.specs.Cases.{by-cond}
+use Rattle.vrf_words.specs.Words.{word, setWord}
+use Rattle.vrf_model.specs.Book.{Allowances, none-counted, fresh, freshBook}
+use Rattle.vrf_model.specs.Lawful.{Allowed}
+use Rattle.vrf_store.specs.Layout
+use Rattle.vrf_store.specs.Store.{Header, allowancesOf, headerOf, long, countersOf, contentOf, bookOf}
+use Rattle.vrf_store.specs.Good.{Good}
+use Rattle.vrf_store.specs.Opening.{aboveTop, opened, notOpened, unlessShort, unlessAbove, opening, zeroAbove, memoryNeeded}
+use Rattle.vrf_store.specs.Opened.{Fresh, orZero, Kept}
+use Rattle.vrf_store.specs.EmptyLaws.{emptyHeader, empty-good, empty-held}
+use Rattle.vrf_store.specs.Stepped.{Stepped, held}
+use Rattle.vrf_store.specs.HeaderLaws.{header-kept, counters-kept}
+use Rattle.vrf_store.specs.HeaderWords.{has-now, has-header, has-counters, has-word, has-zeros}
+
+-- ---- allowances above their tops
+
+-- a number above 0 is that of an allowance
+above : (o : Option ℕ) → 0 < orZero o → o ≡ some (orZero o)
+above none h = absurd (omega arith)
+above (some which) h = refl
+
+module _ (a : Allowances) where
+  -- 0: every allowance is within its top, and none is named
+  record Topped (o : Option ℕ) : Type 0 where
+    tops : Allowed a
+    is-none : o ≡ none
+
+  within : orZero (aboveTop a) ≡ 0 → Topped (aboveTop a)
+  unfolding aboveTop
+  within =
+      by-cond (λ (o : Option ℕ). orZero o ≡ 0 → Topped o) (ltb 1000000 (a .guids)) (λ e z. absurd (omega arith)) (λ g.
+      by-cond (λ (o : Option ℕ). orZero o ≡ 0 → Topped o) (ltb 100000 (a .groups)) (λ e z. absurd (omega arith)) (λ r.
+      by-cond (λ (o : Option ℕ). orZero o ≡ 0 → Topped o) (ltb 1000000 (a .fields)) (λ e z. absurd (omega arith)) (λ f.
+      by-cond (λ (o : Option ℕ). orZero o ≡ 0 → Topped o) (ltb 67108864 (a .text)) (λ e z. absurd (omega arith)) (λ t.
+      by-cond (λ (o : Option ℕ). orZero o ≡ 0 → Topped o) (ltb 1000000 (a .literals)) (λ e z. absurd (omega arith)) (λ l z.
+      record {
+        tops = record { guids = ltb-false 1000000 (a .guids) g; groups = ltb-false 100000 (a .groups) r; fields = ltb-false 1000000 (a .fields) f; text = ltb-false 67108864 (a .text) t; literals = ltb-false 1000000 (a .literals) l };
+        is-none = refl;
+      })))))
+
+  module _ {which : ℕ} (e : which ≡ orZero (aboveTop a)) where
+    zero : which ≤ 0 → orZero (aboveTop a) ≡ 0
+    zero h = omega arith
+
+    pub within-tops : which ≤ 0 → Allowed a
+    within-tops h = within (zero h) .tops
+
+    pub needed-above : 0 < which → memoryNeeded a ≡ 0
+    unfolding memoryNeeded zeroAbove
+    needed-above h = let s : aboveTop a ≡ some (orZero (aboveTop a)) = above (aboveTop a) (omega arith) in rw s
+
+    pub needed-within : which ≤ 0 → memoryNeeded a ≡ Layout.need a
+    unfolding memoryNeeded zeroAbove
+    needed-within h = rw (within (zero h) .is-none)
+
+    module _ (n : ℕ) where
+      pub refused-above : 0 < which → opening a n ≡ notOpened 1 which 0
+      unfolding opening unlessAbove
+      refused-above h = let s : aboveTop a ≡ some which = above (aboveTop a) (omega arith) ∙ ap some (sym e) in rw s
+
+      pub refused-short : {bytes : ℕ} → which ≤ 0 → bytes ≡ Layout.need a → n < bytes → opening a n ≡ notOpened 3 bytes 0
+      unfolding opening unlessAbove unlessShort
+      refused-short h q k = rw (within (zero h) .is-none, lt-ltb n (Layout.need a) (omega arith), q)
+
+      pub accepted : which ≤ 0 → Layout.need a ≤ n → opening a n ≡ opened
+      unfolding opening unlessAbove unlessShort
+      accepted h k = rw (within (zero h) .is-none, le-ltb n (Layout.need a) k)
+
+-- ---- the header of a book that holds nothing, written: the allowances, and 0 for the rest
+
+module _ (a : Allowances) (m : List ℕ) {m0 m1 m2 m3 m4 z : List ℕ} (room : 128 ≤ length m) where
+  pub written-header : a .guids < 2 ^ 32 → a .groups < 2 ^ 32 → a .fields < 2 ^ 32 → a .text < 2 ^ 32 → a .literals < 2 ^ 32 → m0 ≡ setWord m 0 (a .guids) → m1 ≡ setWord m0 1 (a .groups) → m2 ≡ setWord m1 2 (a .fields) → m3 ≡ setWord m2 3 (a .text) → m4 ≡ setWord m3 4 (a .literals) → z ≡ pasted m4 20 (replicate 108 0) → (headerOf z ≡ emptyHeader a 0) × (countersOf z ≡ none-counted) × (length z ≡ length m)
+  unfolding none-counted
+  written-header g r f t l e0 e1 e2 e3 e4 e =
+      let h0 = has-word (has-now m) room 0 (a .guids) (omega arith) g e0 in
+      let h1 = has-word h0 room 1 (a .groups) (omega arith) r e1 in
+      let h2 = has-word h1 room 2 (a .fields) (omega arith) f e2 in
+      let h3 = has-word h2 room 3 (a .text) (omega arith) t e3 in
+      let h4 = has-word h3 room 4 (a .literals) (omega arith) l e4 in
+      let h = has-zeros h4 5 27 (omega arith) e in
+      (has-header h, has-counters h, h .long)
+
+-- ---- cleared heads: zeros behind the header
+
+kept-now : (m : List ℕ) → Kept m m
+kept-now m = record { header = refl; counters = refl; long = refl }
+
+kept-zeros : {m m′ z : List ℕ} → Kept m m′ → (i n : ℕ) → 32 ≤ i → 4 * (i + n) ≤ length m → z ≡ pasted m′ (4 * i) (replicate (4 * n) 0) → Kept m z
+kept-zeros {m′ = m′} k i n behind fits e =
+    let size : length {A = ℕ} (replicate (4 * n) 0) ≡ 4 * n = length-replicate (4 * n) 0 in
+    let room : 4 * i + length {A = ℕ} (replicate (4 * n) 0) ≤ length m′ = omega (arith, size, fits, k .long) in
+    let low : 128 ≤ 4 * i = omega arith in
+    record {
+      header = ap headerOf e ∙ header-kept m′ (replicate (4 * n) 0) (4 * i) low room ∙ k .header;
+      counters = ap countersOf e ∙ counters-kept m′ (replicate (4 * n) 0) (4 * i) low room ∙ k .counters;
+      long = ap length e ∙ pasted-length (replicate (4 * n) 0) m′ (4 * i) room ∙ k .long;
+    }
+
+-- the heads of each table and of each index
+module _ {m m1 m2 m3 m4 z : List ℕ} (g r f : ℕ) (enough : Layout.need (allowancesOf m) ≤ length m) where
+  pub kept-heads : g ≡ word m 0 → r ≡ word m 1 → f ≡ word m 2 → m1 ≡ pasted m (4 * (32 + 6 * g)) (replicate (4 * (g + 1)) 0) → m2 ≡ pasted m1 (4 * (33 + 7 * g + 6 * r)) (replicate (4 * (r + 1)) 0) → m3 ≡ pasted m2 (4 * (34 + 7 * g + 10 * r)) (replicate (4 * (r + 1)) 0) → m4 ≡ pasted m3 (4 * (35 + 7 * g + 12 * r)) (replicate (4 * (r + 1)) 0) → z ≡ pasted m4 (4 * (36 + 7 * g + 13 * r + 6 * f)) (replicate (4 * (f + 1)) 0) → Kept m z
+  kept-heads eg er ef e1 e2 e3 e4 e =
+      let k1 = kept-zeros (kept-now m) (32 + 6 * g) (g + 1) (omega arith) (omega arith) e1 in
+      let k2 = kept-zeros k1 (33 + 7 * g + 6 * r) (r + 1) (omega arith) (omega arith) e2 in
+      let k3 = kept-zeros k2 (34 + 7 * g + 10 * r) (r + 1) (omega arith) (omega arith) e3 in
+      let k4 = kept-zeros k3 (35 + 7 * g + 12 * r) (r + 1) (omega arith) (omega arith) e4 in
+      kept-zeros k4 (36 + 7 * g + 13 * r + 6 * f) (f + 1) (omega arith) (omega arith) e
+
+-- ---- a memory whose header is of a book that holds nothing
+
+module _ (a : Allowances) (half : ℕ) (m : List ℕ) (h : headerOf m ≡ emptyHeader a half) (enough : Layout.need a ≤ length m) where
+  pub empty-enough : Layout.need (allowancesOf m) ≤ length m
+  empty-enough = omega (arith, ap (λ (x : Header). Layout.need (x .allowed)) h)
+
+  module _ {z : List ℕ} (k : Kept m z) where
+    cleared-good : Allowed a → half ≤ 1 → Good z
+    cleared-good = empty-good a half z (omega (arith, k .long)) (k .header ∙ h)
+
+    cleared-held : held z ≡ fresh a
+    cleared-held = empty-held a half z (omega (arith, k .long)) (k .header ∙ h)
+
+-- opened: of m is made y, by its header, and of y z, by its heads
+pub opened-fresh : (a : Allowances) {m y z : List ℕ} → opening a (length m) ≡ opened → Allowed a → Layout.need a ≤ length m → headerOf y ≡ emptyHeader a 0 → countersOf y ≡ none-counted → length y ≡ length m → Kept y z → Fresh a m z
+unfolding bookOf freshBook
+opened-fresh a {m} {y} {z} ok tops enough h none-yet same k =
+    let room : Layout.need a ≤ length y = omega arith in
+    let few : 0 ≤ 1 = omega arith in
+    let content : held z ≡ fresh a = cleared-held a 0 y h room k in
+    let counted : countersOf z ≡ none-counted = k .counters ∙ none-yet in
+    record { accepted = ok; good = cleared-good a 0 y h room k tops few; book = rw (content, counted); long = k .long ∙ same }
+
+-- cleared: words 5 to 9 are the counts and the totals
+module _ {m y : List ℕ} (g : Good m) (e : y ≡ pasted m 20 (replicate 20 0)) where
+  room : 128 ≤ length m
+  room = omega (arith, g .enough)
+
+  emptied-header : headerOf y ≡ emptyHeader (allowancesOf m) (word m 10)
+  emptied-header = has-header (has-zeros (has-now m) 5 5 (omega (arith, room)) e)
+
+  emptied-long : length y ≡ length m
+  emptied-long = has-zeros (has-now m) 5 5 (omega (arith, room)) e .long
+
+  enough : Layout.need (allowancesOf m) ≤ length y
+  enough = omega (arith, emptied-long, g .enough)
+
+  pub emptied-enough : Layout.need (allowancesOf y) ≤ length y
+  emptied-enough = empty-enough (allowancesOf m) (word m 10) y emptied-header enough
+
+  pub cleared : {z : List ℕ} → Kept y z → Stepped m z (fresh (held m .allowed))
+  unfolding contentOf countersOf long
+  cleared k = record {
+    good = cleared-good (allowancesOf m) (word m 10) y emptied-header enough k (g .valid .header .tops) (g .valid .header .half);
+    content = cleared-held (allowancesOf m) (word m 10) y emptied-header enough k;
+    counters = k .counters ∙ has-counters (has-zeros (has-now m) 5 5 (omega (arith, room)) e);
+    long = k .long ∙ emptied-long;
+  }

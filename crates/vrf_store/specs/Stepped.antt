@@ -1,0 +1,18 @@
+-- What a change of a book leaves: a good memory of the same length that holds the content c, and the counters as they were.
+use mathlib.Core.Path.{_≡_}
+use mathlib.Core.List.{List}
+use Prim.Native.Nat.{ℕ}
+use lib.ListN.{length}
+use Rattle.vrf_model.specs.Book.{Content}
+use Rattle.vrf_store.specs.Store.{countersOf, contentOf, storeOf}
+use Rattle.vrf_store.specs.Good.{Good}
+
+-- the content that a memory holds
+abbrev pub held : List ℕ → Content
+held m = contentOf (storeOf m)
+
+pub record Stepped (m m′ : List ℕ) (c : Content) : Type 0 where
+  pub good : Good m′
+  pub content : held m′ ≡ c
+  pub counters : countersOf m′ ≡ countersOf m
+  pub long : length m′ ≡ length m

@@ -1,0 +1,67 @@
+-- What the check says of a memory that was taken apart, as facts.
+use mathlib.Core.Path.{_≡_}
+use mathlib.Core.List.{List}
+use Prim.Native.Nat.{ℕ, _+_, _*_, _/_, _%_, _<_, _≤_}
+use lib.ListN.{length}
+use Rattle.vrf_text.specs.Text.{IsText}
+use Rattle.vrf_words.specs.Words.{word}
+use Rattle.vrf_model.specs.Book.{Allowances}
+use Rattle.vrf_model.specs.Lawful.{Is32, Allowed}
+use Rattle.vrf_table.specs.Index.{Latest, Claims}
+use Rattle.vrf_table.specs.Table.{key, link, at, len, info, text, keyHit, keyStart}
+use Rattle.vrf_table.specs.TextIndex.{pathHit, leafHit, textStart}
+use Rattle.vrf_store.specs.Layout
+use Rattle.vrf_store.specs.Store.{Header, Store}
+use Rattle.vrf_store.specs.Check.{textSum}
+
+-- each part is as long as the allowances say
+pub record Shaped (s : Store) : Type 0 where
+  pub guidRows : length (s .guidRows) ≡ 24 * s .header .allowed .guids
+  pub guidHeads : length (s .guidHeads) ≡ 4 * Layout.guidBuckets (s .header .allowed)
+  pub groupRows : length (s .groupRows) ≡ 24 * s .header .allowed .groups
+  pub groupHeads : length (s .groupHeads) ≡ 4 * Layout.groupBuckets (s .header .allowed)
+  pub pathLinks : length (s .pathLinks) ≡ 12 * s .header .allowed .groups
+  pub pathHeads : length (s .pathHeads) ≡ 4 * Layout.groupBuckets (s .header .allowed)
+  pub leafLinks : length (s .leafLinks) ≡ 4 * s .header .allowed .groups
+  pub leafHeads : length (s .leafHeads) ≡ 4 * Layout.groupBuckets (s .header .allowed)
+  pub fieldRows : length (s .fieldRows) ≡ 24 * s .header .allowed .fields
+  pub fieldHeads : length (s .fieldHeads) ≡ 4 * Layout.fieldBuckets (s .header .allowed)
+  pub texts : length (s .texts) ≡ s .header .allowed .text
+
+pub record GoodHeader (h : Header) : Type 0 where
+  pub tops : Allowed (h .allowed)
+  pub guids : h .guids ≤ h .allowed .guids
+  pub groups : h .groups ≤ h .allowed .groups
+  pub fields : h .fields ≤ h .allowed .fields
+  pub held : h .held ≤ h .allowed .text
+  pub used : h .used ≤ h .allowed .text
+  pub half : h .half ≤ 1
+
+-- the text of row e lies in what is used, and is one
+pub record GoodText (used : ℕ) (x r : List ℕ) (e : ℕ) : Type 0 where
+  pub within : at r e + len r e ≤ used
+  pub isText : IsText (text r x e)
+
+-- a table of n rows: each text is one, no two keys are the same, and each key is found
+pub record GoodTable (used : ℕ) (x r heads : List ℕ) (b n : ℕ) : Type 0 where
+  pub texts : (e : ℕ) → e < n → GoodText used x r e
+  pub distinct : (i j : ℕ) → i < n → j < n → key r i ≡ key r j → i ≡ j
+  pub latest : Latest (keyHit r) (link r) (keyStart heads b) n
+
+-- a field's key is a slot of a group
+pub record GoodSlotKey (s : Store) (k : ℕ) : Type 0 where
+  pub place : k / 65536 < s .header .groups
+  pub slot : k % 65536 < info (s .groupRows) (k / 65536)
+
+pub record Valid (s : Store) : Type 0 where
+  pub shaped : Shaped s
+  pub header : GoodHeader (s .header)
+  pub guidTable : GoodTable (s .header .used) (s .texts) (s .guidRows) (s .guidHeads) (Layout.guidBuckets (s .header .allowed)) (s .header .guids)
+  pub guids : (e : ℕ) → e < s .header .guids → Is32 (key (s .guidRows) e) × Is32 (info (s .guidRows) e)
+  pub groupTable : GoodTable (s .header .used) (s .texts) (s .groupRows) (s .groupHeads) (Layout.groupBuckets (s .header .allowed)) (s .header .groups)
+  pub groups : (e : ℕ) → e < s .header .groups → Is32 (key (s .groupRows) e) × (info (s .groupRows) e ≤ 65536)
+  pub paths : Latest (pathHit (s .groupRows) (s .texts)) (word (s .pathLinks)) (textStart (s .pathHeads) (Layout.groupBuckets (s .header .allowed))) (3 * s .header .groups)
+  pub leaves : Claims (leafHit (s .groupRows) (s .texts)) (word (s .leafLinks)) (textStart (s .leafHeads) (Layout.groupBuckets (s .header .allowed))) (s .header .groups)
+  pub fieldTable : GoodTable (s .header .used) (s .texts) (s .fieldRows) (s .fieldHeads) (Layout.fieldBuckets (s .header .allowed)) (s .header .fields)
+  pub fields : (e : ℕ) → e < s .header .fields → GoodSlotKey s (key (s .fieldRows) e) × Is32 (info (s .fieldRows) e)
+  pub total : textSum s ≡ s .header .held

@@ -1,0 +1,17 @@
+// The lent memory: where its parts stand, the rows of its tables, its texts (docs/LAYOUT.md), the lookups in it and its changes.
+pub mod check;
+pub mod counters;
+pub mod fields;
+pub mod groups;
+pub mod guids;
+pub mod look;
+pub mod open;
+pub mod parts;
+pub mod rows;
+pub mod texts;
+
+// A number, if there is one.
+pub enum Found {
+    Is(u32),
+    Nothing,
+}

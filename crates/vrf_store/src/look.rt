@@ -1,0 +1,305 @@
+// Lookups in a good memory: each answers what the book's definitions say of the book that it holds.
+use crate::Found;
+use crate::parts::field_heads;
+use crate::parts::field_rows;
+use crate::parts::fields;
+use crate::parts::fields_allowed;
+use crate::parts::group_heads;
+use crate::parts::group_rows;
+use crate::parts::groups;
+use crate::parts::groups_allowed;
+use crate::parts::guid_heads;
+use crate::parts::guid_rows;
+use crate::parts::guids;
+use crate::parts::guids_allowed;
+use crate::parts::leaf_heads;
+use crate::parts::leaf_links;
+use crate::parts::path_heads;
+use crate::parts::path_links;
+use crate::parts::row_text;
+use crate::parts::texts;
+use vrf_table::Claim;
+use vrf_table::Entry;
+use vrf_table::find_key;
+use vrf_table::find_path;
+use vrf_table::leaf_claim;
+use vrf_words::get32;
+use vrf_words::get64;
+ghost use mathlib.Core.Path.{_≡_};
+ghost use mathlib.Core.Bool.{cond};
+ghost use mathlib.Core.List.{[]};
+ghost use mathlib.Core.Option.{none, some};
+ghost use Prim.Native.Nat.{_+_, _*_, _<_, _≤_, _^_};
+ghost use lib.Dec.{eqb};
+ghost use lib.ListN.{length};
+ghost use Rattle.vrf_model.specs.Book.{Guid, Group};
+ghost use Rattle.vrf_model.specs.Lookup.{placeOr, pathPlace, indexPlace, guidPlace, slotChecksum, slotName, slotAt, leafClaim, outerGuid, outerPath, ifFilled, gameplayTag};
+ghost use Rattle.vrf_table.specs.Table.{key, info};
+ghost use Rattle.vrf_table.specs.Answers.{entry, claim};
+ghost use Rattle.vrf_store.specs.Layout;
+ghost use Rattle.vrf_store.specs.Store.{allowancesOf, storeOf, slotKey, contentOf};
+ghost use Rattle.vrf_store.specs.Good.{Good};
+ghost use Rattle.vrf_store.specs.SlotRow.{fieldFound, slotRow};
+ghost use Rattle.vrf_store.specs.Answers.{found};
+
+// How many buckets each table has.
+pub fn guid_buckets(m: &[u8]) -> u32
+    requires { ⌜ Good (now m) ⌝ }
+    ensures { λ r. ⌜ r ≡ Layout.guidBuckets (allowancesOf (now (m .entry))) ⌝ }
+{
+    (guids_allowed(m) + 1) as u32
+}
+
+pub fn group_buckets(m: &[u8]) -> u32
+    requires { ⌜ Good (now m) ⌝ }
+    ensures { λ r. ⌜ r ≡ Layout.groupBuckets (allowancesOf (now (m .entry))) ⌝ }
+{
+    (groups_allowed(m) + 1) as u32
+}
+
+pub fn field_buckets(m: &[u8]) -> u32
+    requires { ⌜ Good (now m) ⌝ }
+    ensures { λ r. ⌜ r ≡ Layout.fieldBuckets (allowancesOf (now (m .entry))) ⌝ }
+{
+    (fields_allowed(m) + 1) as u32
+}
+
+// The key of row e.
+pub fn row_key(rows: &[u8], e: u32) -> u64
+    requires { ⌜ 24 * e + 24 ≤ length (now rows) ⌝ }
+    ensures { λ r. ⌜ r ≡ key (now (rows .entry)) e ⌝ }
+{
+    get64(rows, 6 * (e as usize))
+}
+
+// The number of row e.
+pub fn row_info(rows: &[u8], e: u32) -> u32
+    requires { ⌜ 24 * e + 24 ≤ length (now rows) ⌝ }
+    ensures { λ r. ⌜ r ≡ info (now (rows .entry)) e ⌝ }
+{
+    get32(rows, 6 * (e as usize) + 5)
+}
+
+// The place of a GUID's record.
+pub fn find_guid(m: &[u8], guid: u32) -> Entry
+    requires { ⌜ Good (now m) ⌝ }
+    ensures { λ r. ⌜ entry r ≡ guidPlace guid (contentOf (storeOf (now (m .entry))) .guids) ⌝ }
+{
+    find_key(
+        guid_rows(m),
+        guid_heads(m),
+        guid_buckets(m),
+        guids(m),
+        guid as u64,
+    )
+}
+
+// The place of the group with a path-name index.
+pub fn find_index(m: &[u8], index: u32) -> Entry
+    requires { ⌜ Good (now m) ⌝ }
+    ensures { λ r. ⌜ entry r ≡ indexPlace index (contentOf (storeOf (now (m .entry))) .groups) ⌝ }
+{
+    find_key(
+        group_rows(m),
+        group_heads(m),
+        group_buckets(m),
+        groups(m),
+        index as u64,
+    )
+}
+
+// The place of the last group with a key.
+pub fn find_path_place(m: &[u8], k: &[u8]) -> Entry
+    requires { ⌜ Good (now m) × (length (now k) < 2 ^ 31) ⌝ }
+    ensures { λ r. ⌜ entry r ≡ pathPlace (now (k .entry)) (contentOf (storeOf (now (m .entry))) .groups) ⌝ }
+{
+    let b = group_buckets(m);
+    let n = groups(m);
+    match find_path(
+        group_rows(m),
+        texts(m),
+        path_links(m),
+        path_heads(m),
+        b,
+        n,
+        k,
+    ) {
+        Entry::At(e) => Entry::At(e / 3),
+        Entry::Nowhere => Entry::Nowhere,
+    }
+}
+
+// Which group has a leaf, if only one does.
+pub fn claim_of(m: &[u8], leaf: &[u8]) -> Claim
+    requires { ⌜ Good (now m) × (length (now leaf) < 2 ^ 31) ⌝ }
+    ensures { λ r. ⌜ claim r ≡ leafClaim (now (leaf .entry)) (contentOf (storeOf (now (m .entry))) .groups) ⌝ }
+{
+    let b = group_buckets(m);
+    let n = groups(m);
+    leaf_claim(
+        group_rows(m),
+        texts(m),
+        leaf_links(m),
+        leaf_heads(m),
+        b,
+        n,
+        leaf,
+    )
+}
+
+// The row of the field whose key is that of a group's slot, of any two numbers.
+pub fn find_field(m: &[u8], place: u32, slot: u32) -> Entry
+    requires { ⌜ Good (now m) ⌝ }
+    ensures { λ r. ⌜ entry r ≡ fieldFound (storeOf (now (m .entry))) (slotKey place slot) ⌝ }
+{
+    let k = 65536 * (place as u64) + (slot as u64);
+    find_key(
+        field_rows(m),
+        field_heads(m),
+        field_buckets(m),
+        fields(m),
+        k,
+    )
+}
+
+// The path of the GUID record at a place, empty past the records.
+pub fn guid_path(m: &[u8], i: u32) -> &[u8]
+    requires { ⌜ Good (now m) ⌝ }
+    ensures { λ r. ⌜ now r ≡ placeOr (λ (g : Guid). g .path) [] (contentOf (storeOf (now (m .entry))) .guids) i ⌝ }
+{
+    if i < guids(m) {
+        return row_text(guid_rows(m), texts(m), i);
+    }
+    &m[0..0]
+}
+
+// The outer of the GUID record at a place, 0 past the records.
+pub fn guid_outer(m: &[u8], i: u32) -> u32
+    requires { ⌜ Good (now m) ⌝ }
+    ensures { λ r. ⌜ r ≡ placeOr (λ (g : Guid). g .outer) 0 (contentOf (storeOf (now (m .entry))) .guids) i ⌝ }
+{
+    if i < guids(m) {
+        return row_info(guid_rows(m), i);
+    }
+    0
+}
+
+// The path of the group at a place, empty past the groups.
+pub fn group_path(m: &[u8], i: u32) -> &[u8]
+    requires { ⌜ Good (now m) ⌝ }
+    ensures { λ r. ⌜ now r ≡ placeOr (λ (g : Group). g .path) [] (contentOf (storeOf (now (m .entry))) .groups) i ⌝ }
+{
+    if i < groups(m) {
+        return row_text(group_rows(m), texts(m), i);
+    }
+    &m[0..0]
+}
+
+// The path-name index of the group at a place, 0 past the groups.
+pub fn group_index(m: &[u8], i: u32) -> u32
+    requires { ⌜ Good (now m) ⌝ }
+    ensures { λ r. ⌜ r ≡ placeOr (λ (g : Group). g .index) 0 (contentOf (storeOf (now (m .entry))) .groups) i ⌝ }
+{
+    if i < groups(m) {
+        return row_key(group_rows(m), i) as u32;
+    }
+    0
+}
+
+// How many slots the group at a place has, 0 past the groups.
+pub fn group_slots(m: &[u8], i: u32) -> u32
+    requires { ⌜ Good (now m) ⌝ }
+    ensures { λ r. ⌜ r ≡ placeOr (λ (g : Group). length (g .slots)) 0 (contentOf (storeOf (now (m .entry))) .groups) i ⌝ }
+{
+    if i < groups(m) {
+        return row_info(group_rows(m), i);
+    }
+    0
+}
+
+// The row of the field in a group's slot. A slot of 65536 or more has none, and its key would be that of another group's slot.
+pub fn slot_row(m: &[u8], place: u32, slot: u32) -> Entry
+    requires { ⌜ Good (now m) ⌝ }
+    ensures { λ r. ⌜ entry r ≡ slotRow (storeOf (now (m .entry))) place slot ⌝ }
+{
+    if slot < 65536 {
+        return find_field(m, place, slot);
+    }
+    Entry::Nowhere
+}
+
+// The checksum of the field in a group's slot.
+pub fn field_checksum(m: &[u8], place: u32, slot: u32) -> Found
+    requires { ⌜ Good (now m) ⌝ }
+    ensures { λ r. ⌜ found r ≡ slotChecksum (slotAt (contentOf (storeOf (now (m .entry))) .groups) place slot) ⌝ }
+{
+    match slot_row(m, place, slot) {
+        Entry::At(e) => Found::Is(row_info(field_rows(m), e)),
+        Entry::Nowhere => Found::Nothing,
+    }
+}
+
+// The name of the field in a group's slot, empty where there is none.
+pub fn field_name(m: &[u8], place: u32, slot: u32) -> &[u8]
+    requires { ⌜ Good (now m) ⌝ }
+    ensures { λ r. ⌜ now r ≡ slotName (slotAt (contentOf (storeOf (now (m .entry))) .groups) place slot) ⌝ }
+{
+    match slot_row(m, place, slot) {
+        Entry::At(e) => row_text(field_rows(m), texts(m), e),
+        Entry::Nowhere => &m[0..0],
+    }
+}
+
+// A GUID, unless it is 0, which is none.
+fn unless_zero(guid: u32) -> Found
+    ensures { λ r. ⌜ found r ≡ cond (eqb guid 0) none (some guid) ⌝ }
+{
+    if guid == 0 {
+        return Found::Nothing;
+    }
+    Found::Is(guid)
+}
+
+// The outer GUID of a GUID.
+pub fn get_outer_guid(m: &[u8], guid: u32) -> Found
+    requires { ⌜ Good (now m) ⌝ }
+    ensures { λ r. ⌜ found r ≡ outerGuid guid (contentOf (storeOf (now (m .entry))) .guids) ⌝ }
+{
+    match find_guid(m, guid) {
+        Entry::At(i) => unless_zero(guid_outer(m, i)),
+        Entry::Nowhere => Found::Nothing,
+    }
+}
+
+// The place of the record of a GUID's outer, whose path is the outer path.
+pub fn get_outer_path(m: &[u8], guid: u32) -> Entry
+    requires { ⌜ Good (now m) ⌝ }
+    ensures { λ r. ⌜ entry r ≡ outerPath guid (contentOf (storeOf (now (m .entry))) .guids) ⌝ }
+{
+    match get_outer_guid(m, guid) {
+        Found::Is(outer) => find_guid(m, outer),
+        Found::Nothing => Entry::Nowhere,
+    }
+}
+
+// A group's place, if its slot is filled.
+fn if_filled(m: &[u8], place: u32, slot: u32) -> Entry
+    requires { ⌜ Good (now m) ⌝ }
+    ensures { λ r. ⌜ entry r ≡ ifFilled place (slotAt (contentOf (storeOf (now (m .entry))) .groups) place slot) ⌝ }
+{
+    match slot_row(m, place, slot) {
+        Entry::At(_) => Entry::At(place),
+        Entry::Nowhere => Entry::Nowhere,
+    }
+}
+
+// The place of the group of gameplay tags, if its slot of this number is filled: the tag's name is the field's.
+pub fn get_gameplay_tag_name(m: &[u8], tag: u32) -> Entry
+    requires { ⌜ Good (now m) ⌝ }
+    ensures { λ r. ⌜ entry r ≡ gameplayTag tag (contentOf (storeOf (now (m .entry))) .groups) ⌝ }
+{
+    match find_path_place(m, b"NetworkGameplayTagNodeIndex") {
+        Entry::At(place) => if_filled(m, place, tag),
+        Entry::Nowhere => Entry::Nowhere,
+    }
+}

@@ -1,0 +1,133 @@
+// Opening a book in lent memory, and clearing one.
+use crate::parts::fields_allowed;
+use crate::parts::groups_allowed;
+use crate::parts::guids_allowed;
+use vrf_bitio::Refusal;
+use vrf_model::ALLOWANCE_ABOVE_TOP;
+use vrf_model::Acted;
+use vrf_model::MEMORY_TOO_SHORT;
+use vrf_words::put32;
+use vrf_words::zero_words;
+ghost use mathlib.Core.Path.{_≡_};
+ghost use Prim.Native.Nat.{_≤_};
+ghost use lib.ListN.{length};
+ghost use Rattle.vrf_model.specs.Book.{none-counted, fresh};
+ghost use Rattle.vrf_model.specs.Lawful.{Allowed};
+ghost use Rattle.vrf_store.specs.Layout;
+ghost use Rattle.vrf_store.specs.Store.{headerOf, countersOf};
+ghost use Rattle.vrf_store.specs.Good.{Enough, Good};
+ghost use Rattle.vrf_store.specs.EmptyLaws.{emptyHeader};
+ghost use Rattle.vrf_store.specs.Opening.{aboveTop, memoryNeeded};
+ghost use Rattle.vrf_store.specs.Opened.{Opened, Kept, orZero};
+ghost use Rattle.vrf_store.specs.Stepped.{Stepped, held};
+
+// The lowest allowance above its top, 0 for none.
+fn above_top(guids: u64, groups: u64, fields: u64, text: u64, literals: u64) -> u64
+    ensures { λ r. ⌜ r ≡ orZero (aboveTop (record { guids = guids; groups = groups; fields = fields; text = text; literals = literals })) ⌝ }
+{
+    if 1_000_000 < guids {
+        return 1;
+    }
+    if 100_000 < groups {
+        return 2;
+    }
+    if 1_000_000 < fields {
+        return 3;
+    }
+    if 67_108_864 < text {
+        return 4;
+    }
+    if 1_000_000 < literals {
+        return 5;
+    }
+    0
+}
+
+// How many bytes allowances within their tops need.
+fn needed(guids: u64, groups: u64, fields: u64, text: u64, literals: u64) -> u64
+    requires { ⌜ Allowed (record { guids = guids; groups = groups; fields = fields; text = text; literals = literals }) ⌝ }
+    ensures { λ r. ⌜ r ≡ Layout.need (record { guids = guids; groups = groups; fields = fields; text = text; literals = literals }) ⌝ }
+{
+    4 * (37 + 7 * guids + 13 * groups + 7 * fields + literals) + 2 * text
+}
+
+// How many bytes to lend to `open`, 0 where it refuses the allowances.
+pub fn memory_needed(guids: u64, groups: u64, fields: u64, text: u64, literals: u64) -> u64
+    ensures { λ r. ⌜ r ≡ memoryNeeded (record { guids = guids; groups = groups; fields = fields; text = text; literals = literals }) ⌝ }
+{
+    if 0 < above_top(guids, groups, fields, text, literals) {
+        return 0;
+    }
+    needed(guids, groups, fields, text, literals)
+}
+
+// The header of a book that holds nothing.
+fn write_header(m: &mut [u8], guids: u32, groups: u32, fields: u32, text: u32, literals: u32)
+    requires { ⌜ 128 ≤ length (now m) ⌝ }
+    ensures { λ _. ⌜ (headerOf (now (m .exit)) ≡ emptyHeader (record { guids = guids; groups = groups; fields = fields; text = text; literals = literals }) 0)
+        × (countersOf (now (m .exit)) ≡ none-counted)
+        × (length (now (m .exit)) ≡ length (now (m .entry))) ⌝ }
+{
+    put32(m, 0, guids);
+    put32(m, 1, groups);
+    put32(m, 2, fields);
+    put32(m, 3, text);
+    put32(m, 4, literals);
+    zero_words(m, 5, 27);
+}
+
+// Clears every head, so that no chain starts at a row of a book that stood here before.
+pub fn zero_heads(m: &mut [u8])
+    requires { ⌜ Enough (now m) ⌝ }
+    ensures { λ _. ⌜ Kept (now (m .entry)) (now (m .exit)) ⌝ }
+{
+    let g = guids_allowed(m);
+    let r = groups_allowed(m);
+    let f = fields_allowed(m);
+    zero_words(m, 32 + 6 * g, g + 1);
+    zero_words(m, 33 + 7 * g + 6 * r, r + 1);
+    zero_words(m, 34 + 7 * g + 10 * r, r + 1);
+    zero_words(m, 35 + 7 * g + 12 * r, r + 1);
+    zero_words(m, 36 + 7 * g + 13 * r + 6 * f, f + 1);
+}
+
+// Opens a book with five allowances.
+pub fn open(m: &mut [u8], guids: u64, groups: u64, fields: u64, text: u64, literals: u64) -> Acted
+    ensures { λ r. ⌜ Opened (record { guids = guids; groups = groups; fields = fields; text = text; literals = literals }) (now (m .entry)) (now (m .exit)) r ⌝ }
+{
+    let which = above_top(guids, groups, fields, text, literals);
+    if 0 < which {
+        return Acted::Refused(Refusal {
+            number: ALLOWANCE_ABOVE_TOP,
+            a: which,
+            b: 0,
+        });
+    }
+    let bytes = needed(guids, groups, fields, text, literals);
+    if (m.len() as u64) < bytes {
+        return Acted::Refused(Refusal {
+            number: MEMORY_TOO_SHORT,
+            a: bytes,
+            b: 0,
+        });
+    }
+    write_header(
+        m,
+        guids as u32,
+        groups as u32,
+        fields as u32,
+        text as u32,
+        literals as u32,
+    );
+    zero_heads(m);
+    Acted::Done
+}
+
+// Clears a book; which half of the texts is in use stays as it was.
+pub fn clear_book(m: &mut [u8])
+    requires { ⌜ Good (now m) ⌝ }
+    ensures { λ _. ⌜ Stepped (now (m .entry)) (now (m .exit)) (fresh (held (now (m .entry)) .allowed)) ⌝ }
+{
+    zero_words(m, 5, 5);
+    zero_heads(m);
+}

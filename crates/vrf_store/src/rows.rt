@@ -1,0 +1,31 @@
+// The rows of the tables.
+use vrf_table::key_bucket;
+use vrf_table::put_key;
+use vrf_table::put_text;
+use vrf_words::get32;
+use vrf_words::put32;
+ghost use mathlib.Core.Path.{_≡_};
+ghost use Prim.Native.Nat.{_+_, _*_, _<_, _≤_};
+ghost use lib.ListN.{length};
+ghost use Rattle.vrf_table.specs.Table.{len};
+ghost use Rattle.vrf_store.specs.TableMemory.{pushed};
+
+// How long the text of row e is.
+pub fn text_len(rows: &[u8], e: u32) -> u32
+    requires { ⌜ 24 * e + 24 ≤ length (now rows) ⌝ }
+    ensures { λ r. ⌜ r ≡ len (now (rows .entry)) e ⌝ }
+{
+    get32(rows, 6 * (e as usize) + 4)
+}
+
+// A row more, in the memory of a table: the rows and, behind them, the heads.
+pub fn push_row(t: &mut [u8], cap: usize, n: u32, k: u64, at: u32, len: u32, info: u32)
+    requires { ⌜ (length (now t) ≡ 24 * cap + 4 * (cap + 1)) × (n < cap) × (cap ≤ 1000000) ⌝ }
+    ensures { λ _. ⌜ now (t .exit) ≡ pushed (now (t .entry)) cap n k at len info ⌝ }
+{
+    let head = 6 * cap + (key_bucket(k, (cap + 1) as u32) as usize);
+    let link = get32(t, head);
+    put_text(t, n, at, len, info);
+    put_key(t, n, k, link);
+    put32(t, head, n + 1);
+}
