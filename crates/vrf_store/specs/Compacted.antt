@@ -9,13 +9,14 @@ use lib.ListN.{length}
 use Rattle.vrf_words.specs.Words.{setWord, part, Apart, below, above}
 use Rattle.vrf_model.specs.Book.{Allowances}
 use Rattle.vrf_table.specs.ChainLaws.{by-equal}
+use Rattle.vrf_table.specs.Table.{key}
 use Rattle.vrf_store.specs.Layout
 use Rattle.vrf_store.specs.Store.{Header, Store, allowancesOf, headerOf, halfAt, words, storeBy, storeOf}
 use Rattle.vrf_store.specs.Check.{textSum}
 use Rattle.vrf_store.specs.Good.{Good}
 use Rattle.vrf_store.specs.MemoryLaws.{half-above, half-within}
 use Rattle.vrf_store.specs.HeaderLaws.{header-same, counters-same}
-use Rattle.vrf_store.specs.Stepped.{held, Stepped}
+use Rattle.vrf_store.specs.Stepped.{held, KeysKept, Stepped}
 use Rattle.vrf_store.specs.Written.{Written, wrote-used, wrote-half}
 use Rattle.vrf_store.specs.Retold.{Same, textsIn, retold, retold-stepped}
 use Rattle.vrf_store.specs.Said.{lens, Says, says-lens, within-own, says-then, says-more, row-sum, table-says, says-same}
@@ -40,6 +41,7 @@ module _ (a : Allowances) (half : ℕ) where
 pub record Compacted (m m′ : List ℕ) : Type 0 where
   pub stepped : Stepped m m′ (held m)
   pub header : headerOf m′ ≡ textsIn (headerOf m) (headerOf m .held) (1 - headerOf m .half)
+  pub keys : KeysKept m m′
 
 module _ (m : List ℕ) (good : Good m) where
   abbrev a : Allowances
@@ -245,6 +247,7 @@ module _ (m : List ℕ) (good : Good m) where
         compacted = record {
           stepped = retold-stepped good u₃ (1 - h .half) same-guids same-groups same-fields fits₃ (omega arith) written;
           header = ap (λ (s : Store). s .header) (written .store) ∙ ap (λ (u : ℕ). textsIn (headerOf m) u (1 - h .half)) sum₃;
+          keys = λ e k. ap (λ (s : Store). key (s .fieldRows) e) (written .store) ∙ same-fields .keys e k;
         }
 
 -- ---- what the moves and the writes leave

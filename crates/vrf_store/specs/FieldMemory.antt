@@ -9,18 +9,23 @@ use Rattle.vrf_bitio.specs.BitsLaws.{Bytes}
 use Rattle.vrf_bitio.specs.Pasted.{pasted}
 use Rattle.vrf_words.specs.Words.{setWord, part}
 use Rattle.vrf_words.specs.WordsLaws.{bytes-part, word-bound, length-part}
-use Rattle.vrf_model.specs.Book.{filled, Content}
+use Rattle.vrf_model.specs.Book.{Slot, filled, Content}
 use Rattle.vrf_model.specs.Lawful.{Is32}
 use Rattle.vrf_table.specs.Table.{key, len, setText, keyStart}
 use Rattle.vrf_store.specs.Layout
-use Rattle.vrf_store.specs.Store.{allowancesOf, headerOf, storeOf, words, slotKey, contentOf}
+use Rattle.vrf_store.specs.Store.{Store, allowancesOf, headerOf, storeOf, words, slotKey, contentOf}
 use Rattle.vrf_store.specs.Valid.{Valid}
 use Rattle.vrf_store.specs.Good.{Good}
-use Rattle.vrf_store.specs.Stepped.{Stepped, held}
+use Rattle.vrf_store.specs.Stepped.{held, KeysKept, Stepped}
 use Rattle.vrf_store.specs.Written.{unwritten, stepped, wrote-fieldTable, wrote-fields, wrote-held}
 use Rattle.vrf_store.specs.TableMemory.{pushed, lentTo, Lent, lent, tableEnd, pushed-words, text-words, halves, lentPart, rows-words}
-use Rattle.vrf_store.specs.FieldMoves.{withFields, withGroup, NewField, push-valid, NewName, withField, push-content, rename-valid, rename-content}
+use Rattle.vrf_store.specs.FieldMoves.{withFields, withGroup, NewField, push-valid, NewName, withField, push-content, rename-valid, rename-content, renamed-held, same-key}
 use Rattle.vrf_store.specs.FieldDrop.{Pass, passOf, passRows, headless, headless-is, dropped, emptied, gone-held, drop-valid, drop-content}
+
+-- w is the slot of row e
+pub record Renamed (m m′ : List ℕ) (e : ℕ) (w : Slot) : Type 0 where
+  pub stepped : Stepped m m′ (withField (held m) (key (storeOf m .fieldRows) e / 65536) (key (storeOf m .fieldRows) e % 65536) w)
+  pub keys : KeysKept m m′
 
 -- the rows of the fields and, behind them, the heads
 abbrev fieldTable : List ℕ → List ℕ
@@ -51,13 +56,16 @@ module _ {m : List ℕ} (g : Good m) where
       table-stepped _ _ _ _ _ _ (pushed-words m (Layout.fieldRowsAt (allowancesOf m)) (allowancesOf m .fields) table-fits (headerOf m .fields) (slotKey place slot) a l i)
       (push-valid (g .valid) place slot a l i w small head) (push-content (g .valid) place slot a l i w small head)
 
-  renamed-stepped : (e a l i : ℕ) → NewName (storeOf m) e a l → Is32 i → Stepped m (setWord (pasted m (4 * Layout.fieldRowsAt (allowancesOf m)) (setText (fieldTable m) e a l i)) 8 (headerOf m .held - len (storeOf m .fieldRows) e + l)) (withField (held m) (key (storeOf m .fieldRows) e / 65536) (key (storeOf m .fieldRows) e % 65536) (filled i (part (storeOf m .texts) a l)))
+  renamed-stepped : (e a l i : ℕ) → NewName (storeOf m) e a l → Is32 i → Renamed m (setWord (pasted m (4 * Layout.fieldRowsAt (allowancesOf m)) (setText (fieldTable m) e a l i)) 8 (headerOf m .held - len (storeOf m .fieldRows) e + l)) e (filled i (part (storeOf m .texts) a l))
   renamed-stepped e a l i w small =
       let few : e < allowancesOf m .fields = omega (arith, w .row, g .valid .header .fields) in
       let v = rename-valid (g .valid) e a l i w small in
       let table = wrote-fieldTable (unwritten m) (g .enough) (setText (storeOf m .fieldRows) e a l i) (storeOf m .fieldHeads) (v .shaped .fieldRows) (v .shaped .fieldHeads) in
-      rw (text-words m (Layout.fieldRowsAt (allowancesOf m)) (allowancesOf m .fields) table-fits e few a l i)
-      (stepped (g .enough) (wrote-held table _ (omega (arith, v .header .held, v .header .tops .text)) room) v (rename-content (g .valid) e a l i w small))
+      let all = wrote-held table (renamed-held (g .valid) e a l i w small) (omega (arith, v .header .held, v .header .tops .text)) room in
+      rw (text-words m (Layout.fieldRowsAt (allowancesOf m)) (allowancesOf m .fields) table-fits e few a l i) (record {
+        stepped = stepped (g .enough) all v (rename-content (g .valid) e a l i w small);
+        keys = λ j h. ap (λ (s : Store). key (s .fieldRows) j) (all .store) ∙ sym (same-key (g .valid) e a l i w small j);
+      })
 
 -- ---- the table as it is lent
 
@@ -80,7 +88,7 @@ module _ {m : List ℕ} (g : Good m) (bytes : Bytes m) (place slot a l i : ℕ) 
 module _ {m : List ℕ} (g : Good m) (e a l i : ℕ) (w : NewName (storeOf m) e a l) (small : Is32 i) where
   pub set-field-row : {cap from total : ℕ} {t m′ : List ℕ} → cap ≡ allowancesOf m .fields → from ≡ 4 * Layout.fieldRowsAt (allowancesOf m) → total ≡ headerOf m .held - len (storeOf m .fieldRows) e + l
       → Lent m from (tableEnd from cap) (λ x. setText x e a l i) t → m′ ≡ setWord (lentTo m from (tableEnd from cap) t) 8 total
-      → Stepped m m′ (withField (held m) (key (storeOf m .fieldRows) e / 65536) (key (storeOf m .fieldRows) e % 65536) (filled i (part (storeOf m .texts) a l)))
+      → Renamed m m′ e (filled i (part (storeOf m .texts) a l))
   set-field-row ec ef et table e₁ = rw (e₁, came-back g ec ef table, et) (renamed-stepped g e a l i w small)
 
 -- ---- all fields of a group go

@@ -134,7 +134,7 @@ slotBy-agrees s s′ n g q keys fields = go (lastBelow hit n) (lastBelow-passes 
     go (some e) p = fields e (p .0) (eqb-true (key (s .fieldRows) e) (slotKey g q) (p .1))
 
 -- the slot of a row is its field, for no other row has its key
-slotBy-row : {s : Store} (v : Valid s) (e : ℕ) → e < s .header .fields → slotBy s (s .header .fields) (key (s .fieldRows) e / 65536) (key (s .fieldRows) e % 65536) ≡ fieldAt s e
+pub slotBy-row : {s : Store} (v : Valid s) (e : ℕ) → e < s .header .fields → slotBy s (s .header .fields) (key (s .fieldRows) e / 65536) (key (s .fieldRows) e % 65536) ≡ fieldAt s e
 unfolding slotBy keyHit orEmpty
 slotBy-row {s} v e h = rw (slotKey-of (key (s .fieldRows) e))
     (ap (orEmpty (fieldAt s)) (lastBelow-last (keyHit (s .fieldRows) (key (s .fieldRows) e)) (s .header .fields) e h (eq-eqb (key (s .fieldRows) e) (key (s .fieldRows) e) refl)
@@ -274,7 +274,7 @@ module _ {s : Store} (v : Valid s) (e a l i : ℕ) (w : NewName s e a l) (checks
   abbrev renamed-rows : List ℕ
   renamed-rows = setText (s .fieldRows) e a l i
 
-  abbrev renamed-held : ℕ
+  abbrev pub renamed-held : ℕ
   renamed-held = s .header .held - len (s .fieldRows) e + l
 
   abbrev renamed : Store
@@ -289,7 +289,7 @@ module _ {s : Store} (v : Valid s) (e a l i : ℕ) (w : NewName s e a l) (checks
   len-small : l < 2 ^ 32
   len-small = omega (arith, w .placed .within, v .header .used, v .header .tops .text)
 
-  same-key : (j : ℕ) → key (s .fieldRows) j ≡ key renamed-rows j
+  pub same-key : (j : ℕ) → key (s .fieldRows) j ≡ key renamed-rows j
   same-key j = sym (key-setText (s .fieldRows) e a l i row-fits j)
 
   renamed-table : GoodTable (s .header .used) (s .texts) renamed-rows (s .fieldHeads) (Layout.fieldBuckets (s .header .allowed)) (s .header .fields)

@@ -39,6 +39,11 @@ module _ {s : Store} (v : Valid s) (place slot : ℕ) where
   unfolding findKey
   passes = walk-passes (keyHit (s .fieldRows) (slotKey place slot)) (link (s .fieldRows)) (s .header .fields) (keyStart (s .fieldHeads) (Layout.fieldBuckets (s .header .allowed)) (slotKey place slot))
 
+  -- what is found has the key of the slot
+  pub field-known : {e : ℕ} → fieldFound s (slotKey place slot) ≡ some e → (e < s .header .fields) × (key (s .fieldRows) e ≡ slotKey place slot)
+  unfolding keyHit
+  field-known {e} q = let it = rw q at passes in (it .0, eqb-true (key (s .fieldRows) e) (slotKey place slot) (it .1))
+
   no-row : slot < 65536 → ((place < s .header .groups) × (slot < info (s .groupRows) place) → ⊥) → fieldFound s (slotKey place slot) ≡ none
   unfolding keyHit
   no-row h out = go (fieldFound s (slotKey place slot)) passes
@@ -75,7 +80,7 @@ module _ {s : Store} (v : Valid s) (place slot : ℕ) where
   slot-row-below q =
       by-order 65536 slot
       (λ high. clash (let none-there = le-ltb slot 65536 high in cc))
-      (λ low. (rw (rw (lt-ltb slot 65536 low) at q) at passes) .0)
+      (λ low. field-known (rw (lt-ltb slot 65536 low) at q) .0)
 
 -- ---- outers
 

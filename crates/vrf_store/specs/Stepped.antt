@@ -1,15 +1,20 @@
 -- What a change of a book leaves: a good memory of the same length that holds the content c, and the counters as they were.
 use mathlib.Core.Path.{_≡_}
 use mathlib.Core.List.{List}
-use Prim.Native.Nat.{ℕ}
+use Prim.Native.Nat.{ℕ, _<_}
 use lib.ListN.{length}
 use Rattle.vrf_model.specs.Book.{Content}
-use Rattle.vrf_store.specs.Store.{countersOf, contentOf, storeOf}
+use Rattle.vrf_table.specs.Table.{key}
+use Rattle.vrf_store.specs.Store.{headerOf, countersOf, contentOf, storeOf}
 use Rattle.vrf_store.specs.Good.{Good}
 
 -- the content that a memory holds
 abbrev pub held : List ℕ → Content
 held m = contentOf (storeOf m)
+
+-- the rows of the fields keep their keys; a content does not say which row a slot has
+abbrev pub KeysKept : List ℕ → List ℕ → Type 0
+KeysKept m m′ = (e : ℕ) → e < headerOf m .fields → key (storeOf m′ .fieldRows) e ≡ key (storeOf m .fieldRows) e
 
 pub record Stepped (m m′ : List ℕ) (c : Content) : Type 0 where
   pub good : Good m′

@@ -13,13 +13,13 @@ use vrf_words::get64;
 use vrf_words::put32;
 use vrf_words::zero_words;
 ghost use mathlib.Core.Path.{_≡_};
-ghost use Prim.Native.Nat.{_+_, _*_, _/_, _%_, _^_, _<_, _≤_};
+ghost use Prim.Native.Nat.{_+_, _*_, _^_, _<_, _≤_};
 ghost use lib.ListN.{length};
 ghost use Rattle.vrf_words.specs.Words.{part};
 ghost use Rattle.vrf_model.specs.Book.{filled};
-ghost use Rattle.vrf_table.specs.Table.{key};
 ghost use Rattle.vrf_store.specs.FieldDrop.{headless, passOf, passRow, passRows, emptied};
 ghost use Rattle.vrf_store.specs.FieldMoves.{NewField, NewName, withField, withGroup};
+ghost use Rattle.vrf_store.specs.FieldMemory.{Renamed};
 ghost use Rattle.vrf_store.specs.Good.{Enough, Good};
 ghost use Rattle.vrf_store.specs.Layout;
 ghost use Rattle.vrf_store.specs.Stepped.{Stepped, held};
@@ -52,7 +52,7 @@ pub fn push_field(m: &mut [u8], place: u32, slot: u32, at: u32, len: u32, checks
 // Another name and checksum for row e.
 pub fn set_field_row(m: &mut [u8], e: u32, at: u32, len: u32, checksum: u32)
     requires { ⌜ Good (now m) × NewName (storeOf (now m)) e at len ⌝ }
-    ensures { λ _. ⌜ Stepped (now (m .entry)) (now (m .exit)) (withField (held (now (m .entry))) (key (storeOf (now (m .entry)) .fieldRows) e / 65536) (key (storeOf (now (m .entry)) .fieldRows) e % 65536) (filled checksum (part (storeOf (now (m .entry)) .texts) at len))) ⌝ }
+    ensures { λ _. ⌜ Renamed (now (m .entry)) (now (m .exit)) e (filled checksum (part (storeOf (now (m .entry)) .texts) at len)) ⌝ }
 {
     let cap = fields_allowed(m);
     let from = fields_at(m);

@@ -7,8 +7,16 @@ use vrf_words::put32;
 ghost use mathlib.Core.Path.{_≡_};
 ghost use Prim.Native.Nat.{_+_, _*_, _<_, _≤_};
 ghost use lib.ListN.{length};
-ghost use Rattle.vrf_table.specs.Table.{len};
+ghost use Rattle.vrf_table.specs.Table.{at, len};
 ghost use Rattle.vrf_store.specs.TableMemory.{pushed};
+
+// Where the text of row e stands.
+pub fn text_at(rows: &[u8], e: u32) -> u32
+    requires { ⌜ 24 * e + 24 ≤ length (now rows) ⌝ }
+    ensures { λ r. ⌜ r ≡ at (now (rows .entry)) e ⌝ }
+{
+    get32(rows, 6 * (e as usize) + 3)
+}
 
 // How long the text of row e is.
 pub fn text_len(rows: &[u8], e: u32) -> u32
