@@ -1,0 +1,231 @@
+-- set_net_guid_path on a good memory: what its writes need, and what they leave.
+use mathlib.Core.Path.{_≡_, sym, ap, _∙_}
+use mathlib.Core.Logic.{_≢_}
+use mathlib.Core.Bool.{Bool, true, false, _&&_}
+use mathlib.Core.List.{List, [], _∷_, _++_}
+use mathlib.Core.Option.{none, some}
+use Prim.Native.Nat.{ℕ, _+_, _-_, _<_, _≤_}
+use native.Mathlib.Omega.{arith}
+use lib.Dec.{eqb}
+use lib.ListN.{length, getD, set}
+use lib.Seq.{getD-set-same, set-set}
+use Rattle.vrf_bitio.specs.BitsLaws.{Bytes}
+use Rattle.vrf_text.specs.Text.{IsText}
+use Rattle.vrf_words.specs.Words.{part}
+use Rattle.vrf_path.specs.Text.{same}
+use Rattle.vrf_model.specs.Book.{Guid, Allowances, Content, guidText, heldText, none-counted}
+use Rattle.vrf_model.specs.Lookup.{placeOr, guidPlace}
+use Rattle.vrf_model.specs.PlaceLaws.{placeOr-at}
+use Rattle.vrf_model.specs.Setting.{Step, keep, guidStep, withGuids, sameGuid, setGuidAt, setGuid}
+use Rattle.vrf_table.specs.Table.{key}
+use Rattle.vrf_store.specs.UpToLaws.{getD-upTo}
+use Rattle.vrf_store.specs.Store.{allowancesOf, headerOf, storeOf, guidAt, contentOf}
+use Rattle.vrf_store.specs.Good.{Good}
+use Rattle.vrf_store.specs.Lookups.{guid-known}
+use Rattle.vrf_store.specs.Stepped.{held, Stepped}
+use Rattle.vrf_store.specs.GuidMoves.{guidOf, NewGuid, OldGuid}
+use Rattle.vrf_store.specs.Counted.{Counted}
+use Rattle.vrf_store.specs.Opened.{orZero}
+use Rattle.vrf_cache.specs.Taken.{Taken, NotTaken}
+use Rattle.vrf_cache.specs.TakenLaws.{unmoved, then, same-then, counted-then}
+use Rattle.vrf_cache.specs.Passed.{passedBy, Counts, sum-set, counts-guid, counts-guid-set}
+use Rattle.vrf_cache.specs.Keeping.{Allows, allows, kept, full}
+use Rattle.vrf_cache.specs.Numbers.{allowed, counts, Numbers, numbers}
+use Rattle.vrf_cache.specs.Put.{Put, put-placed, none-placed}
+
+abbrev guidIs : ℕ → List ℕ → ℕ → Guid
+guidIs guid path outer = record { guid = guid; path = path; outer = outer }
+
+-- the step to c
+abbrev pub setting : Content → Step (Unit {0})
+setting c = keep tt c guidStep
+
+-- ---- a record more
+
+abbrev pub withNew : Content → Guid → Content
+withNew c r = withGuids c (c .guids ++ (r ∷ []))
+
+-- the allowance that a record more, with a path of n bytes, would pass, 0 for none
+abbrev pub newPasses : List ℕ → ℕ → ℕ
+newPasses m n = orZero (passedBy (allowancesOf m) (headerOf m .guids + 1) (headerOf m .groups) (headerOf m .fields) (headerOf m .held + n))
+
+pub record New (m path : List ℕ) (guid : ℕ) : Type 0 where
+  pub good : Good m
+  pub isText : IsText path
+  pub new : guidPlace guid (held m .guids) ≡ none
+
+module _ {m path : List ℕ} (guid outer : ℕ) {w : ℕ} (asked : New m path guid) (e : w ≡ newPasses m (length path)) where
+  abbrev added : Content
+  added = withNew (held m) (guidIs guid path outer)
+
+  added-counts : Counts added (headerOf m .guids + 1) (headerOf m .groups) (headerOf m .fields) (headerOf m .held + length path)
+  added-counts = counts-guid (held m) (counts (asked .good)) (guidIs guid path outer)
+
+  added-allowed : added .allowed ≡ allowancesOf m
+  unfolding withGuids
+  added-allowed = allowed m
+
+  pub new-full : {m′ : List ℕ} → w ≢ 0 → m′ ≡ m → NotTaken (setting added) (record { number = 42; a = w; b = 0 }) m m′
+  new-full = full added-counts added-allowed e (tt {0}) guidStep
+
+  module _ (z : w ≡ 0) where
+    new-allows : Allows (allowancesOf m) (headerOf m .guids + 1) (headerOf m .groups) (headerOf m .fields) (headerOf m .held + length path)
+    new-allows = allows added-counts added-allowed e z
+
+    pub new-room : headerOf m .held + length path ≤ allowancesOf m .text
+    new-room = new-allows .text-fits
+
+    module _ {m₁ : List ℕ} {a : ℕ} (p : Put m path m₁ a) where
+      pub new-guid : NewGuid m₁ guid a (length path)
+      new-guid =
+          let n = numbers (p .stepped .good) (p .stepped .content) (counts (asked .good)) in
+          let guids = ap (λ (x : Allowances). x .guids) (n .allowed-are ∙ allowed m) in
+          let text = ap (λ (x : Allowances). x .text) (n .allowed-are ∙ allowed m) in
+          record {
+            good = p .stepped .good;
+            new = ap (λ (c : Content). guidPlace guid (c .guids)) (p .stepped .content) ∙ asked .new;
+            few = omega (arith, guids, n .guids-are, new-allows .guids-fit);
+            placed = put-placed p (asked .isText);
+            room = omega (arith, text, n .text-is, new-allows .text-fits);
+          }
+
+      pub new-taken : {m₂ m₃ : List ℕ} → Stepped m₁ m₂ (withNew (held m₁) (guidOf (storeOf m₁) guid a (length path) outer)) → Counted m₂ m₃ guidStep → Taken (setting added) tt m m₃
+      new-taken s k = kept added-counts added-allowed e (tt {0}) guidStep z (counted-then (then (p .stepped) (rw (p .stepped .content, p .text) at s)) k)
+
+-- ---- another path and outer of a record
+
+abbrev pub withOther : Content → ℕ → Guid → Content
+withOther c e r = withGuids c (set (c .guids) e r)
+
+-- the bytes of a record's path
+abbrev pub pathBytes : Content → ℕ → ℕ
+pathBytes c e = length (placeOr (λ (g : Guid). g .path) [] (c .guids) e)
+
+-- the allowance that record e would pass with a path of n bytes in place of its own, 0 for none
+abbrev pub otherPasses : List ℕ → ℕ → ℕ → ℕ
+otherPasses m e n = orZero (passedBy (allowancesOf m) (headerOf m .guids) (headerOf m .groups) (headerOf m .fields) (headerOf m .held - pathBytes (held m) e + n))
+
+module _ {m : List ℕ} (good : Good m) {e : ℕ} (known : e < headerOf m .guids) where
+  listed : e < length (held m .guids)
+  listed = omega (arith, counts good .guids-are)
+
+  path-bytes : (d : Guid) → pathBytes (held m) e ≡ length (getD (held m .guids) e d .path)
+  path-bytes d = ap length (placeOr-at (λ (g : Guid). g .path) [] (held m .guids) e d listed)
+
+  -- it is part of what is held
+  pub path-held : pathBytes (held m) e ≤ headerOf m .held
+  unfolding heldText guidText
+  path-held =
+      let d = guidIs 0 [] 0 in
+      omega (arith, path-bytes d, sum-set guidText (held m .guids) e d d listed, counts good .text-is)
+
+  -- the GUID of a record is its row's key
+  listed-key : (d : Guid) → getD (held m .guids) e d .guid ≡ key (storeOf m .guidRows) e
+  unfolding contentOf guidAt
+  listed-key d = ap (λ (g : Guid). g .guid) (getD-upTo (guidAt (storeOf m)) (headerOf m .guids) e d known)
+
+  -- with another record the counts are the same but for the bytes of the path
+  other-counts : (r : Guid) → Counts (withOther (held m) e r) (headerOf m .guids) (headerOf m .groups) (headerOf m .fields) (headerOf m .held - pathBytes (held m) e + length (r .path))
+  other-counts r = counts-guid-set (held m) (counts good) e r r listed _ (omega (arith, path-bytes r, path-held))
+
+pub record Known (m path : List ℕ) (e : ℕ) : Type 0 where
+  pub good : Good m
+  pub isText : IsText path
+  pub known : e < headerOf m .guids
+
+-- the record lets go of its path first
+pub let-go : {m path : List ℕ} {e : ℕ} → Known m path e → OldGuid m e 0 0
+let-go {m} asked = record { good = asked .good; known = asked .known; placed = none-placed (headerOf m .used) (storeOf m .texts); room = omega (arith, asked .good .valid .header .held) }
+
+module _ {m path : List ℕ} {e : ℕ} (outer : ℕ) {w : ℕ} (asked : Known m path e) (q : w ≡ otherPasses m e (length path)) where
+  abbrev guid : ℕ
+  guid = key (storeOf m .guidRows) e
+
+  abbrev other : List ℕ → Content
+  other t = withOther (held m) e (guidIs guid t outer)
+
+  counted : (t : List ℕ) → Counts (other t) (headerOf m .guids) (headerOf m .groups) (headerOf m .fields) (headerOf m .held - pathBytes (held m) e + length t)
+  counted t = other-counts (asked .good) (asked .known) (guidIs guid t outer)
+
+  other-allowed : (t : List ℕ) → other t .allowed ≡ allowancesOf m
+  unfolding withGuids
+  other-allowed t = allowed m
+
+  pub other-full : {m′ : List ℕ} → w ≢ 0 → m′ ≡ m → NotTaken (setting (other path)) (record { number = 42; a = w; b = 0 }) m m′
+  other-full = full (counted path) (other-allowed path) q (tt {0}) guidStep
+
+  module _ (z : w ≡ 0) {m₁ : List ℕ} (s₁ : Stepped m m₁ (withOther (held m) e (guidOf (storeOf m) guid 0 0 outer))) where
+    first : Stepped m m₁ (other [])
+    unfolding part
+    first = s₁
+
+    abbrev Empty : List ℕ → Type 0
+    Empty y = Numbers y (other [] .allowed) (headerOf m .guids) (headerOf m .groups) (headerOf m .fields) (headerOf m .held - pathBytes (held m) e + 0)
+
+    has-room : {y : List ℕ} → Empty y → headerOf y .held + length path ≤ allowancesOf y .text
+    has-room n =
+        omega (arith, ap (λ (x : Allowances). x .text) (n .allowed-are ∙ other-allowed []), n .text-is, allows (counted path) (other-allowed path) q z .text-fits)
+
+    pub other-room : Good m₁ × (headerOf m₁ .held + length path ≤ allowancesOf m₁ .text)
+    other-room = (first .good, has-room (numbers (first .good) (first .content) (counted [])))
+
+    module _ {m₂ : List ℕ} {a : ℕ} (p : Put m₁ path m₂ a) where
+      second : Stepped m m₂ (other [])
+      second = same-then first (p .stepped)
+
+      empty : Empty m₂
+      empty = numbers (second .good) (second .content) (counted [])
+
+      there : e < headerOf m₂ .guids
+      there = omega (arith, asked .known, empty .guids-are)
+
+      pub other-guid : OldGuid m₂ e a (length path)
+      other-guid = record { good = second .good; known = there; placed = put-placed p (asked .isText); room = omega (arith, has-room empty) }
+
+      same-key : key (storeOf m₂ .guidRows) e ≡ guid
+      unfolding withGuids
+      same-key =
+          let d = guidIs guid [] outer in
+          sym (listed-key (second .good) there d)
+          ∙ ap (λ (c : Content). getD (c .guids) e d .guid) (second .content)
+          ∙ ap (λ (g : Guid). g .guid) (getD-set-same (held m .guids) e d d (listed (asked .good) (asked .known)))
+
+      set-again : (r : Guid) → withOther (other []) e r ≡ withOther (held m) e r
+      unfolding withGuids
+      set-again r = ap (withGuids (held m)) (set-set (held m .guids) e (guidIs guid [] outer) r)
+
+      pub other-taken : {m₃ m₄ : List ℕ} → Stepped m₂ m₃ (withOther (held m₂) e (guidOf (storeOf m₂) (key (storeOf m₂ .guidRows) e) a (length path) outer)) → Counted m₃ m₄ guidStep → Taken (setting (other path)) tt m m₄
+      other-taken s k = kept (counted path) (other-allowed path) q (tt {0}) guidStep z (counted-then (then second (rw (second .content, p .text, same-key, set-again) at s)) k)
+
+-- ---- the setting
+
+-- whether a record has this path and this outer
+abbrev pub has : List ℕ → ℕ → Guid → Bool
+has path outer g = same path (g .path) && eqb outer (g .outer)
+
+pub has-both : {m : List ℕ} (path : List ℕ) (outer : ℕ) {e : ℕ} → Known m path e → placeOr (has path outer) false (held m .guids) e ≡ (same path (placeOr (λ (g : Guid). g .path) [] (held m .guids) e) && eqb outer (placeOr (λ (g : Guid). g .outer) 0 (held m .guids) e))
+has-both {m} path outer {e} asked =
+    let l = held m .guids in
+    let d = guidIs 0 [] 0 in
+    let there : e < length l = listed (asked .good) (asked .known) in
+    rw (placeOr-at (has path outer) false l e d there, placeOr-at (λ (g : Guid). g .path) [] l e d there, placeOr-at (λ (g : Guid). g .outer) 0 l e d there)
+
+module _ (m : List ℕ) (guid : ℕ) (path : List ℕ) (outer : ℕ) where
+  abbrev asked : Step (Unit {0})
+  asked = setGuid (guidIs guid path outer) (held m)
+
+  pub set-new : guidPlace guid (held m .guids) ≡ none → asked ≡ setting (withNew (held m) (guidIs guid path outer))
+  unfolding setGuid setGuidAt
+  set-new o = rw o
+
+  module _ {e : ℕ} (good : Good m) (o : guidPlace guid (held m .guids) ≡ some e) where
+    pub found : IsText path → Known m path e
+    found isText = record { good = good; isText = isText; known = guid-known (good .valid) guid e o .0 }
+
+    pub set-same : Bytes m → true ≡ placeOr (has path outer) false (held m .guids) e → Taken asked tt m m
+    unfolding setGuid setGuidAt sameGuid
+    set-same b h = record { content = held m; counted = none-counted; step = rw (o, ← h); holds = unmoved good b }
+
+    pub set-other : false ≡ placeOr (has path outer) false (held m .guids) e → asked ≡ setting (withOther (held m) e (guidIs (key (storeOf m .guidRows) e) path outer))
+    unfolding setGuid setGuidAt sameGuid
+    set-other h = rw (o, ← h, guid-known (good .valid) guid e o .1)

@@ -1,0 +1,82 @@
+-- Which allowance some counts pass, and the counts of a content that a step makes.
+use mathlib.Core.Path.{_≡_, _∙_}
+use mathlib.Core.Bool.{cond}
+use mathlib.Core.List.{List, [], _∷_, _++_}
+use mathlib.Core.Option.{Option, none, some}
+use Prim.Native.Nat.{ℕ, zero, suc, _+_, _<_}
+use native.Mathlib.Nat.{not-suc-le-zero, le-of-suc-le-suc}
+use native.Mathlib.Omega.{arith}
+use lib.Dec.{ltb}
+use lib.ListN.{length, getD, set, length-append, length-set}
+use Rattle.vrf_model.specs.Book.{Guid, Group, Allowances, Content, sum, guidText, groupFields, groupText, heldFields, heldText, passed}
+use Rattle.vrf_model.specs.HeldLaws.{sum-last}
+use Rattle.vrf_model.specs.Setting.{withGuids, withGroups}
+
+-- counts against the allowances: the lowest that is passed
+unfoldable pub passedBy : Allowances → ℕ → ℕ → ℕ → ℕ → Option ℕ
+passedBy a guids groups fields text =
+    cond (ltb (a .guids) guids) (some 1)
+    (cond (ltb (a .groups) groups) (some 2)
+    (cond (ltb (a .fields) fields) (some 3)
+    (cond (ltb (a .text) text) (some 4)
+    none)))
+
+-- the counts of a content
+pub record Counts (c : Content) (guids groups fields text : ℕ) : Type 0 where
+  pub guids-are : length (c .guids) ≡ guids
+  pub groups-are : length (c .groups) ≡ groups
+  pub fields-are : heldFields c ≡ fields
+  pub text-is : heldText c ≡ text
+
+pub passed-counts : (c : Content) {guids groups fields text : ℕ} → Counts c guids groups fields text → passed c ≡ passedBy (c .allowed) guids groups fields text
+unfolding passed passedBy
+passed-counts c k = rw (k .guids-are, k .groups-are, k .fields-are, k .text-is)
+
+-- ---- sums with one element replaced
+
+pub sum-set : {A : Type 0} (f : A → ℕ) (l : List A) (i : ℕ) (a d : A) → i < length l → sum f (set l i a) + f (getD l i d) ≡ sum f l + f a
+unfolding sum
+sum-set f [] i a d h = absurd (not-suc-le-zero h)
+sum-set f (x ∷ l) zero a d h = omega arith
+sum-set f (x ∷ l) (suc i) a d h = let rest = sum-set f l i a d (le-of-suc-le-suc h) in omega (arith, rest)
+
+module _ (c : Content) {guids groups fields text : ℕ} (k : Counts c guids groups fields text) where
+  -- a record more
+  pub counts-guid : (r : Guid) → Counts (withGuids c (c .guids ++ (r ∷ []))) (guids + 1) groups fields (text + length (r .path))
+  unfolding withGuids heldFields heldText guidText
+  counts-guid r = record {
+    guids-are = length-append (c .guids) (r ∷ []) ∙ omega (arith, k .guids-are);
+    groups-are = k .groups-are;
+    fields-are = k .fields-are;
+    text-is = let s = sum-last guidText (c .guids) r in let t = k .text-is in omega (arith, s, t);
+  }
+
+  -- another record in the place of one
+  pub counts-guid-set : (i : ℕ) (r d : Guid) → i < length (c .guids) → (t : ℕ) → t + length (getD (c .guids) i d .path) ≡ text + length (r .path) → Counts (withGuids c (set (c .guids) i r)) guids groups fields t
+  unfolding withGuids heldFields heldText guidText
+  counts-guid-set i r d h t e = record {
+    guids-are = length-set (c .guids) i r ∙ k .guids-are;
+    groups-are = k .groups-are;
+    fields-are = k .fields-are;
+    text-is = let s = sum-set guidText (c .guids) i r d h in let u = k .text-is in omega (arith, s, u, e);
+  }
+
+  -- a group more
+  pub counts-group : (g : Group) → groupFields g ≡ 0 → Counts (withGroups c (c .groups ++ (g ∷ []))) guids (groups + 1) fields (text + groupText g)
+  unfolding withGroups heldFields heldText
+  counts-group g e = record {
+    guids-are = k .guids-are;
+    groups-are = length-append (c .groups) (g ∷ []) ∙ omega (arith, k .groups-are);
+    fields-are = let s = sum-last groupFields (c .groups) g in let u = k .fields-are in omega (arith, s, u, e);
+    text-is = let s = sum-last groupText (c .groups) g in let u = k .text-is in omega (arith, s, u);
+  }
+
+  -- another group in the place of one
+  pub counts-group-set : (i : ℕ) (g d : Group) → i < length (c .groups) → (f t : ℕ) → f + groupFields (getD (c .groups) i d) ≡ fields + groupFields g → t + groupText (getD (c .groups) i d) ≡ text + groupText g → Counts (withGroups c (set (c .groups) i g)) guids groups f t
+  unfolding withGroups heldFields heldText
+  counts-group-set i g d h f t ef et = record {
+    guids-are = k .guids-are;
+    groups-are = length-set (c .groups) i g ∙ k .groups-are;
+    fields-are = let s = sum-set groupFields (c .groups) i g d h in let u = k .fields-are in omega (arith, s, u, ef);
+    text-is = let s = sum-set groupText (c .groups) i g d h in let u = k .text-is in omega (arith, s, u, et);
+  }

@@ -1,0 +1,48 @@
+-- What the parts of the resolutions answer: the code goes by claims and keys one after the other, the model by lists of them.
+use mathlib.Core.Path.{_≡_}
+use mathlib.Core.Bool.{Bool, true, false}
+use mathlib.Core.List.{List, [], _∷_, Option·toList}
+use mathlib.Core.Option.{Option}
+use Prim.Native.Nat.{ℕ, _≤_}
+use lib.ListN.{length, take}
+use Rattle.vrf_path.specs.Keys.{defaultAlias, coreAlias}
+use Rattle.vrf_path.specs.Toggle.{withToggles}
+use Rattle.vrf_model.specs.Book.{Group}
+use Rattle.vrf_model.specs.Lookup.{Claim, absent, ambiguous, claimed, leafClaim, orElse, firstPath}
+
+-- whether a claim ends the search
+unfoldable pub decides : Claim → Bool
+decides absent = false
+decides ambiguous = true
+decides (claimed i) = true
+
+-- a claim, or the next one where it is absent
+unfoldable pub orLater : Claim → Claim → Claim
+orLater absent next = next
+orLater ambiguous next = ambiguous
+orLater (claimed i) next = claimed i
+
+-- the first claim among some leaves
+unfoldable pub firstOf : List Group → List (List ℕ) → Claim
+firstOf groups [] = absent
+firstOf groups (l ∷ ls) = orLater (leafClaim l groups) (firstOf groups ls)
+
+-- the group of a key that may be missing, or else of its toggle
+unfoldable pub withToggle : List Group → Option (List ℕ) → Option ℕ
+withToggle groups k = firstPath groups (withToggles (Option·toList k))
+
+-- the same of a path's two aliases
+unfoldable pub byAlias : List Group → List ℕ → Option ℕ
+byAlias groups path = orElse (withToggle groups (defaultAlias path)) (withToggle groups (coreAlias path))
+
+-- a room, after the n bytes of a text were written at its front
+pub record Written (text before after : List ℕ) (n : ℕ) : Type 0 where
+  pub bytes : take n after ≡ text
+  pub count : n ≡ length text
+  pub long : length after ≡ length before
+
+-- a room with the first i bytes of a text at its front
+pub record Filled (text before after : List ℕ) (i : ℕ) : Type 0 where
+  pub front : take i after ≡ take i text
+  pub within : i ≤ length text
+  pub long : length after ≡ length before

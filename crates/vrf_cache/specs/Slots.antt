@@ -1,0 +1,63 @@
+-- A slot of a group of a content, and the content with another slot in its place.
+use mathlib.Core.Path.{_≡_, ap, _∙_}
+use mathlib.Core.List.{List, [], _∷_}
+use Prim.Native.Nat.{ℕ, zero, suc, _+_, _<_, suc-le-suc, zero-le}
+use native.Mathlib.Nat.{not-suc-le-zero}
+use native.Mathlib.Omega.{arith}
+use lib.ListN.{length, getD, set}
+use lib.Seq.{getD-set-same, set-set, lt-length-set}
+use Rattle.vrf_model.specs.Book.{Slot, empty, Group, Content, slotFields, slotText, groupFields, groupText}
+use Rattle.vrf_model.specs.Lookup.{placeOr, slotAt}
+use Rattle.vrf_model.specs.PlaceLaws.{placeOr-at}
+use Rattle.vrf_model.specs.Setting.{withGroups, withSlot, noGroup}
+use Rattle.vrf_store.specs.FieldMoves.{withField}
+use Rattle.vrf_cache.specs.Passed.{Counts, sum-set, counts-group-set}
+
+-- how many slots the group at a place has, 0 past the groups
+abbrev pub slotsAt : List Group → ℕ → ℕ
+slotsAt groups place = placeOr (λ (g : Group). length (g .slots)) 0 groups place
+
+-- a place with a slot is that of a group
+pub slot-place : (groups : List Group) (place : ℕ) {slot : ℕ} → slot < slotsAt groups place → place < length groups
+unfolding placeOr
+slot-place [] place h = absurd (not-suc-le-zero h)
+slot-place (g ∷ groups) zero h = suc-le-suc zero-le
+slot-place (g ∷ groups) (suc place) h = suc-le-suc (slot-place groups place h)
+
+module _ (c : Content) (place : ℕ) {slot : ℕ} (h : slot < slotsAt (c .groups) place) where
+  abbrev group : Group
+  group = getD (c .groups) place noGroup
+
+  there : place < length (c .groups)
+  there = slot-place (c .groups) place h
+
+  slot-there : slot < length (group .slots)
+  slot-there = omega (arith, h, placeOr-at (λ (g : Group). length (g .slots)) 0 (c .groups) place noGroup there)
+
+  its-slot : slotAt (c .groups) place slot ≡ getD (group .slots) slot empty
+  unfolding slotAt
+  its-slot = placeOr-at (λ (g : Group). getD (g .slots) slot empty) empty (c .groups) place noGroup there
+
+  changed : (w : Slot) → placeOr (withSlot slot w) noGroup (c .groups) place ≡ withSlot slot w group
+  changed w = placeOr-at (withSlot slot w) noGroup (c .groups) place noGroup there
+
+  -- only the fields and the bytes of this slot count anew
+  pub slot-counts : {guids groups fields text : ℕ} → Counts c guids groups fields text → (w : Slot) (f t : ℕ) → f + slotFields (slotAt (c .groups) place slot) ≡ fields + slotFields w → t + slotText (slotAt (c .groups) place slot) ≡ text + slotText w → Counts (withField c place slot w) guids groups f t
+  unfolding groupFields groupText withSlot
+  slot-counts k w f t ef et =
+      rw (changed w)
+      (counts-group-set c k place (withSlot slot w group) noGroup there f t
+      (omega (arith, ef, ap slotFields its-slot, sum-set slotFields (group .slots) slot w empty slot-there))
+      (omega (arith, et, ap slotText its-slot, sum-set slotText (group .slots) slot w empty slot-there)))
+
+  -- a slot that is set twice is set once
+  changed-again : (v w : Slot) → placeOr (withSlot slot w) noGroup (set (c .groups) place (withSlot slot v group)) place ≡ withSlot slot w group
+  unfolding withSlot
+  changed-again v w =
+      placeOr-at (withSlot slot w) noGroup (set (c .groups) place (withSlot slot v group)) place noGroup (lt-length-set (c .groups) place (withSlot slot v group) there)
+      ∙ ap (withSlot slot w) (getD-set-same (c .groups) place (withSlot slot v group) noGroup there)
+      ∙ rw (set-set (group .slots) slot v w)
+
+  pub set-again : (v w : Slot) → withField (withField c place slot v) place slot w ≡ withField c place slot w
+  unfolding withGroups
+  set-again v w = rw (changed v, changed-again v w, changed w, set-set (c .groups) place (withSlot slot v group) (withSlot slot w group))

@@ -1,0 +1,225 @@
+// add_export_group: a group is appended, merged or replaced.
+use crate::full::full;
+use crate::full::passed;
+use crate::texts::keep_text;
+use vrf_bitio::Refusal;
+use vrf_model::Added;
+use vrf_model::CROSSED_IDENTITY;
+use vrf_path::same;
+use vrf_store::counters::step_replaced;
+use vrf_store::counters::step_schema;
+use vrf_store::fields::drop_fields;
+use vrf_store::groups::grow_group;
+use vrf_store::groups::push_group;
+use vrf_store::groups::replace_group;
+use vrf_store::groups::set_group;
+use vrf_store::look::field_name;
+use vrf_store::look::find_index;
+use vrf_store::look::find_path_place;
+use vrf_store::look::group_index;
+use vrf_store::look::group_path;
+use vrf_store::look::group_slots;
+use vrf_store::parts::fields;
+use vrf_store::parts::groups;
+use vrf_store::parts::guids;
+use vrf_store::parts::held;
+use vrf_store::parts::text_allowed;
+use vrf_table::Entry;
+ghost use mathlib.Core.Path.{_≡_};
+ghost use mathlib.Core.Bool.{_&&_};
+ghost use mathlib.Core.List.{[]};
+ghost use mathlib.Core.Option.{none, some};
+ghost use Prim.Native.Nat.{_+_, _-_, _<_, _≤_};
+ghost use lib.Dec.{eqb};
+ghost use lib.ListN.{length};
+ghost use Rattle.vrf_text.specs.Text.{IsText};
+ghost use Rattle.vrf_path.specs.Text.{same};
+ghost use Rattle.vrf_model.specs.Book.{Group, groupText};
+ghost use Rattle.vrf_model.specs.Lookup.{placeOr, indexPlace};
+ghost use Rattle.vrf_model.specs.Setting.{newGroup, addGroupAt, addGroup};
+ghost use Rattle.vrf_store.specs.Good.{Good};
+ghost use Rattle.vrf_store.specs.Opened.{orZero};
+ghost use Rattle.vrf_store.specs.Stepped.{held};
+ghost use Rattle.vrf_store.specs.Store.{allowancesOf, headerOf};
+ghost use Rattle.vrf_cache.specs.GroupAdded.{Found};
+ghost use Rattle.vrf_cache.specs.GroupLaws.{groupAt};
+ghost use Rattle.vrf_cache.specs.GroupReplaced.{replacing};
+ghost use Rattle.vrf_cache.specs.GroupSteps.{appending, New, Asked, Fits, Freed, Given, merging};
+ghost use Rattle.vrf_cache.specs.Passed.{passedBy};
+ghost use Rattle.vrf_cache.specs.Taken.{AddedBy};
+
+// The allowance that a group more, with a path of n bytes, would pass, 0 for none.
+fn new_passes(m: &[u8], n: u64) -> u32
+    requires { ⌜ Good (now m) × (n ≤ 4096) ⌝ }
+    ensures { λ r. ⌜ r ≡ orZero (passedBy (allowancesOf (now (m .entry))) (headerOf (now (m .entry)) .guids) (headerOf (now (m .entry)) .groups + 1) (headerOf (now (m .entry)) .fields) (headerOf (now (m .entry)) .held + n)) ⌝ }
+{
+    let text = held(m) as u64 + n;
+    passed(
+        m,
+        guids(m) as u64,
+        groups(m) as u64 + 1,
+        fields(m) as u64,
+        text,
+    )
+}
+
+// A group more, for an index that no group has.
+fn append_group(m: &mut [u8], path: &[u8], index: u32, slots: u32) -> Added
+    requires { ⌜ New (now m) (now path) index slots ⌝ }
+    ensures { λ r. ⌜ AddedBy (appending (held (now (m .entry))) (newGroup (now (path .entry)) index slots)) (now (m .entry)) (now (m .exit)) r ⌝ }
+{
+    let which = new_passes(m, path.len() as u64);
+    if which != 0 {
+        return Added::Refused(full(which));
+    }
+    let n = groups(m);
+    let at = keep_text(m, path);
+    push_group(m, index, at, path.len() as u32, slots);
+    step_schema(m);
+    Added::At(n)
+}
+
+// The allowance that would be passed with n bytes of text in place of `gone` that are held, 0 for none.
+fn other_passes(m: &[u8], gone: u64, n: u64) -> u32
+    requires { ⌜ Good (now m) × (gone ≤ headerOf (now m) .held) × (n ≤ 4096) ⌝ }
+    ensures { λ r. ⌜ r ≡ orZero (passedBy (allowancesOf (now (m .entry))) (headerOf (now (m .entry)) .guids) (headerOf (now (m .entry)) .groups) (headerOf (now (m .entry)) .fields) (headerOf (now (m .entry)) .held - gone + n)) ⌝ }
+{
+    let text = held(m) as u64 - gone + n;
+    passed(m, guids(m) as u64, groups(m) as u64, fields(m) as u64, text)
+}
+
+// Group e lets go of its path where there is no room for n bytes beside it. As this makes the indexes again, it keeps it else.
+fn let_go(m: &mut [u8], e: u32, n: u64)
+    requires { ⌜ Fits (now m) e n ⌝ }
+    ensures { λ _. ⌜ Freed (now (m .entry)) (now (m .exit)) e n ⌝ }
+{
+    if held(m) as u64 + n <= text_allowed(m) as u64 {
+        return;
+    }
+    let index = group_index(m, e);
+    set_group(m, e, index, 0, 0, 0);
+}
+
+// Writes the path that group e is to have, and answers where it stands.
+fn put_path(m: &mut [u8], e: u32, path: &[u8]) -> u32
+    requires { ⌜ Fits (now m) e (length (now path)) ⌝ }
+    ensures { λ a. ⌜ Given (now (m .entry)) (now (path .entry)) (now (m .exit)) e a ⌝ }
+{
+    let_go(m, e, path.len() as u64);
+    keep_text(m, path)
+}
+
+// Group e takes this path and index, and grows.
+fn rename_group(m: &mut [u8], e: u32, path: &[u8], index: u32, slots: u32) -> Added
+    requires { ⌜ Asked (now m) (now path) e index slots ⌝ }
+    ensures { λ r. ⌜ AddedBy (merging (held (now (m .entry))) e (now (path .entry)) index slots) (now (m .entry)) (now (m .exit)) r ⌝ }
+{
+    let gone = group_path(m, e).len() as u64;
+    let which = other_passes(m, gone, path.len() as u64);
+    if which != 0 {
+        return Added::Refused(full(which));
+    }
+    let at = put_path(m, e, path);
+    set_group(m, e, index, at, path.len() as u32, slots);
+    step_schema(m);
+    Added::At(e)
+}
+
+// Whether group e has this path and this index.
+fn is_named(m: &[u8], e: u32, path: &[u8], index: u32) -> bool
+    requires { ⌜ Good (now m) ⌝ }
+    ensures { λ r. ⌜ r ≡ (same (now (path .entry)) (placeOr (λ (g : Group). g .path) [] (held (now (m .entry)) .groups) e) && eqb index (placeOr (λ (g : Group). g .index) 0 (held (now (m .entry)) .groups) e)) ⌝ }
+{
+    if same(path, group_path(m, e)) {
+        return index == group_index(m, e);
+    }
+    false
+}
+
+// Group e is merged. Where it has this path and index already, it only grows, and its place in the indexes stays.
+fn merge_group(m: &mut [u8], e: u32, path: &[u8], index: u32, slots: u32) -> Added
+    requires { ⌜ Asked (now m) (now path) e index slots ⌝ }
+    ensures { λ r. ⌜ AddedBy (merging (held (now (m .entry))) e (now (path .entry)) index slots) (now (m .entry)) (now (m .exit)) r ⌝ }
+{
+    if is_named(m, e, path, index) {
+        grow_group(m, e, slots);
+        step_schema(m);
+        return Added::At(e);
+    }
+    rename_group(m, e, path, index, slots)
+}
+
+// The bytes of the texts of group e: its path and the names of its fields.
+fn group_text(m: &[u8], e: u32) -> u64
+    requires { ⌜ Good (now m) × (e < headerOf (now m) .groups) ⌝ }
+    ensures { λ r. ⌜ r ≡ groupText (groupAt (held (now (m .entry))) e) ⌝ }
+{
+    let n = group_slots(m, e);
+    let mut total = group_path(m, e).len() as u64;
+    let mut q: u32 = 0;
+    while q < n {
+        total += field_name(m, e, q).len() as u64;
+        q += 1;
+    }
+    total
+}
+
+// Group e is replaced, and its fields go; what its texts take is known before, as a refusal leaves everything.
+fn replace_at(m: &mut [u8], e: u32, path: &[u8], index: u32, slots: u32) -> Added
+    requires { ⌜ Asked (now m) (now path) e index slots ⌝ }
+    ensures { λ r. ⌜ AddedBy (replacing (held (now (m .entry))) e (newGroup (now (path .entry)) index slots)) (now (m .entry)) (now (m .exit)) r ⌝ }
+{
+    let gone = group_text(m, e);
+    let which = other_passes(m, gone, path.len() as u64);
+    if which != 0 {
+        return Added::Refused(full(which));
+    }
+    drop_fields(m, e);
+    let at = put_path(m, e, path);
+    replace_group(m, e, index, at, path.len() as u32, slots);
+    step_schema(m);
+    step_replaced(m);
+    Added::At(e)
+}
+
+// Group e has the path. It is merged, unless another has the index.
+fn merge_at(m: &mut [u8], e: u32, path: &[u8], index: u32, slots: u32) -> Added
+    requires { ⌜ Found (now m) (now path) e slots ⌝ }
+    ensures { λ r. ⌜ AddedBy (addGroupAt (now (path .entry)) index slots (held (now (m .entry))) (some e) (indexPlace index (held (now (m .entry)) .groups))) (now (m .entry)) (now (m .exit)) r ⌝ }
+{
+    match find_index(m, index) {
+        Entry::At(j) => {
+            if e == j {
+                return merge_group(m, e, path, index, slots);
+            }
+            Added::Refused(Refusal {
+                number: CROSSED_IDENTITY,
+                a: index as u64,
+                b: 0,
+            })
+        }
+        Entry::Nowhere => merge_group(m, e, path, index, slots),
+    }
+}
+
+// No group has the path. The one that has the index is replaced; else there is a group more.
+fn add_unknown(m: &mut [u8], path: &[u8], index: u32, slots: u32) -> Added
+    requires { ⌜ Good (now m) × IsText (now path) × (slots ≤ 65536) ⌝ }
+    ensures { λ r. ⌜ AddedBy (addGroupAt (now (path .entry)) index slots (held (now (m .entry))) none (indexPlace index (held (now (m .entry)) .groups))) (now (m .entry)) (now (m .exit)) r ⌝ }
+{
+    match find_index(m, index) {
+        Entry::At(j) => replace_at(m, j, path, index, slots),
+        Entry::Nowhere => append_group(m, path, index, slots),
+    }
+}
+
+// Answers the group's place. Every adding that is accepted steps the schema generation.
+pub fn add_export_group(m: &mut [u8], path: &[u8], index: u32, slots: u32) -> Added
+    requires { ⌜ Good (now m) × IsText (now path) × (slots ≤ 65536) ⌝ }
+    ensures { λ r. ⌜ AddedBy (addGroup (now (path .entry)) index slots (held (now (m .entry)))) (now (m .entry)) (now (m .exit)) r ⌝ }
+{
+    match find_path_place(m, path) {
+        Entry::At(e) => merge_at(m, e, path, index, slots),
+        Entry::Nowhere => add_unknown(m, path, index, slots),
+    }
+}

@@ -1,0 +1,157 @@
+-- How an exported call comes to its contract: what it meets at the door, and what the call behind the door makes of the memory.
+use mathlib.Core.Path.{_≡_, refl, sym, ap, subst, _∙_}
+use mathlib.Core.Bool.{Bool, true, false, true≢false}
+use mathlib.Core.List.{List}
+use Prim.Native.Nat.{ℕ, _<_, _≤_}
+use native.Mathlib.Omega.{arith}
+use borrow.Author.Tests.{lt-ltb, le-ltb}
+use Rattle.vrf_bitio.specs.BitsLaws.{Bytes}
+use Rattle.vrf_bitio.specs.declared.Refusal.{Refusal}
+use Rattle.vrf_text.specs.Text.{IsText, CallerText, accepted, refusal, callerText}
+use Rattle.vrf_text.specs.Answers.{CallerAnswer}
+use Rattle.vrf_text.specs.declared.Caller.{Caller}
+use Rattle.vrf_text.specs.declared.Caller.the-variants.{Accepted, Refused as NotAccepted}
+use Rattle.vrf_text.specs.TextLaws.{callerText-text}
+use Rattle.vrf_model.specs.Setting.{Step, done, addGroup}
+use Rattle.vrf_model.specs.Calls.{Call, add-export-group, Answer, refusal-of, acted, field-placed, at-place, Result, only, ofStep, onText, addDirectly, run, runBook}
+use Rattle.vrf_model.specs.Answers.{refusalOf, actedOf, addedOf, placedOf}
+use Rattle.vrf_model.specs.declared.Acted.{Acted}
+use Rattle.vrf_model.specs.declared.Acted.the-variants.{Done, Refused as NotActed}
+use Rattle.vrf_model.specs.declared.Added.{Added}
+use Rattle.vrf_model.specs.declared.Added.the-variants.{At, Refused as NotAdded}
+use Rattle.vrf_model.specs.declared.Placed.{Placed}
+use Rattle.vrf_model.specs.declared.Placed.the-variants.{Placed as IsPlaced, NotPlaced, Refused as PlaceRefused}
+use Rattle.vrf_store.specs.Store.{bookOf}
+use Rattle.vrf_store.specs.Check.{check}
+use Rattle.vrf_store.specs.Good.{Good, good-check, check-good}
+use Rattle.vrf_store.specs.Stepped.{held}
+use Rattle.vrf_cache.specs.Taken.{Holds, Taken, NotTaken, ActedBy, AddedBy, PlacedBy}
+use Rattle.vrf_cache.specs.TakenLaws.{unmoved}
+use Rattle.vrf_schema.specs.Called.{Called}
+
+-- 2 where the book fails its check, then what the text meets
+abbrev pub met : Bool → CallerText → CallerText
+met true x = x
+met false x = refusal 2 0 0
+
+-- what the door answers to a call on the memory m whose text meets x
+pub record Met (m : List ℕ) (x : CallerText) (d : Caller) : Type 0 where
+  pub answer : CallerAnswer (met (check m) x) d
+
+-- ---- what a call left
+
+-- the door's argument, said once: the check passed, and the memory holds what the call makes
+called : {k : Call} {m m′ : List ℕ} (x : Result) {r : Answer} → check m ≡ true → run k (held m) ≡ x → Holds m m′ (x .content) (x .counted) → r ≡ x .answer → Called k m m′ r
+unfolding bookOf runBook
+called x good e h a = record {
+  spoiled = λ s. absurd (true≢false (sym good ∙ s));
+  ran = λ _. record {
+    accepted = good-check (h .good);
+    book = cc (e, h .content, h .counters);
+    answer = a ∙ ap (λ (z : Result). z .answer) (sym e);
+    long = h .long;
+  };
+}
+
+-- ---- what a call meets
+
+pub no-refusal : {A : Type 0} {n a b : ℕ} → accepted ≡ refusal n a b → A
+no-refusal e = let z : _≡_ {A = ℕ} 0 1 = cc in absurd (omega arith)
+
+-- a text comes after the book
+module _ {m : List ℕ} {d : Caller} (a : Met m accepted d) where
+  pub book-refused : {x : CallerText} {r : Refusal} → d ≡ NotAccepted r → Met m x (NotAccepted r)
+  book-refused {x} {r} same = record { answer = by (check m) (subst (CallerAnswer (met (check m) accepted)) same (a .answer)) }
+    where
+      by : (b : Bool) → met b accepted ≡ refusal (r .number) (r .a) (r .b) → met b x ≡ refusal (r .number) (r .a) (r .b)
+      by false n = n
+      by true n = no-refusal n
+
+  pub book-accepted : {x : CallerText} {r : Caller} → d ≡ Accepted → CallerAnswer x r → Met m x r
+  book-accepted {x} {r} same t = record { answer = by (check m) (subst (CallerAnswer (met (check m) accepted)) same (a .answer)) }
+    where
+      by : (b : Bool) → met b accepted ≡ accepted → CallerAnswer (met b x) r
+      by true n = t
+      by false n = no-refusal (sym n)
+
+-- the answer of a call whose book fails the check
+pub spoiled-book : {k : Call} {m : List ℕ} {r : Answer} → check m ≡ false → r ≡ refusal-of 2 0 0 → Called k m m r
+spoiled-book s a = record { spoiled = λ _. record { answer = a; kept = refl }; ran = λ t. absurd (true≢false (sym t ∙ s)) }
+
+-- of a call that the door refused
+pub turned-away : {k : Call} {m : List ℕ} {x : CallerText} {d : Caller} {r : Refusal} (q : Result) → Bytes m → Met m x d → d ≡ NotAccepted r → run k (held m) ≡ onText (held m) x q → Called k m m (refusalOf r)
+unfolding onText only
+turned-away {k} {m} {x} {d} {r} q bytes a same e = by (check m) refl (subst (CallerAnswer (met (check m) x)) same (a .answer))
+  where
+    by : (b : Bool) → check m ≡ b → met b x ≡ refusal (r .number) (r .a) (r .b) → Called k m m (refusalOf r)
+    by false s n = spoiled-book s (cc)
+    by true s n = called (only (held m) (refusalOf r)) s (e ∙ ap (λ (y : CallerText). onText (held m) y q) n) (unmoved (check-good m s) bytes) refl
+
+-- a call that the door let in
+pub record Admitted (m : List ℕ) (x : CallerText) : Type 0 where
+  pub checked : check m ≡ true
+  pub text : x ≡ accepted
+
+-- a call without a text, where the check alone was asked
+pub checked : {m : List ℕ} → check m ≡ true → Admitted m accepted
+checked e = record { checked = e; text = refl }
+
+pub admitted : {m : List ℕ} {x : CallerText} {d : Caller} → Met m x d → d ≡ Accepted → Admitted m x
+admitted {m} {x} a same = by (check m) refl (subst (CallerAnswer (met (check m) x)) same (a .answer))
+  where
+    by : (b : Bool) → check m ≡ b → met b x ≡ accepted → Admitted m x
+    by false s n = no-refusal (sym n)
+    by true s n = record { checked = s; text = n }
+
+pub admitted-good : {m : List ℕ} {x : CallerText} {d : Caller} → Met m x d → d ≡ Accepted → Good m
+admitted-good {m} a same = check-good m (admitted a same .checked)
+
+pub admitted-text : {m t : List ℕ} {d : Caller} → Met m (callerText t) d → d ≡ Accepted → IsText t
+admitted-text {m} {t} a same = callerText-text t (admitted a same .text)
+
+-- ---- the answer of a call that it let in
+
+within : (k : Call) (q : Result) {m : List ℕ} {x : CallerText} → Admitted m x → run k (held m) ≡ onText (held m) x q → run k (held m) ≡ q
+unfolding onText
+within k q {m} a e = e ∙ ap (λ (y : CallerText). onText (held m) y q) (a .text)
+
+module _ {k : Call} {m : List ℕ} {x : CallerText} (a : Admitted m x) where
+  -- a lookup
+  pub looked : {r v : Answer} → Bytes m → r ≡ v → run k (held m) ≡ onText (held m) x (only (held m) v) → Called k m m r
+  unfolding only
+  looked {r} {v} bytes same e = called (only (held m) v) (a .checked) (within k _ a e) (unmoved (check-good m (a .checked)) bytes) same
+
+  -- a step
+  module _ {A : Type 0} (f : A → Answer) {s : Step A} (e : run k (held m) ≡ onText (held m) x (ofStep f (held m) s)) {m′ : List ℕ} where
+    taken : {v : A} → Taken s v m m′ → Called k m m′ (f v)
+    unfolding ofStep
+    taken {v} t = called (ofStep f (held m) (done v (t .content) (t .counted))) (a .checked) (within k _ a e ∙ ap (ofStep f (held m)) (t .step)) (t .holds) refl
+
+    not-taken : {r : Refusal} → Bytes m → NotTaken s r m m′ → Called k m m′ (refusalOf r)
+    unfolding ofStep only
+    not-taken {r} bytes t = subst (λ (y : List ℕ). Called k m y (refusalOf r)) (sym (t .same)) (called (only (held m) (refusalOf r)) (a .checked) (within k _ a e ∙ ap (ofStep f (held m)) (t .step)) (unmoved (check-good m (a .checked)) bytes) refl)
+
+-- a step by what the code answered
+module _ {k : Call} {m : List ℕ} {x : CallerText} (a : Admitted m x) (bytes : Bytes m) {m′ : List ℕ} where
+  pub acted-by : (s : Step (Unit {0})) (r : Acted) → ActedBy s m m′ r → run k (held m) ≡ onText (held m) x (ofStep (λ u. acted) (held m) s) → Called k m m′ (actedOf r)
+  acted-by s Done t e = taken a (λ u. acted) e t
+  acted-by s (NotActed r) t e = not-taken a (λ u. acted) e bytes t
+
+  pub added-by : (s : Step ℕ) (r : Added) → AddedBy s m m′ r → run k (held m) ≡ onText (held m) x (ofStep at-place (held m) s) → Called k m m′ (addedOf r)
+  added-by s (At i) t e = taken a at-place e t
+  added-by s (NotAdded r) t e = not-taken a at-place e bytes t
+
+  pub placed-by : (s : Step Bool) (r : Placed) → PlacedBy s m m′ r → run k (held m) ≡ onText (held m) x (ofStep field-placed (held m) s) → Called k m m′ (placedOf r)
+  placed-by s IsPlaced t e = taken a field-placed e t
+  placed-by s NotPlaced t e = taken a field-placed e t
+  placed-by s (PlaceRefused r) t e = not-taken a field-placed e bytes t
+
+-- a direct adding: 22 before the step
+module _ {path : List ℕ} {index slots : ℕ} {m : List ℕ} (a : Admitted m (callerText path)) (bytes : Bytes m) where
+  pub too-many : 65536 < slots → Called (add-export-group path index slots) m m (refusal-of 22 slots 0)
+  unfolding run onText ofStep addDirectly
+  too-many h = looked a bytes refl (rw (lt-ltb 65536 slots h))
+
+  pub added-directly : {m′ : List ℕ} → slots ≤ 65536 → (r : Added) → AddedBy (addGroup path index slots (held m)) m m′ r → Called (add-export-group path index slots) m m′ (addedOf r)
+  unfolding run onText addDirectly
+  added-directly h r t = added-by a bytes (addGroup path index slots (held m)) r t (rw (le-ltb 65536 slots h))
