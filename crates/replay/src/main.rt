@@ -7,14 +7,15 @@ fn run(script: &mut [u8], memory: &mut [u8], out: &mut [u8]) {
 }
 
 // Whole arrays are lent as arrays first: their lengths then need no proof in `main`.
-fn lend(script: &mut [u8; 1_048_576], memory: &mut [u8; 1_114_112], out: &mut [u8; 1_048_576]) {
+fn lend(script: &mut [u8; 1_048_576], memory: &mut [u8; 4_194_304], out: &mut [u8; 1_048_576]) {
     run(script, memory, out);
 }
 
-// Together 3 MiB, well within the 8 MiB of a stack. The memory holds the longest text of the wire with a little around it.
+// Together 6 MiB, within the 8 MiB of a stack. The memory holds four books of some thousand records each, and behind them the longest text
+// of the wire with a little around it.
 fn main() {
     let mut script = [0u8; 1_048_576];
-    let mut memory = [0u8; 1_114_112];
+    let mut memory = [0u8; 4_194_304];
     let mut out = [0u8; 1_048_576];
     lend(&mut script, &mut memory, &mut out);
 }

@@ -1,2 +1,3 @@
--- What the player promises of places in a script: none is past its end.
+-- What the player promises of places in a script, and of the books in its memory: none is past the end.
+pub mod Areas
 pub mod Places

@@ -5,7 +5,7 @@ ghost use Prim.Native.Nat.{_≤_};
 ghost use lib.ListN.{length};
 
 // The place itself, or the end where it is past it.
-fn clipped(out: &[u8], to: usize) -> usize
+pub fn clipped(out: &[u8], to: usize) -> usize
     ensures { λ r. ⌜ r ≤ length (now (out .entry)) ⌝ }
 {
     if to < out.len() { to } else { out.len() }

@@ -26,6 +26,18 @@ impl Run {
         }
     }
 
+    // Ends the line that was written up to a place.
+    pub fn ended(self, out: &mut [u8], to: usize) -> Run
+        ensures { λ r. ⌜ r .to ≤ length (now (out .entry)) ⌝ }
+    {
+        Run {
+            call: self.call,
+            at: self.at,
+            to: answer::end(out, to),
+            over: self.over,
+        }
+    }
+
     // Writes a line of the call.
     pub fn line(self, out: &mut [u8], text: &[u8]) -> Run
         ensures { λ r. ⌜ r .to ≤ length (now (out .entry)) ⌝ }

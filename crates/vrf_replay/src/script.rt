@@ -93,6 +93,18 @@ fn take_filled(s: &[u8], at: usize, n: usize) -> Blob
     Blob::Filled(from, from + head, n)
 }
 
+// The place behind a blob: behind the byte that fills it, where there is one.
+pub fn behind(s: &[u8], blob: Blob) -> usize
+    requires { ⌜ BlobIn (length (now s)) blob ⌝ }
+    ensures { λ r. ⌜ r ≤ length (now (s .entry)) ⌝ }
+{
+    match blob {
+        Blob::Here(_, e) => e,
+        Blob::Filled(_, e, _) => e + 1,
+        Blob::Cut => s.len(),
+    }
+}
+
 fn copy_in(dst: &mut [u8], src: &[u8])
     requires { ⌜ length (now src) ≤ length (now dst) ⌝ }
 {

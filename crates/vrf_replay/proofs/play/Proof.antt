@@ -1,15 +1,19 @@
-use borrow.Author.Needs.{needs}
+use Rattle.vrf_replay.specs.Areas.{total}
 use mathlib.Core.Path.{_≡_}
-use Prim.Native.Nat.{_-_, _≤_}
 use lib.ListN.{length}
+use borrow.Author.Needs.{needs}
+use Prim.Native.Nat.{_-_, _≤_}
 use Rattle.vrf_replay.proofs.play.Statement.{statement}
 use Rattle.vrf_replay.proofs.play.Tie as tie
 
 abbrev Inv-loop : tie.InvT-loop
-Inv-loop script memory₀ out₀ to₀ at₀ call₀ call-end memory out to at call = (call ≤ call-end) × (to ≤ length out) × (length out ≡ length out₀) × (length memory ≡ length memory₀)
+Inv-loop script memory₀ out₀ to₀ at₀ books₀ call₀ call-end memory out to at books call = (call ≤ call-end) × (to ≤ length out) × (length out ≡ length out₀) × (length memory ≡ length memory₀) × (total books ≤ length memory)
 
 abbrev μ-loop : tie.MeasureT-loop
-μ-loop script memory₀ out₀ to₀ at₀ call₀ call-end memory out to at call = call-end - call
+μ-loop script memory₀ out₀ to₀ at₀ books₀ call₀ call-end memory out to at books call = call-end - call
+
+unopened-requires : tie.Need-unopened-requires Inv-loop μ-loop
+unopened-requires c κs = search needs
 
 word-at-requires : tie.Need-word-at-requires Inv-loop μ-loop
 word-at-requires c κs = search needs
@@ -71,6 +75,7 @@ play-spec =
     (tie.spec
     Inv-loop
     μ-loop
+    unopened-requires
     word-at-requires
     cut-requires
     same-length

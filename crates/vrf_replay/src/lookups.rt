@@ -1,0 +1,148 @@
+// The calls that ask a book and change nothing.
+use crate::answer;
+use crate::given::Call;
+use vrf_bitio::Refusal;
+use vrf_model::Found;
+use vrf_model::Number;
+use vrf_schema::Counted;
+use vrf_store::counters::Counters;
+ghost use Prim.Native.Nat.{_≤_};
+ghost use lib.ListN.{length};
+
+// What is found, after a word that says what it is.
+fn found(answer: Found, what: &[u8], out: &mut [u8], to: usize) -> usize
+    ensures { λ r. ⌜ r ≤ length (now (out .entry)) ⌝ }
+{
+    match answer {
+        Found::At(n) => {
+            let said = answer::word(out, to, what);
+            answer::number(out, said, n as u64)
+        }
+        Found::Absent => answer::word(out, to, b"absent"),
+        Found::Refused(r) => answer::refusal(out, to, r),
+    }
+}
+
+fn labelled(what: &[u8], n: u64, out: &mut [u8], to: usize) -> usize
+    ensures { λ r. ⌜ r ≤ length (now (out .entry)) ⌝ }
+{
+    let said = answer::word(out, to, what);
+    answer::number(out, said, n)
+}
+
+fn number(what: &[u8], answer: Number, out: &mut [u8], to: usize) -> usize
+    ensures { λ r. ⌜ r ≤ length (now (out .entry)) ⌝ }
+{
+    match answer {
+        Number::Is(n) => labelled(what, n as u64, out, to),
+        Number::Refused(r) => answer::refusal(out, to, r),
+    }
+}
+
+// A text of the book, or the refusal that stands beside it: its details are zeros.
+fn titled(what: &[u8], text: &[u8], refused: u32, out: &mut [u8], to: usize) -> usize
+    ensures { λ r. ⌜ r ≤ length (now (out .entry)) ⌝ }
+{
+    if refused != 0 {
+        let r = Refusal {
+            number: refused,
+            a: 0,
+            b: 0,
+        };
+        return answer::refusal(out, to, r);
+    }
+    let said = answer::word(out, to, what);
+    answer::quoted(out, said, text)
+}
+
+pub fn group(book: &[u8], place: u32, out: &mut [u8], to: usize) -> usize
+    ensures { λ r. ⌜ r ≤ length (now (out .entry)) ⌝ }
+{
+    let mut refused: u32 = 0;
+    let path = vrf_schema::lookups::group_path(book, place, &mut refused);
+    let said = titled(b"path ", path, refused, out, to);
+    let indexed = number(
+        b" index ",
+        vrf_schema::lookups::group_index(book, place),
+        out,
+        said,
+    );
+    number(
+        b" slots ",
+        vrf_schema::lookups::group_slots(book, place),
+        out,
+        indexed,
+    )
+}
+
+pub fn name(what: &[u8], book: &[u8], place: u32, slot: u32, out: &mut [u8], to: usize) -> usize
+    ensures { λ r. ⌜ r ≤ length (now (out .entry)) ⌝ }
+{
+    let mut refused: u32 = 0;
+    let text = vrf_schema::lookups::field_name(book, place, slot, &mut refused);
+    titled(what, text, refused, out, to)
+}
+
+pub fn guid(book: &[u8], place: u32, out: &mut [u8], to: usize) -> usize
+    ensures { λ r. ⌜ r ≤ length (now (out .entry)) ⌝ }
+{
+    let mut refused: u32 = 0;
+    let path = vrf_schema::lookups::guid_path(book, place, &mut refused);
+    titled(b"path ", path, refused, out, to)
+}
+
+fn all(n: Counters, out: &mut [u8], to: usize) -> usize
+    ensures { λ r. ⌜ r ≤ length (now (out .entry)) ⌝ }
+{
+    let schema = labelled(b"counters schema ", n.schema, out, to);
+    let guid = labelled(b" guid ", n.guid, out, schema);
+    let dropped = labelled(b" dropped ", n.dropped, out, guid);
+    let replaced = labelled(b" replaced ", n.replaced, out, dropped);
+    labelled(b" renamed ", n.renamed, out, replaced)
+}
+
+fn counters(answer: Counted, out: &mut [u8], to: usize) -> usize
+    ensures { λ r. ⌜ r ≤ length (now (out .entry)) ⌝ }
+{
+    match answer {
+        Counted::Are(n) => all(n, out, to),
+        Counted::Refused(r) => answer::refusal(out, to, r),
+    }
+}
+
+// The lookups that answer a place.
+fn place(book: &[u8], call: Call, text: &[u8]) -> Found {
+    match call {
+        Call::GroupByIndex(index) => vrf_schema::lookups::get_group_by_index(book, index),
+        Call::GroupByPath => vrf_schema::lookups::get_group_by_path(book, text),
+        Call::PathByGuid(guid) => vrf_schema::lookups::get_path_by_guid(book, guid),
+        Call::OuterPath(guid) => vrf_schema::lookups::get_outer_path(book, guid),
+        Call::TagName(tag) => vrf_schema::lookups::get_gameplay_tag_name(book, tag),
+        Call::LeafMatch => vrf_schema::lookups::unique_leaf_match(book, text),
+        Call::ResolveInstance => vrf_schema::lookups::resolve_cnc_for_instance_name(book, text),
+        Call::ClassNetCacheKey => vrf_schema::lookups::find_class_net_cache_key(book, text),
+        _ => Found::Absent,
+    }
+}
+
+pub fn say(book: &[u8], call: Call, text: &[u8], out: &mut [u8], to: usize) -> usize
+    ensures { λ r. ⌜ r ≤ length (now (out .entry)) ⌝ }
+{
+    match call {
+        Call::OuterGuid(guid) => found(
+            vrf_schema::lookups::get_outer_guid(book, guid),
+            b"guid ",
+            out,
+            to,
+        ),
+        Call::Field(place, slot) => {
+            let answer = vrf_schema::lookups::get_field(book, place, slot);
+            found(answer, b"checksum ", out, to)
+        }
+        Call::GroupAt(place) => group(book, place, out, to),
+        Call::NameAt(place, slot) => name(b"name ", book, place, slot, out, to),
+        Call::GuidPathAt(place) => guid(book, place, out, to),
+        Call::Counters => counters(vrf_schema::lookups::get_counters(book), out, to),
+        _ => found(place(book, call, text), b"place ", out, to),
+    }
+}
