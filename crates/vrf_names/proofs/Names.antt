@@ -1,34 +1,18 @@
 -- What the functions that render names need.
-use mathlib.Core.Path.{_≡_, sym, _∙_, refl}
-use mathlib.Core.List.{List, [], _∷_, _++_}
+use mathlib.Core.Path.{_≡_, sym, _∙_}
+use mathlib.Core.List.{List, [], _∷_, _++_, append-assoc}
 use Prim.Native.Nat.{ℕ, suc, _+_, _/_, _%_, _<_, _≤_}
-use native.Mathlib.Nat.{add-zero, zero-add}
-use native.Mathlib.Numerals.{add-one}
 use native.Mathlib.Omega.{arith}
 use lib.IntN.{ℤ}
-use lib.ListN.{length, getD, drop, set, drop-of-length-le, length-append, length-set}
-use lib.Seq.{drop-cons}
+use lib.ListN.{length, take, drop, set, length-append, length-set}
+use lib.Seq.{length-take-le}
 use Rattle.vrf_bitio.specs.Pasted.{pasted}
 use Rattle.vrf_names.specs.Names.{decimal, suffix, rendered}
 use Rattle.vrf_names.specs.Answers.{suffixText}
 use Rattle.vrf_names.specs.NamesLaws.{decimal-one, decimal-more, more-length}
-use Rattle.vrf_bitio.specs.PastedLaws.{pasted-nil, pasted-cons, pasted-snoc, pasted-append, pasted-front}
+use Rattle.vrf_bitio.specs.PastedLaws.{pasted-nil, pasted-cons, pasted-snoc, pasted-front}
 use Rattle.vrf_names.specs.declared.Suffix.{Suffix}
 use Rattle.vrf_names.specs.declared.Suffix.the-variants.{Empty, Plain, Minus}
-
--- a text put into a buffer: what is left of it, from place i on
-module _ (text out : List ℕ) (at i : ℕ) where
-  pub text-begun : pasted out at text ≡ pasted out (at + 0) (drop 0 text)
-  text-begun = rw add-zero
-
-  pub text-next : i < length text → at + i < length out → pasted out (at + i) (drop i text) ≡ pasted (set out (at + i) (getD text i 0)) (at + (i + 1)) (drop (i + 1) text)
-  text-next hi ho =
-      let n : at + (i + 1) ≡ at + i + 1 = omega arith in
-      let c : drop i text ≡ getD text i 0 ∷ drop (i + 1) text = rw add-one (drop-cons text i 0 hi) in
-      rw (n, c) (pasted-cons out (at + i) (getD text i 0) (drop (i + 1) text) ho)
-
-  pub text-ended : length text ≤ i → pasted out (at + i) (drop i text) ≡ out
-  text-ended h = rw (drop-of-length-le text h) (pasted-nil out (at + i))
 
 -- a number put into a buffer: what is left of it, its last digit at place end
 module _ (out : List ℕ) (at rest end : ℕ) (e : end + 1 ≡ at + length (decimal rest)) (h : end < length out) where
@@ -71,15 +55,12 @@ module _ (out : List ℕ) (at : ℕ) {s : Suffix} where
 pub put-front : (out t : List ℕ) {o : List ℕ} {n : ℕ} → n ≡ length t → o ≡ pasted out 0 t → o ≡ t ++ drop n out
 put-front out t en eo = eo ∙ pasted-front out t ∙ rw en
 
--- a base text and what its number adds
-module _ (base out : List ℕ) (z : ℤ) (s : Suffix) (e : suffixText s ≡ suffix z) {r : ℕ} (er : r ≡ length (suffixText s)) where
-  pub rendered-length : length base + r ≡ length (rendered base z)
+-- a base text at the front of a buffer, and what its number adds
+module _ (out : List ℕ) (n : ℕ) (base : n ≤ length out) (z : ℤ) (s : Suffix) (e : suffixText s ≡ suffix z) {r : ℕ} (er : r ≡ length (suffixText s)) where
+  pub rendered-length : n + r ≡ length (rendered (take n out) z)
   unfolding rendered
-  rendered-length = rw (er, e) (sym (length-append base (suffix z)))
+  rendered-length = rw (er, e, length-append, length-take-le n out base)
 
-  pub put-rendered : length base + r ≤ length out → {o p : List ℕ} → o ≡ pasted out 0 base → p ≡ pasted o (length base) (suffixText s) → p ≡ rendered base z ++ drop (length base + r) out
-  unfolding rendered
-  put-rendered h eo ep = put-front out (base ++ suffix z) rendered-length (ep ∙ rw (eo, e) both)
-    where
-      both : pasted (pasted out 0 base) (length base) (suffix z) ≡ pasted out 0 (base ++ suffix z)
-      both = rw zero-add at (pasted-append base (suffix z) out 0 (0 + length base) refl (omega arith))
+  pub put-rendered : {p : List ℕ} → p ≡ pasted out n (suffixText s) → p ≡ rendered (take n out) z ++ drop (n + r) out
+  unfolding rendered pasted
+  put-rendered ep = ep ∙ rw (er, e, append-assoc)

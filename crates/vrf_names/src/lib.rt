@@ -1,7 +1,7 @@
 // Rendered field names of document 01: an index in decimal, or a text with a signed number. Names follow export.rs.
 ghost use mathlib.Core.Path.{_≡_};
 ghost use Prim.Native.Nat.{_+_, _-_, _<_, _≤_};
-ghost use lib.ListN.{length, getD};
+ghost use lib.ListN.{length, take};
 ghost use Rattle.vrf_bitio.specs.Pasted.{pasted};
 ghost use Rattle.vrf_names.specs.Names.{decimal, suffix, rendered};
 ghost use Rattle.vrf_names.specs.Answers.{suffixText, RenderedAnswer};
@@ -18,18 +18,6 @@ pub enum Rendered {
     Length(usize),
     TooLong(usize),
     Short,
-}
-
-// Writes a text into a buffer, from a place on.
-fn put_text(text: &[u8], out: &mut [u8], at: usize)
-    requires { ⌜ at + length (now text) ≤ length (now out) ⌝ }
-    ensures { λ _. ⌜ now (out .exit) ≡ pasted (now (out .entry)) at (now (text .entry)) ⌝ }
-{
-    let mut i = 0;
-    while i < text.len() {
-        out[at + i] = text[i];
-        i += 1;
-    }
 }
 
 // How many digits a number has.
@@ -115,12 +103,12 @@ fn put_suffix(s: Suffix, out: &mut [u8], at: usize)
     }
 }
 
-// A base text with its number, at the front of a buffer.
-pub fn render_fname(base: &[u8], number: i32, out: &mut [u8]) -> Rendered
-    ensures { λ r. ⌜ RenderedAnswer (rendered (now (base .entry)) number) (now (out .entry)) (now (out .exit)) r ⌝ }
+// The base text of n bytes at the front of a buffer gets its number behind it, as the Rust's String does.
+pub fn render_fname(out: &mut [u8], n: usize, number: i32) -> Rendered
+    requires { ⌜ n ≤ length (now out) ⌝ }
+    ensures { λ r. ⌜ RenderedAnswer (rendered (take n (now (out .entry))) number) (now (out .entry)) (now (out .exit)) r ⌝ }
 {
     let s = suffix_of(number);
-    let n = base.len();
     let len = n + suffix_len(s);
     if 4096 < len {
         return Rendered::TooLong(len);
@@ -128,7 +116,6 @@ pub fn render_fname(base: &[u8], number: i32, out: &mut [u8]) -> Rendered
     if out.len() < len {
         return Rendered::Short;
     }
-    put_text(base, out, 0);
     put_suffix(s, out, n);
     Rendered::Length(len)
 }

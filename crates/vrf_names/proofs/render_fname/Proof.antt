@@ -18,13 +18,12 @@ add-len : tie.Need-add-len
 add-len c = search needs
 
 returns : tie.Need-returns
-returns c = (rendered-length (now (c .before .before .before .before .before .args .base)) (now (c .before .before .before .before .before .args .out)) (c .before .before .before .before .before .args .number) (c .before .before .suffix-of .result) (as-passed (c .before .before .before .before .before .args .number) (c .before .before .before .before .before .fits .number) (c .before .before .suffix-of .ensures)) (c .before .suffix-len .ensures .0), c .if1 .taken, refl)
+returns c = (rendered-length (now (c .before .before .before .before .args .out)) (c .before .before .before .before .args .n) (c .before .before .before .before .pre) (c .before .before .before .before .args .number) (c .before .before .suffix-of .result) (as-passed (c .before .before .before .before .args .number) (c .before .before .before .before .fits .number) (c .before .before .suffix-of .ensures)) (c .before .suffix-len .ensures .0), c .if1 .taken, refl)
 
 returns-2 : tie.Need-returns-2
-returns-2 c = (omega (arith, rendered-length (now (c .before .before .before .before .before .before .args .base)) (now (c .before .before .before .before .before .before .args .out)) (c .before .before .before .before .before .before .args .number) (c .before .before .before .suffix-of .result) (as-passed (c .before .before .before .before .before .before .args .number) (c .before .before .before .before .before .before .fits .number) (c .before .before .before .suffix-of .ensures)) (c .before .before .suffix-len .ensures .0)), omega (arith, rendered-length (now (c .before .before .before .before .before .before .args .base)) (now (c .before .before .before .before .before .before .args .out)) (c .before .before .before .before .before .before .args .number) (c .before .before .before .suffix-of .result) (as-passed (c .before .before .before .before .before .before .args .number) (c .before .before .before .before .before .before .fits .number) (c .before .before .before .suffix-of .ensures)) (c .before .before .suffix-len .ensures .0)), refl)
-
-put-text-requires : tie.Need-put-text-requires
-put-text-requires c κs = search needs
+returns-2 c =
+    let long = rendered-length (now (c .before .before .before .before .before .args .out)) (c .before .before .before .before .before .args .n) (c .before .before .before .before .before .pre) (c .before .before .before .before .before .args .number) (c .before .before .before .suffix-of .result) (as-passed (c .before .before .before .before .before .args .number) (c .before .before .before .before .before .fits .number) (c .before .before .before .suffix-of .ensures)) (c .before .before .suffix-len .ensures .0) in
+    (omega (arith, long), omega (arith, long), refl)
 
 put-suffix-requires : tie.Need-put-suffix-requires
 put-suffix-requires c κs = search needs
@@ -33,7 +32,7 @@ same-length : tie.Need-same-length
 same-length c = search needs
 
 returns-3 : tie.Need-returns-3
-returns-3 c = (rendered-length (now (c .before .before .before .before .before .before .before .before .before .before .before .before .before .before .args .base)) (now (c .before .before .before .before .before .before .before .before .before .before .before .before .before .before .args .out)) (c .before .before .before .before .before .before .before .before .before .before .before .before .before .before .args .number) (c .before .before .before .before .before .before .before .before .before .before .before .suffix-of .result) (as-passed (c .before .before .before .before .before .before .before .before .before .before .before .before .before .before .args .number) (c .before .before .before .before .before .before .before .before .before .before .before .before .before .before .fits .number) (c .before .before .before .before .before .before .before .before .before .before .before .suffix-of .ensures)) (c .before .before .before .before .before .before .before .before .before .before .suffix-len .ensures .0), omega arith, omega arith, put-rendered (now (c .before .before .before .before .before .before .before .before .before .before .before .before .before .before .args .base)) (now (c .before .before .before .before .before .before .before .before .before .before .before .before .before .before .args .out)) (c .before .before .before .before .before .before .before .before .before .before .before .before .before .before .args .number) (c .before .before .before .before .before .before .before .before .before .before .before .suffix-of .result) (as-passed (c .before .before .before .before .before .before .before .before .before .before .before .before .before .before .args .number) (c .before .before .before .before .before .before .before .before .before .before .before .before .before .before .fits .number) (c .before .before .before .before .before .before .before .before .before .before .before .suffix-of .ensures)) (c .before .before .before .before .before .before .before .before .before .before .suffix-len .ensures .0) (omega arith) (c .before .before .before .before .before .before .put-text .ensures) (c .before .before .put-suffix .ensures))
+returns-3 c = (rendered-length (now (c .before .before .before .before .before .before .before .before .before .args .out)) (c .before .before .before .before .before .before .before .before .before .args .n) (c .before .before .before .before .before .before .before .before .before .pre) (c .before .before .before .before .before .before .before .before .before .args .number) (c .before .before .before .before .before .before .before .suffix-of .result) (as-passed (c .before .before .before .before .before .before .before .before .before .args .number) (c .before .before .before .before .before .before .before .before .before .fits .number) (c .before .before .before .before .before .before .before .suffix-of .ensures)) (c .before .before .before .before .before .before .suffix-len .ensures .0), omega arith, omega arith, put-rendered (now (c .before .before .before .before .before .before .before .before .before .args .out)) (c .before .before .before .before .before .before .before .before .before .args .n) (c .before .before .before .before .before .before .before .before .before .pre) (c .before .before .before .before .before .before .before .before .before .args .number) (c .before .before .before .before .before .before .before .suffix-of .result) (as-passed (c .before .before .before .before .before .before .before .before .before .args .number) (c .before .before .before .before .before .before .before .before .before .fits .number) (c .before .before .before .before .before .before .before .suffix-of .ensures)) (c .before .before .before .before .before .before .suffix-len .ensures .0) (c .before .before .put-suffix .ensures))
 
 pub render-fname-spec : {M : Type 1} → statement M
 render-fname-spec =
@@ -44,7 +43,6 @@ render-fname-spec =
     add-len
     returns
     returns-2
-    put-text-requires
     put-suffix-requires
     same-length
     returns-3)
