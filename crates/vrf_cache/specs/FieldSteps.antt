@@ -47,7 +47,7 @@ setting c place slot checksum name = keep true (withField c place slot (filled c
 -- no counter moves where no name changes
 still : {m m′ : List ℕ} {c : Content} → Good m → Bytes m → Stepped m m′ c → Holds m m′ c (renamedStep 0)
 unfolding renamedStep none-counted
-still good b s = record { good = s .good; content = s .content; counters = s .counters ∙ unmoved good b .counters; long = s .long }
+still good b s = record { good = s .good; content = s .content; counters = s .counters ∙ unmoved good b .counters; long = s .long; literals = s .literals }
 
 -- ---- the slots of a good memory
 
@@ -280,7 +280,7 @@ module _ {m name : List ℕ} {e : ℕ} (checksum : ℕ) (asked : Known m name e)
 
 -- a field that finds no slot is dropped
 pub dropped : {m m′ : List ℕ} → Good m → Counted m m′ droppedStep → Taken (done false (held m) droppedStep) false m m′
-dropped {m} good k = record { content = held m; counted = droppedStep; step = refl; holds = counted-then (record { good = good; content = refl; counters = refl; long = refl }) k }
+dropped {m} good k = record { content = held m; counted = droppedStep; step = refl; holds = counted-then (record { good = good; content = refl; counters = refl; long = refl; literals = refl }) k }
 
 module _ (c : Content) (slot checksum : ℕ) (name : List ℕ) where
   pub set-unknown : (index : ℕ) → indexPlace index (c .groups) ≡ none → setField index slot checksum name c ≡ done false c droppedStep

@@ -136,7 +136,7 @@ module _ {m : List ℕ} {e n : ℕ} (x : Fits m e n) where
   pub still : headerOf m .held + n ≤ allowancesOf m .text → Freed m m e n
   still h =
       let own = groupAt (held m) e .path in
-      record { old = own; stepped = record { good = x .good; content = sym (same-group (held m) e (listed (x .good) (x .known)) (repath own) refl); counters = refl; long = refl }; room = h }
+      record { old = own; stepped = record { good = x .good; content = sym (same-group (held m) e (listed (x .good) (x .known)) (repath own) refl); counters = refl; long = refl; literals = refl }; room = h }
 
   -- the index of a group is found at the group
   own-index : (o : Option ℕ) → Passes (keyHit (storeOf m .groupRows) (key (storeOf m .groupRows) e)) (headerOf m .groups) o → Only e o

@@ -14,16 +14,17 @@ use Rattle.vrf_model.specs.declared.Added.{Added}
 use Rattle.vrf_model.specs.declared.Added.the-variants.{At, Refused as NotAdded}
 use Rattle.vrf_model.specs.declared.Placed.{Placed}
 use Rattle.vrf_model.specs.declared.Placed.the-variants.{Placed as IsPlaced, NotPlaced, Refused as PlaceRefused}
-use Rattle.vrf_store.specs.Store.{countersOf}
+use Rattle.vrf_store.specs.Store.{countersOf, storeOf}
 use Rattle.vrf_store.specs.Good.{Good}
 use Rattle.vrf_store.specs.Stepped.{held}
 
--- a good memory of the same length that holds c, with the counters gone up by t
+-- a good memory of the same length that holds c, with the counters gone up by t and the literals as they were
 pub record Holds (m m′ : List ℕ) (c : Content) (t : Tally) : Type 0 where
   pub good : Good m′
   pub content : held m′ ≡ c
   pub counters : countersOf m′ ≡ stepped (countersOf m) t
   pub long : length m′ ≡ length m
+  pub literals : storeOf m′ .literals ≡ storeOf m .literals
 
 -- the step s was taken, and answered a
 pub record Taken {A : Type 0} (s : Step A) (a : A) (m m′ : List ℕ) : Type 0 where

@@ -98,7 +98,7 @@ module _ {s : Store} (v : Valid s) where
 
 -- ---- a memory
 
-words-length : (m : List ℕ) (i n : ℕ) → 4 * (i + n) ≤ length m → length (words m i n) ≡ 4 * n
+pub words-length : (m : List ℕ) (i n : ℕ) → 4 * (i + n) ≤ length m → length (words m i n) ≡ 4 * n
 unfolding words
 words-length m i n h = length-part m (4 * i) (4 * n) (omega arith)
 

@@ -212,6 +212,7 @@ module _ (m : List ℕ) (good : Good m) where
               middle (Layout.leafLinksAt a) (a .groups) (omega (arith, good .valid .header .groups)) (omega arith),
               middle (Layout.leafHeadsAt a) (Layout.groupBuckets a) (omega (arith, good .valid .header .groups)) (omega arith),
               outside (Layout.fieldHeadsAt a) (Layout.fieldBuckets a) (above (omega (arith, good .valid .header .guids))) (above (omega (arith, good .valid .header .groups))) (above (omega (arith, good .valid .header .fields))) (omega arith),
+              outside (Layout.literalsAt a) (a .literals) (above (omega (arith, good .valid .header .guids))) (above (omega (arith, good .valid .header .groups))) (above (omega (arith, good .valid .header .fields))) (omega arith),
             )
 
         abbrev m′ : List ℕ

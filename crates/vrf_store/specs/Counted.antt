@@ -48,7 +48,7 @@ module _ {m m′ : List ℕ} {t : Tally} (k : Counted m m′ t) where
   }
 
 -- one step after the other
-stepped-both : (c s t : Tally) → stepped (stepped c s) t ≡ stepped c (tallied s t)
+pub stepped-both : (c s t : Tally) → stepped (stepped c s) t ≡ stepped c (tallied s t)
 unfolding stepped tallied
 stepped-both c s t = rw (both (c .schema) (s .schema) (t .schema), both (c .guid) (s .guid) (t .guid), both (c .dropped) (s .dropped) (t .dropped), both (c .replaced) (s .replaced) (t .replaced), both (c .renamed) (s .renamed) (t .renamed))
   where
@@ -76,7 +76,7 @@ counted-clearing a b = counted-both a b
 
 module _ (m : List ℕ) (b : Bytes m) (room : 128 ≤ length m) where
   -- a counter has 64 bits, so those that no step moves stay
-  stays : (i : ℕ) → long m i ≡ (long m i + 0) % 2 ^ 64
+  pub stays : (i : ℕ) → long m i ≡ (long m i + 0) % 2 ^ 64
   unfolding long
   stays i = omega (arith, word-bound m i b, word-bound m (i + 1) b)
 

@@ -40,7 +40,7 @@ module _ {m : List ℕ} (g : Good m) where
   table-stepped r heads n h t c e v q =
       let table = wrote-fieldTable (unwritten m) (g .enough) r heads (v .shaped .fieldRows) (v .shaped .fieldHeads) in
       let counted = wrote-fields table n (omega (arith, v .header .fields, v .header .tops .fields)) room in
-      rw e (stepped (g .enough) (wrote-held counted h (omega (arith, v .header .held, v .header .tops .text)) room) v q)
+      rw e (stepped (g .enough) (wrote-held counted h (omega (arith, v .header .held, v .header .tops .text)) room) v q refl)
 
   -- a head has 32 bits
   head-small : Bytes m → (k : ℕ) → keyStart (storeOf m .fieldHeads) (Layout.fieldBuckets (allowancesOf m)) k < 2 ^ 32
@@ -63,7 +63,7 @@ module _ {m : List ℕ} (g : Good m) where
       let table = wrote-fieldTable (unwritten m) (g .enough) (setText (storeOf m .fieldRows) e a l i) (storeOf m .fieldHeads) (v .shaped .fieldRows) (v .shaped .fieldHeads) in
       let all = wrote-held table (renamed-held (g .valid) e a l i w small) (omega (arith, v .header .held, v .header .tops .text)) room in
       rw (text-words m (Layout.fieldRowsAt (allowancesOf m)) (allowancesOf m .fields) table-fits e few a l i) (record {
-        stepped = stepped (g .enough) all v (rename-content (g .valid) e a l i w small);
+        stepped = stepped (g .enough) all v (rename-content (g .valid) e a l i w small) refl;
         keys = λ j h. ap (λ (s : Store). key (s .fieldRows) j) (all .store) ∙ sym (same-key (g .valid) e a l i w small j);
       })
 

@@ -75,7 +75,7 @@ pub record SameRows (r r′ : List ℕ) : Type 0 where
   pub long : length r′ ≡ length r
 
 abbrev pub withLinks : Store → (r h pl ph ll lh : List ℕ) → Store
-withLinks s r h pl ph ll lh = record { header = s .header; guidRows = s .guidRows; guidHeads = s .guidHeads; groupRows = r; groupHeads = h; pathLinks = pl; pathHeads = ph; leafLinks = ll; leafHeads = lh; fieldRows = s .fieldRows; fieldHeads = s .fieldHeads; texts = s .texts }
+withLinks s r h pl ph ll lh = record { header = s .header; guidRows = s .guidRows; guidHeads = s .guidHeads; groupRows = r; groupHeads = h; pathLinks = pl; pathHeads = ph; leafLinks = ll; leafHeads = lh; fieldRows = s .fieldRows; fieldHeads = s .fieldHeads; literals = s .literals; texts = s .texts }
 
 pub record Relinked (s s′ : Store) : Type 0 where
   pub rest : s′ ≡ withLinks s (s′ .groupRows) (s′ .groupHeads) (s′ .pathLinks) (s′ .pathHeads) (s′ .leafLinks) (s′ .leafHeads)

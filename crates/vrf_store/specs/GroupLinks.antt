@@ -82,6 +82,9 @@ module _ {s s′ : Store} (p : Relinked s s′) where
   pub relinked-header : s′ .header ≡ s .header
   relinked-header = ap (λ (z : Store). z .header) (p .rest)
 
+  pub relinked-literals : s′ .literals ≡ s .literals
+  relinked-literals = ap (λ (z : Store). z .literals) (p .rest)
+
   pub relinked-content : contentOf s′ ≡ contentOf s
   relinked-content = ap contentOf (p .rest) ∙ with-content s _ _ _ _ _ _ (p .rows)
 

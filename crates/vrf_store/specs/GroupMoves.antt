@@ -35,7 +35,7 @@ use Rattle.vrf_store.specs.TableMemory.{lentTo, Lent, lent, tableEnd, ro
 use Rattle.vrf_store.specs.GroupMemory.{text-long}
 use Rattle.vrf_store.specs.GroupIndex.{Indexed, Unindexed, Indexable, Joined}
 use Rattle.vrf_store.specs.GroupIndexLaws.{valid-unindexed, valid-indexed, halves-valid}
-use Rattle.vrf_store.specs.GroupLinks.{relinked-header, relinked-content, relinked-unindexed}
+use Rattle.vrf_store.specs.GroupLinks.{relinked-header, relinked-literals, relinked-content, relinked-unindexed}
 
 -- ---- slots that no field fills
 
@@ -217,8 +217,8 @@ indexable {m} {m′} {s} g enough w u low =
     }
 
 -- all groups have joined the indexes
-pub joined-stepped : {m m₁ m₂ : List ℕ} {s : Store} {n n′ : ℕ} {c : Content} → Enough m → Written m m₁ s → Unindexed s → Indexed s n → contentOf s ≡ c → Joined m₁ m₂ n n′ → n′ ≡ s .header .groups → Stepped m m₂ c
-joined-stepped {m} {m₁} {m₂} {s} {n} {n′} enough w u i e j q =
+pub joined-stepped : {m m₁ m₂ : List ℕ} {s : Store} {n n′ : ℕ} {c : Content} → Enough m → Written m m₁ s → Unindexed s → Indexed s n → contentOf s ≡ c → s .literals ≡ storeOf m .literals → Joined m₁ m₂ n n′ → n′ ≡ s .header .groups → Stepped m m₂ c
+joined-stepped {m} {m₁} {m₂} {s} {n} {n′} enough w u i e l j q =
     let v : Unindexed (storeOf m₁) = subst (λ (z : Store). Unindexed z) (sym (w .store)) u in
     let k : Indexed (storeOf m₁) n = subst (λ (z : Store). Indexed z n) (sym (w .store)) i in
     let header : headerOf m₂ ≡ s .header = relinked-header (j .relinked) ∙ ap (λ (z : Store). z .header) (w .store) in
@@ -232,6 +232,7 @@ joined-stepped {m} {m₁} {m₂} {s} {n} {n′} enough w u i e j q =
       content = relinked-content (j .relinked) ∙ ap contentOf (w .store) ∙ e;
       counters = j .counters ∙ w .counters;
       long = j .long ∙ w .long;
+      literals = relinked-literals (j .relinked) ∙ ap (λ (z : Store). z .literals) (w .store) ∙ l;
     }
 
 -- ---- a group more
@@ -310,4 +311,4 @@ module _ (m : List ℕ) (k a l i : ℕ) (x : NewGroup m k a l i) (key-fits : Is3
 
   pub push-stepped : {n : ℕ} {m₃ m₄ : List ℕ} → n ≡ last → Written m m₃ more → Joined m₃ m₄ n (n + 1) → Stepped m m₄ (withGroups (held m) (held m .groups ++ (newGroup (part (o .texts) a l) k i ∷ [])))
   push-stepped {n} {m₃} {m₄} en w j =
-      joined-stepped (x .good .enough) w more-unindexed (put-indexed o last k a l i (headerOf m .held + l) row-room (valid-indexed v)) more-content (rw en at j) (add-one last)
+      joined-stepped (x .good .enough) w more-unindexed (put-indexed o last k a l i (headerOf m .held + l) row-room (valid-indexed v)) more-content refl (rw en at j) (add-one last)

@@ -103,4 +103,4 @@ next-indexable {m} {m′} g enough u j low =
     indexable g (joined-enough j enough) (unwritten m′) (relinked-unindexed (j .relinked) u) (subst (λ (x : Header). g < x .groups) (sym (joined-header j)) low)
 
 pub rebuilt : {m m′ : List ℕ} {n : ℕ} → Enough m → Unindexed (storeOf m) → Joined m m′ 0 n → n ≡ headerOf m .groups → Stepped m m′ (held m)
-rebuilt {m} enough u j q = joined-stepped enough (unwritten m) u (none-indexed (storeOf m)) refl j q
+rebuilt {m} enough u j q = joined-stepped enough (unwritten m) u (none-indexed (storeOf m)) refl refl j q

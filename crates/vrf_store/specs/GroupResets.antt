@@ -136,7 +136,7 @@ module _ (m : List ℕ) (e k a l i : ℕ) (x : OldGroup m e k a l i) (key-fits :
   set-ready w = (omega (arith, ap Layout.need (w .allowed), w .long, x .good .enough), subst (λ (z : Store). Unindexed z) (sym (w .store)) set-unindexed)
 
   pub set-stepped : {m₂ m₃ : List ℕ} → Written m m₂ s′ → Stepped m₂ m₃ (held m₂) → Stepped m m₃ (withGroup (held m) e (λ _. groupOf s e k a l i))
-  set-stepped w y = record { good = y .good; content = y .content ∙ ap contentOf (w .store) ∙ set-content; counters = y .counters ∙ w .counters; long = y .long ∙ w .long }
+  set-stepped w y = record { good = y .good; content = y .content ∙ ap contentOf (w .store) ∙ set-content; counters = y .counters ∙ w .counters; long = y .long ∙ w .long; literals = y .literals ∙ ap (λ (z : Store). z .literals) (w .store) }
 
 -- ---- a group that is merged: it keeps its fields, and never loses a slot
 
@@ -181,4 +181,4 @@ module _ {m : List ℕ} {e k a l i : ℕ} (x : OldGroup m e k a l i) (none-there
 
 -- the same step by another name
 pub stepped-as : {m m′ : List ℕ} {c d : Content} → Stepped m m′ c → c ≡ d → Stepped m m′ d
-stepped-as y q = record { good = y .good; content = y .content ∙ q; counters = y .counters; long = y .long }
+stepped-as y q = record { good = y .good; content = y .content ∙ q; counters = y .counters; long = y .long; literals = y .literals }

@@ -182,7 +182,7 @@ module _ {m : List ℕ} (good : Good m) (e i : ℕ) (low : e < headerOf m .group
       let room : 24 * e + 24 ≤ length (o .groupRows) = omega (arith, low, w .header .groups, w .shaped .groupRows) in
       let as-words = word-written m first (6 * allowancesOf m .groups) (allowancesOf m .groups + 1) (omega (arith, enough)) (6 * e + 5) (omega (arith, low, w .header .groups)) i in
       let wrote = wrote-groupTable (unwritten m) enough (setWord (o .groupRows) (6 * e + 5) i) (o .groupHeads) (length-setWord (o .groupRows) (6 * e + 5) i (omega (arith, room)) ∙ w .shaped .groupRows) (w .shaped .groupHeads) in
-      rw (q, guids, as-words) (stepped enough wrote (grow-valid o w e i low more few) (grow-content o w e i low more few))
+      rw (q, guids, as-words) (stepped enough wrote (grow-valid o w e i low more few) (grow-content o w e i low more few) refl)
 
   pub grow-skipped : i ≤ info (o .groupRows) e → Stepped m m (withGroup (held m) e (grownGroup i))
-  grow-skipped less = stepped (good .enough) (unwritten m) w (grow-none o w e i low less)
+  grow-skipped less = stepped (good .enough) (unwritten m) w (grow-none o w e i low less) refl

@@ -191,7 +191,7 @@ module _ (m : List ℕ) (guid at l outer : ℕ) (h : NewGuid m guid at l) (bytes
       (wrote-guidTable (unwritten m) enough new-rows new-heads (new-rows-long ∙ v .shaped .guidRows) (new-heads-long ∙ v .shaped .guidHeads))
       (suc n) (new-row .few) room)
       (headerOf m .held + l) (omega (arith, h .room, v .header .tops .text)) room)
-      new-valid new-content)
+      new-valid new-content refl)
 
 -- ---- another path and outer of a record
 
@@ -282,4 +282,4 @@ module _ (m : List ℕ) (e at l outer : ℕ) (h : OldGuid m e at l) (outer-fits 
       (wrote-held
       (wrote-guidTable (unwritten m) enough set-rows (old .guidHeads) (set-long ∙ ok .shaped .guidRows) (ok .shaped .guidHeads))
       set-held (omega (arith, h .room, ok .header .tops .text)) (omega (arith, enough)))
-      set-valid set-content)
+      set-valid set-content refl)

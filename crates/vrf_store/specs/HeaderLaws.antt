@@ -10,7 +10,7 @@ use Rattle.vrf_words.specs.Words.{word, setWord, part}
 use Rattle.vrf_words.specs.WordsLaws.{word-part, part-pasted-below, part-setWord-above}
 use Rattle.vrf_store.specs.Layout
 use Rattle.vrf_store.specs.Store.{Header, allowancesOf, headerOf, long, countersOf, halfAt, words, storeBy}
-use Rattle.vrf_store.specs.MemoryLaws.{half-above}
+use Rattle.vrf_store.specs.MemoryLaws.{half-above, tables-kept}
 
 -- ---- a header that stands as it was
 
@@ -48,20 +48,7 @@ module _ (h : Header) (m : List ℕ) (j v : ℕ) (low : j < 32) (fits : 128 ≤ 
 
   -- leaves all behind it
   pub parts-kept : storeBy h (setWord m j v) ≡ storeBy h m
-  unfolding storeBy
   parts-kept =
       let text : part (setWord m j v) (halfAt (h .allowed) (h .half)) (h .allowed .text) ≡ part m (halfAt (h .allowed) (h .half)) (h .allowed .text) =
       part-setWord-above m j v (halfAt (h .allowed) (h .half)) (h .allowed .text) (omega (arith, low, half-above (h .allowed) (h .half))) (omega (arith, low, fits)) in
-      rw (
-        over (Layout.guidRowsAt (h .allowed)) (6 * h .allowed .guids) (omega arith),
-        over (Layout.guidHeadsAt (h .allowed)) (Layout.guidBuckets (h .allowed)) (omega arith),
-        over (Layout.groupRowsAt (h .allowed)) (6 * h .allowed .groups) (omega arith),
-        over (Layout.groupHeadsAt (h .allowed)) (Layout.groupBuckets (h .allowed)) (omega arith),
-        over (Layout.pathLinksAt (h .allowed)) (3 * h .allowed .groups) (omega arith),
-        over (Layout.pathHeadsAt (h .allowed)) (Layout.groupBuckets (h .allowed)) (omega arith),
-        over (Layout.leafLinksAt (h .allowed)) (h .allowed .groups) (omega arith),
-        over (Layout.leafHeadsAt (h .allowed)) (Layout.groupBuckets (h .allowed)) (omega arith),
-        over (Layout.fieldRowsAt (h .allowed)) (6 * h .allowed .fields) (omega arith),
-        over (Layout.fieldHeadsAt (h .allowed)) (Layout.fieldBuckets (h .allowed)) (omega arith),
-        text,
-      )
+      tables-kept h m (setWord m j v) (λ i n k _. over i n k) ∙ rw (over (Layout.literalsAt (h .allowed)) (h .allowed .literals) (omega arith), text)

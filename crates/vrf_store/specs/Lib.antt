@@ -30,6 +30,8 @@ pub mod Opened
 pub mod EmptyLaws
 pub mod OpeningLaws
 pub mod Counted
+-- the literals of a block that is being read
+pub mod Literals
 -- what each change makes of a table and of an index
 pub mod TableMoves
 pub mod TableMemory

@@ -17,25 +17,32 @@ use Rattle.vrf_store.specs.Store.{Header, Store, halfAt, words, storeBy}
 -- ---- a store with some of its parts replaced
 
 abbrev pub withGuidTable : Store → List ℕ → List ℕ → Store
-withGuidTable s r heads = record { header = s .header; guidRows = r; guidHeads = heads; groupRows = s .groupRows; groupHeads = s .groupHeads; pathLinks = s .pathLinks; pathHeads = s .pathHeads; leafLinks = s .leafLinks; leafHeads = s .leafHeads; fieldRows = s .fieldRows; fieldHeads = s .fieldHeads; texts = s .texts }
+withGuidTable s r heads = record { header = s .header; guidRows = r; guidHeads = heads; groupRows = s .groupRows; groupHeads = s .groupHeads; pathLinks = s .pathLinks; pathHeads = s .pathHeads; leafLinks = s .leafLinks; leafHeads = s .leafHeads; fieldRows = s .fieldRows; fieldHeads = s .fieldHeads; literals = s .literals; texts = s .texts }
 
 abbrev pub withGroupTable : Store → List ℕ → List ℕ → Store
-withGroupTable s r heads = record { header = s .header; guidRows = s .guidRows; guidHeads = s .guidHeads; groupRows = r; groupHeads = heads; pathLinks = s .pathLinks; pathHeads = s .pathHeads; leafLinks = s .leafLinks; leafHeads = s .leafHeads; fieldRows = s .fieldRows; fieldHeads = s .fieldHeads; texts = s .texts }
+withGroupTable s r heads = record { header = s .header; guidRows = s .guidRows; guidHeads = s .guidHeads; groupRows = r; groupHeads = heads; pathLinks = s .pathLinks; pathHeads = s .pathHeads; leafLinks = s .leafLinks; leafHeads = s .leafHeads; fieldRows = s .fieldRows; fieldHeads = s .fieldHeads; literals = s .literals; texts = s .texts }
 
 abbrev pub withPathIndex : Store → List ℕ → List ℕ → Store
-withPathIndex s r heads = record { header = s .header; guidRows = s .guidRows; guidHeads = s .guidHeads; groupRows = s .groupRows; groupHeads = s .groupHeads; pathLinks = r; pathHeads = heads; leafLinks = s .leafLinks; leafHeads = s .leafHeads; fieldRows = s .fieldRows; fieldHeads = s .fieldHeads; texts = s .texts }
+withPathIndex s r heads = record { header = s .header; guidRows = s .guidRows; guidHeads = s .guidHeads; groupRows = s .groupRows; groupHeads = s .groupHeads; pathLinks = r; pathHeads = heads; leafLinks = s .leafLinks; leafHeads = s .leafHeads; fieldRows = s .fieldRows; fieldHeads = s .fieldHeads; literals = s .literals; texts = s .texts }
 
 abbrev pub withLeafIndex : Store → List ℕ → List ℕ → Store
-withLeafIndex s r heads = record { header = s .header; guidRows = s .guidRows; guidHeads = s .guidHeads; groupRows = s .groupRows; groupHeads = s .groupHeads; pathLinks = s .pathLinks; pathHeads = s .pathHeads; leafLinks = r; leafHeads = heads; fieldRows = s .fieldRows; fieldHeads = s .fieldHeads; texts = s .texts }
+withLeafIndex s r heads = record { header = s .header; guidRows = s .guidRows; guidHeads = s .guidHeads; groupRows = s .groupRows; groupHeads = s .groupHeads; pathLinks = s .pathLinks; pathHeads = s .pathHeads; leafLinks = r; leafHeads = heads; fieldRows = s .fieldRows; fieldHeads = s .fieldHeads; literals = s .literals; texts = s .texts }
 
 abbrev pub withFieldTable : Store → List ℕ → List ℕ → Store
-withFieldTable s r heads = record { header = s .header; guidRows = s .guidRows; guidHeads = s .guidHeads; groupRows = s .groupRows; groupHeads = s .groupHeads; pathLinks = s .pathLinks; pathHeads = s .pathHeads; leafLinks = s .leafLinks; leafHeads = s .leafHeads; fieldRows = r; fieldHeads = heads; texts = s .texts }
+withFieldTable s r heads = record { header = s .header; guidRows = s .guidRows; guidHeads = s .guidHeads; groupRows = s .groupRows; groupHeads = s .groupHeads; pathLinks = s .pathLinks; pathHeads = s .pathHeads; leafLinks = s .leafLinks; leafHeads = s .leafHeads; fieldRows = r; fieldHeads = heads; literals = s .literals; texts = s .texts }
+
+-- what stands behind the tables and the indexes
+abbrev pub withEnd : Store → List ℕ → List ℕ → Store
+withEnd s l x = record { header = s .header; guidRows = s .guidRows; guidHeads = s .guidHeads; groupRows = s .groupRows; groupHeads = s .groupHeads; pathLinks = s .pathLinks; pathHeads = s .pathHeads; leafLinks = s .leafLinks; leafHeads = s .leafHeads; fieldRows = s .fieldRows; fieldHeads = s .fieldHeads; literals = l; texts = x }
+
+abbrev pub withLiterals : Store → List ℕ → Store
+withLiterals s l = withEnd s l (s .texts)
 
 abbrev pub withTexts : Store → List ℕ → Store
-withTexts s x = record { header = s .header; guidRows = s .guidRows; guidHeads = s .guidHeads; groupRows = s .groupRows; groupHeads = s .groupHeads; pathLinks = s .pathLinks; pathHeads = s .pathHeads; leafLinks = s .leafLinks; leafHeads = s .leafHeads; fieldRows = s .fieldRows; fieldHeads = s .fieldHeads; texts = x }
+withTexts s x = withEnd s (s .literals) x
 
 abbrev pub withHeader : Store → Header → Store
-withHeader s h = record { header = h; guidRows = s .guidRows; guidHeads = s .guidHeads; groupRows = s .groupRows; groupHeads = s .groupHeads; pathLinks = s .pathLinks; pathHeads = s .pathHeads; leafLinks = s .leafLinks; leafHeads = s .leafHeads; fieldRows = s .fieldRows; fieldHeads = s .fieldHeads; texts = s .texts }
+withHeader s h = record { header = h; guidRows = s .guidRows; guidHeads = s .guidHeads; groupRows = s .groupRows; groupHeads = s .groupHeads; pathLinks = s .pathLinks; pathHeads = s .pathHeads; leafLinks = s .leafLinks; leafHeads = s .leafHeads; fieldRows = s .fieldRows; fieldHeads = s .fieldHeads; literals = s .literals; texts = s .texts }
 
 -- ---- the halves of the texts: above all else, and within the memory
 
@@ -54,7 +61,7 @@ module _ (m r : List ℕ) (at : ℕ) (fits : at + length r ≤ length m) where
   unfolding words
   below i n k = part-pasted-below m r at (4 * i) (4 * n) k fits
 
-  above : (i n : ℕ) → at + length r ≤ 4 * i → words (pasted m at r) i n ≡ words m i n
+  pub above : (i n : ℕ) → at + length r ≤ 4 * i → words (pasted m at r) i n ≡ words m i n
   unfolding words
   above i n k = part-pasted-above m r at (4 * i) (4 * n) k fits
 
@@ -105,6 +112,7 @@ module _ (h : Header) (m r heads : List ℕ) (enough : Layout.need (h .allowed) 
         above m (r ++ heads) w fits (Layout.leafHeadsAt (h .allowed)) (Layout.groupBuckets (h .allowed)) (omega (arith, long)),
         above m (r ++ heads) w fits (Layout.fieldRowsAt (h .allowed)) (6 * (h .allowed) .fields) (omega (arith, long)),
         above m (r ++ heads) w fits (Layout.fieldHeadsAt (h .allowed)) (Layout.fieldBuckets (h .allowed)) (omega (arith, long)),
+        above m (r ++ heads) w fits (Layout.literalsAt (h .allowed)) ((h .allowed) .literals) (omega (arith, long)),
         half-kept m (r ++ heads) w fits (h .allowed) (h .half) (omega (arith, long)),
       )
 
@@ -125,6 +133,7 @@ module _ (h : Header) (m r heads : List ℕ) (enough : Layout.need (h .allowed) 
         above m (r ++ heads) w fits (Layout.leafHeadsAt (h .allowed)) (Layout.groupBuckets (h .allowed)) (omega (arith, long)),
         above m (r ++ heads) w fits (Layout.fieldRowsAt (h .allowed)) (6 * (h .allowed) .fields) (omega (arith, long)),
         above m (r ++ heads) w fits (Layout.fieldHeadsAt (h .allowed)) (Layout.fieldBuckets (h .allowed)) (omega (arith, long)),
+        above m (r ++ heads) w fits (Layout.literalsAt (h .allowed)) ((h .allowed) .literals) (omega (arith, long)),
         half-kept m (r ++ heads) w fits (h .allowed) (h .half) (omega (arith, long)),
       )
 
@@ -145,6 +154,7 @@ module _ (h : Header) (m r heads : List ℕ) (enough : Layout.need (h .allowed) 
         above m (r ++ heads) w fits (Layout.leafHeadsAt (h .allowed)) (Layout.groupBuckets (h .allowed)) (omega (arith, long)),
         above m (r ++ heads) w fits (Layout.fieldRowsAt (h .allowed)) (6 * (h .allowed) .fields) (omega (arith, long)),
         above m (r ++ heads) w fits (Layout.fieldHeadsAt (h .allowed)) (Layout.fieldBuckets (h .allowed)) (omega (arith, long)),
+        above m (r ++ heads) w fits (Layout.literalsAt (h .allowed)) ((h .allowed) .literals) (omega (arith, long)),
         half-kept m (r ++ heads) w fits (h .allowed) (h .half) (omega (arith, long)),
       )
 
@@ -165,6 +175,7 @@ module _ (h : Header) (m r heads : List ℕ) (enough : Layout.need (h .allowed) 
         below m (r ++ heads) w fits (Layout.pathHeadsAt (h .allowed)) (Layout.groupBuckets (h .allowed)) (omega arith),
         above m (r ++ heads) w fits (Layout.fieldRowsAt (h .allowed)) (6 * (h .allowed) .fields) (omega (arith, long)),
         above m (r ++ heads) w fits (Layout.fieldHeadsAt (h .allowed)) (Layout.fieldBuckets (h .allowed)) (omega (arith, long)),
+        above m (r ++ heads) w fits (Layout.literalsAt (h .allowed)) ((h .allowed) .literals) (omega (arith, long)),
         half-kept m (r ++ heads) w fits (h .allowed) (h .half) (omega (arith, long)),
       )
 
@@ -185,11 +196,29 @@ module _ (h : Header) (m r heads : List ℕ) (enough : Layout.need (h .allowed) 
         below m (r ++ heads) w fits (Layout.pathHeadsAt (h .allowed)) (Layout.groupBuckets (h .allowed)) (omega arith),
         below m (r ++ heads) w fits (Layout.leafLinksAt (h .allowed)) ((h .allowed) .groups) (omega arith),
         below m (r ++ heads) w fits (Layout.leafHeadsAt (h .allowed)) (Layout.groupBuckets (h .allowed)) (omega arith),
+        above m (r ++ heads) w fits (Layout.literalsAt (h .allowed)) ((h .allowed) .literals) (omega (arith, long)),
         half-kept m (r ++ heads) w fits (h .allowed) (h .half) (omega (arith, long)),
       )
 
--- ---- texts
+-- ---- a write elsewhere: all tables and indexes stand as they were
 
+module _ (h : Header) (m m′ : List ℕ) (same : (i n : ℕ) → 32 ≤ i → i + n ≤ Layout.literalsAt (h .allowed) → words m′ i n ≡ words m i n) where
+  pub tables-kept : storeBy h m′ ≡ withEnd (storeBy h m) (storeBy h m′ .literals) (storeBy h m′ .texts)
+  tables-kept =
+      rw (
+        same (Layout.guidRowsAt (h .allowed)) (6 * (h .allowed) .guids) (omega arith) (omega arith),
+        same (Layout.guidHeadsAt (h .allowed)) (Layout.guidBuckets (h .allowed)) (omega arith) (omega arith),
+        same (Layout.groupRowsAt (h .allowed)) (6 * (h .allowed) .groups) (omega arith) (omega arith),
+        same (Layout.groupHeadsAt (h .allowed)) (Layout.groupBuckets (h .allowed)) (omega arith) (omega arith),
+        same (Layout.pathLinksAt (h .allowed)) (3 * (h .allowed) .groups) (omega arith) (omega arith),
+        same (Layout.pathHeadsAt (h .allowed)) (Layout.groupBuckets (h .allowed)) (omega arith) (omega arith),
+        same (Layout.leafLinksAt (h .allowed)) ((h .allowed) .groups) (omega arith) (omega arith),
+        same (Layout.leafHeadsAt (h .allowed)) (Layout.groupBuckets (h .allowed)) (omega arith) (omega arith),
+        same (Layout.fieldRowsAt (h .allowed)) (6 * (h .allowed) .fields) (omega arith) (omega arith),
+        same (Layout.fieldHeadsAt (h .allowed)) (Layout.fieldBuckets (h .allowed)) (omega arith) (omega arith),
+      )
+
+-- texts
 module _ (h : Header) (m t : List ℕ) (enough : Layout.need (h .allowed) ≤ length m) where
   -- in the half in use
   pub put-texts : (at : ℕ) → at + length t ≤ h .allowed .text → storeBy h (pasted m (halfAt (h .allowed) (h .half) + at) t) ≡ withTexts (storeBy h m) (pasted (storeBy h m .texts) at t)
@@ -198,16 +227,8 @@ module _ (h : Header) (m t : List ℕ) (enough : Layout.need (h .allowed) ≤ le
       let up = half-above (h .allowed) (h .half) in
       let in-half = half-within (h .allowed) (h .half) in
       let fits : w + length t ≤ length m = omega (arith, k, in-half, enough) in
-      rw (
-        below m t w fits (Layout.guidRowsAt (h .allowed)) (6 * (h .allowed) .guids) (omega (arith, up)),
-        below m t w fits (Layout.guidHeadsAt (h .allowed)) (Layout.guidBuckets (h .allowed)) (omega (arith, up)),
-        below m t w fits (Layout.groupRowsAt (h .allowed)) (6 * (h .allowed) .groups) (omega (arith, up)),
-        below m t w fits (Layout.groupHeadsAt (h .allowed)) (Layout.groupBuckets (h .allowed)) (omega (arith, up)),
-        below m t w fits (Layout.pathLinksAt (h .allowed)) (3 * (h .allowed) .groups) (omega (arith, up)),
-        below m t w fits (Layout.pathHeadsAt (h .allowed)) (Layout.groupBuckets (h .allowed)) (omega (arith, up)),
-        below m t w fits (Layout.leafLinksAt (h .allowed)) ((h .allowed) .groups) (omega (arith, up)),
-        below m t w fits (Layout.leafHeadsAt (h .allowed)) (Layout.groupBuckets (h .allowed)) (omega (arith, up)),
-        below m t w fits (Layout.fieldRowsAt (h .allowed)) (6 * (h .allowed) .fields) (omega (arith, up)),
-        below m t w fits (Layout.fieldHeadsAt (h .allowed)) (Layout.fieldBuckets (h .allowed)) (omega (arith, up)),
+      tables-kept h m (pasted m w t) (λ i n _ low. below m t w fits i n (omega (arith, up, low)))
+      ∙ rw (
+        below m t w fits (Layout.literalsAt (h .allowed)) ((h .allowed) .literals) (omega (arith, up)),
         part-pasted-in m t (halfAt (h .allowed) (h .half)) (h .allowed .text) at k (omega (arith, in-half, enough)),
       )

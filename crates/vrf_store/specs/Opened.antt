@@ -8,7 +8,7 @@ use Rattle.vrf_bitio.specs.declared.Refusal.{Refusal}
 use Rattle.vrf_model.specs.Book.{Allowances, freshBook}
 use Rattle.vrf_model.specs.declared.Acted.{Acted}
 use Rattle.vrf_model.specs.declared.Acted.the-variants.{Done, Refused}
-use Rattle.vrf_store.specs.Store.{headerOf, countersOf, bookOf}
+use Rattle.vrf_store.specs.Store.{headerOf, countersOf, storeOf, bookOf}
 use Rattle.vrf_store.specs.Good.{Good}
 use Rattle.vrf_store.specs.Opening.{opening, opened, notOpened}
 
@@ -22,11 +22,12 @@ abbrev pub Opened : Allowances → List ℕ → List ℕ → Acted → Type 0
 Opened a m m′ Done = Fresh a m m′
 Opened a m m′ (Refused r) = (opening a (length m) ≡ notOpened (r .number) (r .a) (r .b)) × (m′ ≡ m)
 
--- m′ is m after writes behind its header
+-- m′ is m after writes between its header and its literals
 pub record Kept (m m′ : List ℕ) : Type 0 where
   pub header : headerOf m′ ≡ headerOf m
   pub counters : countersOf m′ ≡ countersOf m
   pub long : length m′ ≡ length m
+  pub literals : storeOf m′ .literals ≡ storeOf m .literals
 
 -- which allowance, 0 for none
 abbrev pub orZero : Option ℕ → ℕ

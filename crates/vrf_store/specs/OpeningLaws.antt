@@ -14,12 +14,13 @@ use Rattle.vrf_words.specs.Words.{word, setWord}
 use Rattle.vrf_model.specs.Book.{Allowances, none-counted, fresh, freshBook}
 use Rattle.vrf_model.specs.Lawful.{Allowed}
 use Rattle.vrf_store.specs.Layout
-use Rattle.vrf_store.specs.Store.{Header, allowancesOf, headerOf, long, countersOf, contentOf, bookOf}
+use Rattle.vrf_store.specs.Store.{Header, allowancesOf, headerOf, long, countersOf, words, storeOf, contentOf, bookOf}
 use Rattle.vrf_store.specs.Good.{Good}
 use Rattle.vrf_store.specs.Opening.{aboveTop, opened, notOpened, unlessShort, unlessAbove, opening, zeroAbove, memoryNeeded}
 use Rattle.vrf_store.specs.Opened.{Fresh, orZero, Kept}
 use Rattle.vrf_store.specs.EmptyLaws.{emptyHeader, empty-good, empty-held}
 use Rattle.vrf_store.specs.Stepped.{Stepped, held}
+use Rattle.vrf_store.specs.MemoryLaws.{above as words-above}
 use Rattle.vrf_store.specs.HeaderLaws.{header-kept, counters-kept}
 use Rattle.vrf_store.specs.HeaderWords.{has-now, has-header, has-counters, has-word, has-zeros}
 
@@ -91,31 +92,44 @@ module _ (a : Allowances) (m : List ℕ) {m0 m1 m2 m3 m4 z : List ℕ} (room : 1
       let h = has-zeros h4 5 27 (omega arith) e in
       (has-header h, has-counters h, h .long)
 
--- ---- cleared heads: zeros behind the header
+-- ---- cleared heads: zeros between the header and the literals
 
 kept-now : (m : List ℕ) → Kept m m
-kept-now m = record { header = refl; counters = refl; long = refl }
+kept-now m = record { header = refl; counters = refl; long = refl; literals = refl }
 
-kept-zeros : {m m′ z : List ℕ} → Kept m m′ → (i n : ℕ) → 32 ≤ i → 4 * (i + n) ≤ length m → z ≡ pasted m′ (4 * i) (replicate (4 * n) 0) → Kept m z
-kept-zeros {m′ = m′} k i n behind fits e =
+-- the literals where the allowances a say
+abbrev literalsBy : Allowances → List ℕ → List ℕ
+literalsBy a m = words m (Layout.literalsAt a) (a .literals)
+
+-- zeros before them
+literals-kept : (m z : List ℕ) (b : Allowances) (i n : ℕ) → allowancesOf z ≡ b → allowancesOf m ≡ b → i + n ≤ Layout.literalsAt b → 4 * (i + n) ≤ length m → z ≡ pasted m (4 * i) (replicate (4 * n) 0) → storeOf z .literals ≡ storeOf m .literals
+literals-kept m z b i n az am before fits e =
+    let size : length {A = ℕ} (replicate (4 * n) 0) ≡ 4 * n = length-replicate (4 * n) 0 in
+    let room : 4 * i + length {A = ℕ} (replicate (4 * n) 0) ≤ length m = omega (arith, size, fits) in
+    ap (λ (a : Allowances). literalsBy a z) az ∙ ap (literalsBy b) e ∙ words-above m (replicate (4 * n) 0) (4 * i) room (Layout.literalsAt b) (b .literals) (omega (arith, size, before)) ∙ ap (λ (a : Allowances). literalsBy a m) (sym am)
+
+kept-zeros : {m m′ z : List ℕ} → Kept m m′ → (i n : ℕ) → 32 ≤ i → i + n ≤ Layout.literalsAt (allowancesOf m) → 4 * (i + n) ≤ length m → z ≡ pasted m′ (4 * i) (replicate (4 * n) 0) → Kept m z
+kept-zeros {m} {m′} {z} k i n behind before fits e =
     let size : length {A = ℕ} (replicate (4 * n) 0) ≡ 4 * n = length-replicate (4 * n) 0 in
     let room : 4 * i + length {A = ℕ} (replicate (4 * n) 0) ≤ length m′ = omega (arith, size, fits, k .long) in
     let low : 128 ≤ 4 * i = omega arith in
+    let header : headerOf z ≡ headerOf m = ap headerOf e ∙ header-kept m′ (replicate (4 * n) 0) (4 * i) low room ∙ k .header in
     record {
-      header = ap headerOf e ∙ header-kept m′ (replicate (4 * n) 0) (4 * i) low room ∙ k .header;
+      header = header;
       counters = ap countersOf e ∙ counters-kept m′ (replicate (4 * n) 0) (4 * i) low room ∙ k .counters;
       long = ap length e ∙ pasted-length (replicate (4 * n) 0) m′ (4 * i) room ∙ k .long;
+      literals = literals-kept m′ z (allowancesOf m) i n (ap (λ (h : Header). h .allowed) header) (ap (λ (h : Header). h .allowed) (k .header)) before (omega (arith, fits, k .long)) e ∙ k .literals;
     }
 
 -- the heads of each table and of each index
 module _ {m m1 m2 m3 m4 z : List ℕ} (g r f : ℕ) (enough : Layout.need (allowancesOf m) ≤ length m) where
   pub kept-heads : g ≡ word m 0 → r ≡ word m 1 → f ≡ word m 2 → m1 ≡ pasted m (4 * (32 + 6 * g)) (replicate (4 * (g + 1)) 0) → m2 ≡ pasted m1 (4 * (33 + 7 * g + 6 * r)) (replicate (4 * (r + 1)) 0) → m3 ≡ pasted m2 (4 * (34 + 7 * g + 10 * r)) (replicate (4 * (r + 1)) 0) → m4 ≡ pasted m3 (4 * (35 + 7 * g + 12 * r)) (replicate (4 * (r + 1)) 0) → z ≡ pasted m4 (4 * (36 + 7 * g + 13 * r + 6 * f)) (replicate (4 * (f + 1)) 0) → Kept m z
   kept-heads eg er ef e1 e2 e3 e4 e =
-      let k1 = kept-zeros (kept-now m) (32 + 6 * g) (g + 1) (omega arith) (omega arith) e1 in
-      let k2 = kept-zeros k1 (33 + 7 * g + 6 * r) (r + 1) (omega arith) (omega arith) e2 in
-      let k3 = kept-zeros k2 (34 + 7 * g + 10 * r) (r + 1) (omega arith) (omega arith) e3 in
-      let k4 = kept-zeros k3 (35 + 7 * g + 12 * r) (r + 1) (omega arith) (omega arith) e4 in
-      kept-zeros k4 (36 + 7 * g + 13 * r + 6 * f) (f + 1) (omega arith) (omega arith) e
+      let k1 = kept-zeros (kept-now m) (32 + 6 * g) (g + 1) (omega arith) (omega arith) (omega arith) e1 in
+      let k2 = kept-zeros k1 (33 + 7 * g + 6 * r) (r + 1) (omega arith) (omega arith) (omega arith) e2 in
+      let k3 = kept-zeros k2 (34 + 7 * g + 10 * r) (r + 1) (omega arith) (omega arith) (omega arith) e3 in
+      let k4 = kept-zeros k3 (35 + 7 * g + 12 * r) (r + 1) (omega arith) (omega arith) (omega arith) e4 in
+      kept-zeros k4 (36 + 7 * g + 13 * r + 6 * f) (f + 1) (omega arith) (omega arith) (omega arith) e
 
 -- ---- a memory whose header is of a book that holds nothing
 
@@ -164,4 +178,5 @@ module _ {m y : List ℕ} (g : Good m) (e : y ≡ pasted m 20 (replicate 20 0)) 
     content = cleared-held (allowancesOf m) (word m 10) y emptied-header enough k;
     counters = k .counters ∙ has-counters (has-zeros (has-now m) 5 5 (omega (arith, room)) e);
     long = k .long ∙ emptied-long;
+    literals = k .literals ∙ literals-kept m y (allowancesOf m) 5 5 (ap (λ (h : Header). h .allowed) emptied-header) refl (omega arith) (omega (arith, room)) e;
   }

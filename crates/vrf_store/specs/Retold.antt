@@ -82,6 +82,7 @@ retold s used half g r f x = record {
   leafHeads = s .leafHeads;
   fieldRows = f;
   fieldHeads = s .fieldHeads;
+  literals = s .literals;
   texts = x;
 }
 
@@ -144,4 +145,4 @@ module _ {m m′ : List ℕ} (good : Good m) (used half : ℕ) {g r f x : List �
   retold-stepped fits bit w =
       let enough : Enough m′ = omega (arith, ap Layout.need (w .allowed), w .long, good .enough) in
       let shaped = subst (λ (s : Store). Shaped s) (w .store) (need-shaped (headerOf m′) m′ enough) in
-      stepped (good .enough) w (retold-valid (storeOf m) used half guids groups fields (good .valid) shaped fits bit) (retold-content (storeOf m) used half guids groups fields)
+      stepped (good .enough) w (retold-valid (storeOf m) used half guids groups fields (good .valid) shaped fits bit) (retold-content (storeOf m) used half guids groups fields) refl

@@ -1,4 +1,5 @@
--- What a change of a book leaves: a good memory of the same length that holds the content c, and the counters as they were.
+-- What a change of a book leaves: a good memory of the same length that holds the content c, and the counters and the literals as they
+-- were.
 use mathlib.Core.Path.{_≡_}
 use mathlib.Core.List.{List}
 use Prim.Native.Nat.{ℕ, _<_}
@@ -21,3 +22,5 @@ pub record Stepped (m m′ : List ℕ) (c : Content) : Type 0 where
   pub content : held m′ ≡ c
   pub counters : countersOf m′ ≡ countersOf m
   pub long : length m′ ≡ length m
+  -- the literals of a block that is being read stay
+  pub literals : storeOf m′ .literals ≡ storeOf m .literals

@@ -55,6 +55,8 @@ pub record Store : Type 0 where
   pub leafHeads : List ℕ
   pub fieldRows : List ℕ
   pub fieldHeads : List ℕ
+  -- where the literals of a block stand while it is read; no part of the book
+  pub literals : List ℕ
   pub texts : List ℕ
 
 -- the n words from word i on
@@ -74,6 +76,7 @@ storeBy h m = record {
   leafHeads = words m (Layout.leafHeadsAt (h .allowed)) (Layout.groupBuckets (h .allowed));
   fieldRows = words m (Layout.fieldRowsAt (h .allowed)) (6 * h .allowed .fields);
   fieldHeads = words m (Layout.fieldHeadsAt (h .allowed)) (Layout.fieldBuckets (h .allowed));
+  literals = words m (Layout.literalsAt (h .allowed)) (h .allowed .literals);
   texts = part m (halfAt (h .allowed) (h .half)) (h .allowed .text);
 }
 

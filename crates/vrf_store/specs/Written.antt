@@ -56,12 +56,13 @@ pub unwritten : (m : List ℕ) → Written m m (storeOf m)
 unwritten m = record { store = refl; allowed = refl; counters = refl; long = refl }
 
 -- all of them: what the store then is decides the step
-pub stepped : {m m′ : List ℕ} {s : Store} {c : Content} → Enough m → Written m m′ s → Valid s → contentOf s ≡ c → Stepped m m′ c
-stepped {c = c} enough w v e = record {
+pub stepped : {m m′ : List ℕ} {s : Store} {c : Content} → Enough m → Written m m′ s → Valid s → contentOf s ≡ c → s .literals ≡ storeOf m .literals → Stepped m m′ c
+stepped {c = c} enough w v e l = record {
   good = record { enough = omega (arith, ap Layout.need (w .allowed), w .long, enough); valid = subst (λ (z : Store). Valid z) (sym (w .store)) v };
   content = subst (λ (z : Store). contentOf z ≡ c) (sym (w .store)) e;
   counters = w .counters;
   long = w .long;
+  literals = ap (λ (z : Store). z .literals) (w .store) ∙ l;
 }
 
 -- ---- behind the header

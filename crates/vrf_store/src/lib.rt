@@ -4,6 +4,7 @@ pub mod counters;
 pub mod fields;
 pub mod groups;
 pub mod guids;
+pub mod literals;
 pub mod look;
 pub mod open;
 pub mod parts;

@@ -187,16 +187,32 @@ pub fn field_heads(m: &[u8]) -> &[u8]
     words(m, 36 + 7 * g + 13 * r + 6 * f, f + 1)
 }
 
+// The word at which the literals begin.
+pub fn literals_at(m: &[u8]) -> usize
+    requires { ⌜ Enough (now m) ⌝ }
+    ensures { λ r. ⌜ r ≡ Layout.literalsAt (allowancesOf (now (m .entry))) ⌝ }
+{
+    let g = guids_allowed(m);
+    let r = groups_allowed(m);
+    let f = fields_allowed(m);
+    37 + 7 * g + 13 * r + 7 * f
+}
+
+pub fn literals(m: &[u8]) -> &[u8]
+    requires { ⌜ Enough (now m) ⌝ }
+    ensures { λ r. ⌜ now r ≡ storeOf (now (m .entry)) .literals ⌝ }
+{
+    let at = literals_at(m);
+    words(m, at, literals_allowed(m))
+}
+
 // The byte at which the texts begin, two halves.
 fn texts_at(m: &[u8]) -> usize
     requires { ⌜ Enough (now m) ⌝ }
     ensures { λ r. ⌜ r ≡ Layout.textsAt (allowancesOf (now (m .entry))) ⌝ }
 {
-    let g = guids_allowed(m);
-    let r = groups_allowed(m);
-    let f = fields_allowed(m);
-    let l = literals_allowed(m);
-    4 * (37 + 7 * g + 13 * r + 7 * f + l)
+    let at = literals_at(m);
+    4 * (at + literals_allowed(m))
 }
 
 // The byte at which the half in use begins.

@@ -1,0 +1,93 @@
+-- The literal words of a good memory: one of them is written.
+use mathlib.Core.Path.{_≡_, refl, sym, ap, subst, _∙_}
+use mathlib.Core.List.{List}
+use Prim.Native.Nat.{ℕ, _+_, _*_, _<_, _≤_}
+use native.Mathlib.Omega.{arith}
+use lib.ListN.{length}
+use Rattle.vrf_bitio.specs.Number.{lowBytes}
+use Rattle.vrf_bitio.specs.NumberLaws.{lowBytes-length}
+use Rattle.vrf_words.specs.Words.{setWord, part}
+use Rattle.vrf_words.specs.WordsLaws.{part-setWord-below, part-setWord-above, part-setWord-in}
+use Rattle.vrf_store.specs.Layout
+use Rattle.vrf_store.specs.Store.{Header, Store, allowancesOf, headerOf, countersOf, halfAt, words, storeBy, storeOf, guidAt, fieldAt, slotBy, groupBy, contentOf}
+use Rattle.vrf_store.specs.Check.{guidOk, keyOk, leafOk, groupOk, slotOk, fieldOk, textSum, storeOk}
+use Rattle.vrf_store.specs.Valid.{GoodHeader}
+use Rattle.vrf_store.specs.CheckValid.{ok-valid, valid-ok, words-length, need-shaped}
+use Rattle.vrf_store.specs.Good.{Enough, Good}
+use Rattle.vrf_store.specs.MemoryLaws.{withLiterals, half-above, tables-kept}
+use Rattle.vrf_store.specs.Stepped.{held}
+use Rattle.vrf_store.specs.Written.{Written, unwritten, behind}
+
+-- the book is as it was, and p is literal i
+pub record LiteralPut (m m′ : List ℕ) (i p : ℕ) : Type 0 where
+  pub good : Good m′
+  pub content : held m′ ≡ held m
+  pub counters : countersOf m′ ≡ countersOf m
+  pub long : length m′ ≡ length m
+  pub literals : storeOf m′ .literals ≡ setWord (storeOf m .literals) i p
+
+-- a word for each literal allowed
+pub literals-long : {m : List ℕ} → Good m → length (storeOf m .literals) ≡ 4 * allowancesOf m .literals
+literals-long {m} g = words-length m (Layout.literalsAt (allowancesOf m)) (allowancesOf m .literals) (omega (arith, g .enough))
+
+-- literals are neither checked nor held
+module _ (s : Store) (l : List ℕ) where
+  same-check : storeOk (withLiterals s l) ≡ storeOk s
+  unfolding storeOk guidOk groupOk keyOk leafOk fieldOk slotOk textSum
+  same-check = refl
+
+  same-content : contentOf (withLiterals s l) ≡ contentOf s
+  unfolding contentOf guidAt groupBy slotBy fieldAt
+  same-content = refl
+
+-- ---- the write
+
+module _ (h : Header) (m : List ℕ) (enough : Layout.need (h .allowed) ≤ length m) (i p : ℕ) (low : i < h .allowed .literals) where
+  abbrev first : ℕ
+  first = Layout.literalsAt (h .allowed)
+
+  fits : 4 * (first + i) + 4 ≤ length m
+  fits = omega (arith, enough, low)
+
+  before : (j n : ℕ) → j + n ≤ first → words (setWord m (first + i) p) j n ≡ words m j n
+  unfolding words
+  before j n k = part-setWord-below m (first + i) p (4 * j) (4 * n) (omega (arith, k)) fits
+
+  own : words (setWord m (first + i) p) first (h .allowed .literals) ≡ setWord (words m first (h .allowed .literals)) i p
+  unfolding words
+  own = part-setWord-in m first (4 * h .allowed .literals) i p (omega (arith, low)) (omega (arith, enough))
+
+  texts : part (setWord m (first + i) p) (halfAt (h .allowed) (h .half)) (h .allowed .text) ≡ part m (halfAt (h .allowed) (h .half)) (h .allowed .text)
+  texts = part-setWord-above m (first + i) p (halfAt (h .allowed) (h .half)) (h .allowed .text) (omega (arith, low, half-above (h .allowed) (h .half))) fits
+
+  put-literal : storeBy h (setWord m (first + i) p) ≡ withLiterals (storeBy h m) (setWord (storeBy h m .literals) i p)
+  put-literal = tables-kept h m (setWord m (first + i) p) (λ j n _ k. before j n k) ∙ rw (own, texts)
+
+-- what it leaves, where the code found the first of them
+module _ {m : List ℕ} (g : Good m) (i p : ℕ) (low : i < allowancesOf m .literals) where
+  abbrev z : List ℕ
+  z = setWord m (Layout.literalsAt (allowancesOf m) + i) p
+
+  abbrev s : Store
+  s = withLiterals (storeOf m) (setWord (storeOf m .literals) i p)
+
+  written : Written m z s
+  unfolding setWord
+  written =
+      let room : 4 * (Layout.literalsAt (allowancesOf m) + i) + length (lowBytes 4 p) ≤ length m = omega (arith, lowBytes-length 4 p, fits (headerOf m) m (g .enough) i p low) in
+      behind (unwritten m) (4 * (Layout.literalsAt (allowancesOf m) + i)) (lowBytes 4 p) (λ x. withLiterals x (setWord (x .literals) i p)) (omega arith) room (put-literal (headerOf m) m (g .enough) i p low)
+
+  still : Good z
+  still =
+      let enough : Enough z = omega (arith, ap Layout.need (written .allowed), written .long, g .enough) in
+      let header : GoodHeader (headerOf z) = subst (λ (x : Store). GoodHeader (x .header)) (sym (written .store)) (g .valid .header) in
+      record { enough = enough; valid = ok-valid (storeOf z) (need-shaped (headerOf z) z enough) header (ap storeOk (written .store) ∙ same-check (storeOf m) (s .literals) ∙ valid-ok (g .valid)) }
+
+  pub literal-put : {at : ℕ} {m′ : List ℕ} → at ≡ Layout.literalsAt (allowancesOf m) → m′ ≡ setWord m (at + i) p → LiteralPut m m′ i p
+  literal-put a e = rw (e, a) (record {
+    good = still;
+    content = ap contentOf (written .store) ∙ same-content (storeOf m) (s .literals);
+    counters = written .counters;
+    long = written .long;
+    literals = ap (λ (x : Store). x .literals) (written .store);
+  })
