@@ -31,7 +31,7 @@ bytes-take (suc n) (b ∷ l) h (suc i) = bytes-take n l (λ j. h (suc j)) i
 pub bytes-drop : (n : ℕ) (l : List ℕ) → Bytes l → Bytes (drop n l)
 bytes-drop n l h i = rw getD-drop (h (n + i))
 
-bytesOf-bytes : (s : List ℕ) (p n : ℕ) → Bytes (bytesOf s p n)
+pub bytesOf-bytes : (s : List ℕ) (p n : ℕ) → Bytes (bytesOf s p n)
 unfolding bytesOf
 bytesOf-bytes s p zero i = omega arith
 bytesOf-bytes s p (suc n) zero = bits-lt s p 8

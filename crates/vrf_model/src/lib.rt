@@ -74,11 +74,11 @@ pub enum Ran {
     Refused(Refusal),
 }
 
-// What reading a block counted; the Rust's names.
+// What reading a block counted; the Rust's names. As many fields as 100,000 groups of 65,536 slots may have pass 32 bits.
 pub struct CheckpointTables {
     pub guid_count: u32,
     pub group_count: u32,
-    pub exported_fields: u32,
+    pub exported_fields: u64,
     pub frame_offset: u32,
     pub indexed_paths: u32,
     pub literal_paths: u32,

@@ -1,0 +1,103 @@
+-- `vrf_reader::guids::read_payload` meets its contract: the window, its object, and what the object left.
+use mathlib.Core.Bool.{true}
+use Rattle.vrf_model.specs.Runs.{objectAt}
+use Rattle.vrf_reader.specs.GuidSteps.{opened, payload-short, payload-refused, payload-whole, payload-trailing}
+use borrow.Author.Needs.{needs}
+use Rattle.vrf_reader.proofs.guids.read_payload.Statement.{statement}
+use Rattle.vrf_reader.proofs.guids.read_payload.Tie as tie
+
+mul-sub-reader : tie.Need-mul-sub-reader
+mul-sub-reader c = search needs
+
+sub-reader-requires : tie.Need-sub-reader-requires
+sub-reader-requires c κs = search needs
+
+enum-known-r : tie.Need-enum-known-r
+enum-known-r c = search needs
+
+enum-known-at : tie.Need-enum-known-at
+enum-known-at c = search needs
+
+load-object-requires : tie.Need-load-object-requires
+load-object-requires c κs = search needs
+
+enum-known-r-2 : tie.Need-enum-known-r-2
+enum-known-r-2 c = search needs
+
+enum-known-guid : tie.Need-enum-known-guid
+enum-known-guid c = search needs
+
+whole-bytes-requires : tie.Need-whole-bytes-requires
+whole-bytes-requires c κs = search needs
+
+cast-t24 : tie.Need-cast-t24
+cast-t24 c = search needs
+
+same-length : tie.Need-same-length
+same-length c = search needs
+
+same-length-2 : tie.Need-same-length-2
+same-length-2 c = search needs
+
+returns : tie.Need-returns
+unfolding objectAt
+returns c =
+    let within = c .before .before .before .before .before .before .before .before .before .before .before .before .before .before .before .before .before .before .before .pre .1 .1 in
+    let sub = rw (c .before .before .before .before .before .before .before .before .before .before .before .before .before .at .given .1) at (c .before .before .before .before .before .before .before .before .before .before .before .before .before .before .before .sub-reader .ensures) in
+    let window = opened (c .before .before .before .before .before .before .before .before .before .before .before .before .before .before .before .before .before .before .before .args .size) within (sub .0) (sub .1) in
+    payload-trailing (c .before .before .before .before .before .before .before .before .before .before .before .before .before .before .before .before .before .before .before .args .size) (objectAt 0 true) window _ (rw (c .before .before .before .guid .given .1) at (c .before .before .before .before .before .before .before .before .before .load-object .ensures)) (c .before .whole-bytes .ensures) (c .if1 .taken)
+
+returns-2 : tie.Need-returns-2
+returns-2 c = payload-short (c .before .before .before .before .before .before .before .args .size) (objectAt 0 true) (c .before .before .before .before .before .before .before .pre .1 .1) (c .before .before .before .before .before .before .before .pre .0) (rw (c .before .r .given .1) at (c .before .before .before .sub-reader .ensures))
+
+same-length-3 : tie.Need-same-length-3
+same-length-3 c = search needs
+
+same-length-4 : tie.Need-same-length-4
+same-length-4 c = search needs
+
+returns-3 : tie.Need-returns-3
+unfolding objectAt
+returns-3 c =
+    let within = c .before .before .before .before .before .before .before .before .before .before .before .before .before .before .before .before .before .pre .1 .1 in
+    let sub = rw (c .before .before .before .before .before .before .before .before .before .before .before .at .given .1) at (c .before .before .before .before .before .before .before .before .before .before .before .before .before .sub-reader .ensures) in
+    let window = opened (c .before .before .before .before .before .before .before .before .before .before .before .before .before .before .before .before .before .args .size) within (sub .0) (sub .1) in
+    payload-refused (c .before .before .before .before .before .before .before .before .before .before .before .before .before .before .before .before .before .args .size) (objectAt 0 true) window _ (rw (c .before .r2 .given .1) at (c .before .before .before .before .before .before .before .load-object .ensures))
+
+same-length-5 : tie.Need-same-length-5
+same-length-5 c = search needs
+
+same-length-6 : tie.Need-same-length-6
+same-length-6 c = search needs
+
+returns-4 : tie.Need-returns-4
+unfolding objectAt
+returns-4 c =
+    let within = c .before .before .before .before .before .before .before .before .before .before .before .before .before .before .before .before .before .before .before .pre .1 .1 in
+    let sub = rw (c .before .before .before .before .before .before .before .before .before .before .before .before .before .at .given .1) at (c .before .before .before .before .before .before .before .before .before .before .before .before .before .before .before .sub-reader .ensures) in
+    let window = opened (c .before .before .before .before .before .before .before .before .before .before .before .before .before .before .before .before .before .before .before .args .size) within (sub .0) (sub .1) in
+    payload-whole (c .before .before .before .before .before .before .before .before .before .before .before .before .before .before .before .before .before .before .before .args .size) (objectAt 0 true) window _ (rw (c .before .before .before .guid .given .1) at (c .before .before .before .before .before .before .before .before .before .load-object .ensures)) (c .before .whole-bytes .ensures) (c .if1 .left)
+
+pub read-payload-spec : {M : Type 1} → statement M
+read-payload-spec =
+    tie.close
+    (tie.spec
+    mul-sub-reader
+    sub-reader-requires
+    enum-known-r
+    enum-known-at
+    load-object-requires
+    enum-known-r-2
+    enum-known-guid
+    whole-bytes-requires
+    cast-t24
+    same-length
+    same-length-2
+    returns
+    returns-2
+    same-length-3
+    same-length-4
+    returns-3
+    same-length-5
+    same-length-6
+    returns-4)
