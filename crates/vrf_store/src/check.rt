@@ -318,7 +318,7 @@ fn reaches(
 }
 
 // Writes a path's key into the first bytes of out, and answers how many it has.
-fn spell(path: &[u8], key: Key, out: &mut [u8]) -> usize
+pub fn spell(path: &[u8], key: Key, out: &mut [u8]) -> usize
     requires { ⌜ length (now path) + 23 ≤ length (now out) ⌝ }
     ensures { λ r. ⌜ (r ≡ length (keyBytes (now (path .entry)) key)) × (take r (now (out .exit)) ≡ keyBytes (now (path .entry)) key) ⌝ }
 {

@@ -1,0 +1,72 @@
+-- A whole block as the writer sends it.
+use mathlib.Core.Path.{_≡_, refl, sym, ap, _∙_}
+use mathlib.Core.List.{List, _++_}
+use Prim.Native.Nat.{ℕ, _+_, _-_, _≤_}
+use native.Mathlib.Omega.{arith}
+use lib.ListN.{length, replicate, length-append}
+use Rattle.vrf_bitio.specs.Number.{lowBytes, encodeWord32}
+use Rattle.vrf_bitio.specs.Pasted.{pasted}
+use Rattle.vrf_model.specs.Book.{Content}
+use Rattle.vrf_model.specs.Writer.{encodeGuid, encodeGroup, encodeAll, encodeTables, encodeBook}
+use Rattle.vrf_store.specs.UpToLaws.{length-upTo}
+use Rattle.vrf_store.specs.Store.{Store, guidAt, contentOf}
+use Rattle.vrf_writer.specs.Puts.{Puts, Under}
+use Rattle.vrf_writer.specs.PutsLaws.{under-start, under-pasted, first-put}
+use Rattle.vrf_writer.specs.NumberPuts.{word-length}
+use Rattle.vrf_writer.specs.GroupPuts.{groupAt}
+
+-- what follows the GUID records, and what follows the zero words
+abbrev pub groupsOn : Content → List ℕ
+groupsOn c = encodeWord32 (length (c .groups)) ++ encodeAll encodeGroup (c .groups)
+
+abbrev pub guidsOn : Content → List ℕ
+guidsOn c = encodeAll encodeGuid (c .guids) ++ groupsOn c
+
+module _ (c : Content) where
+  tables-code : encodeTables c ≡ replicate 12 0 ++ (encodeWord32 (length (c .guids)) ++ guidsOn c)
+  unfolding encodeTables encodeWord32 lowBytes
+  tables-code = refl
+
+  pub tables-length : length (encodeTables c) ≡ 20 + length (encodeAll encodeGuid (c .guids)) + length (encodeAll encodeGroup (c .groups))
+  tables-length = omega (
+    arith,
+    ap length tables-code,
+    length-append (encodeWord32 (length (c .guids))) (guidsOn c),
+    length-append (encodeAll encodeGuid (c .guids)) (groupsOn c),
+    length-append (encodeWord32 (length (c .groups))) (encodeAll encodeGroup (c .groups)),
+    word-length (length (c .guids)),
+    word-length (length (c .groups)),
+  )
+
+  module _ (l : List ℕ) (fits : length (encodeTables c) ≤ length l) where
+    pub zeros-put : {xs : List ℕ} → xs ≡ pasted l 0 (replicate 12 0) → Under (encodeTables c) l xs 12 (encodeWord32 (length (c .guids)) ++ guidsOn c)
+    zeros-put e = under-pasted (replicate 12 0) (encodeWord32 (length (c .guids)) ++ guidsOn c) (under-start tables-code fits) e
+
+-- how many records and groups a store has
+module _ (s : Store) where
+  pub guids-count : {n : ℕ} → n ≡ s .header .guids → n ≡ length (contentOf s .guids)
+  unfolding contentOf
+  guids-count e = e ∙ sym (length-upTo (guidAt s) (s .header .guids))
+
+  pub groups-count : {n : ℕ} → n ≡ s .header .groups → n ≡ length (contentOf s .groups)
+  unfolding contentOf
+  groups-count e = e ∙ sym (length-upTo (groupAt s) (s .header .groups))
+
+-- the first word is the length but for 8
+module _ (c : Content) where
+  block-four : length (encodeBook c) ≡ 4 + length (encodeTables c)
+  unfolding encodeBook
+  block-four = omega (arith, length-append (encodeWord32 (length (encodeTables c) + 4 - 8)) (encodeTables c), word-length (length (encodeTables c) + 4 - 8))
+
+  pub block-length : length (encodeBook c) ≡ 24 + length (encodeAll encodeGuid (c .guids)) + length (encodeAll encodeGroup (c .groups))
+  block-length = omega (arith, block-four, tables-length c)
+
+  module _ {n : ℕ} (e : n ≡ length (encodeBook c)) where
+    block-code : encodeBook c ≡ encodeWord32 (n - 8) ++ encodeTables c
+    unfolding encodeBook
+    block-code = let same : length (encodeTables c) + 4 - 8 ≡ n - 8 = omega (arith, e, block-four) in ap (λ (k : ℕ). encodeWord32 k ++ encodeTables c) same
+
+    pub word-first : (l : List ℕ) → n ≤ length l → {ys : List ℕ} {a : ℕ} → Puts (encodeWord32 (n - 8)) l ys a → Under (encodeBook c) l ys 4 (encodeTables c)
+    word-first l fits {ys} p =
+        let four = p .count ∙ word-length (n - 8) in
+        rw four at (first-put l (encodeWord32 (n - 8)) (encodeTables c) block-code (omega (arith, fits, e)) refl p)

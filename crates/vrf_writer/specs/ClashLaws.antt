@@ -1,0 +1,225 @@
+-- The search finds the first clash.
+use mathlib.Core.Path.{_≡_, refl, sym, ap, _∙_}
+use mathlib.Core.Bool.{Bool, true, false, cond, _||_, or-true}
+use mathlib.Core.List.{List, [], _∷_, _++_, append-assoc, append-nil}
+use mathlib.Core.Option.{Option, none, some}
+use Prim.Native.Nat.{ℕ, zero, suc, _+_, _<_, _≤_, min}
+use native.Mathlib.Nat.{not-suc-le-zero}
+use native.Mathlib.Omega.{arith}
+use lib.ListN.{length}
+use Rattle.vrf_text.specs.Cases.{by-order, clash}
+use Rattle.vrf_path.specs.Text.{same}
+use Rattle.vrf_path.specs.TextLaws.{same-true}
+use Rattle.vrf_path.specs.Keys.{hasKey, isThe, defaultAlias, coreAlias}
+use Rattle.vrf_path.specs.KeysLaws.{has-by-parts, has-itself}
+use Rattle.vrf_model.specs.Book.{Group}
+use Rattle.vrf_model.specs.Lookup.{further, orElse, pathPlace}
+use Rattle.vrf_model.specs.Writer.{isKeyOf, orLater, firstClash}
+use Rattle.vrf_table.specs.Chain.{lastBelow}
+use Rattle.vrf_table.specs.ChainLaws.{by-equal, lastBelow-reach, lastBelow-passes}
+use Rattle.vrf_store.specs.UpTo.{upTo}
+use Rattle.vrf_store.specs.UpToLaws.{length-upTo, lastPlace-upTo}
+use Rattle.vrf_store.specs.Store.{Store, contentOf}
+use Rattle.vrf_writer.specs.GroupPuts.{groupAt}
+use Rattle.vrf_writer.specs.Clash.{pathAt, isAt, isKeyAt, Keyed, Narrowed, Scanned, Hit, Sought}
+
+-- ---- the first clash among n groups
+
+module _ (p : List ℕ) where
+  key-last : (l : List Group) (g : Group) → isKeyOf p (l ++ (g ∷ [])) ≡ (isKeyOf p l || hasKey (g .path) p)
+  unfolding isKeyOf
+  key-last [] g = go (hasKey (g .path) p)
+    where
+      go : (b : Bool) → (b || false) ≡ b
+      go true = refl
+      go false = refl
+  key-last (x ∷ l) g = rw (key-last l g) (go (hasKey (x .path) p) (isKeyOf p l) (hasKey (g .path) p))
+    where
+      go : (a b c : Bool) → (a || (b || c)) ≡ ((a || b) || c)
+      go true b c = refl
+      go false b c = refl
+
+-- one group more
+last-of : (b : Bool) → orLater b none ≡ cond b (some 0) none
+unfolding orLater further
+last-of true = refl
+last-of false = refl
+
+later-of : (a b : Bool) (o : Option ℕ) (n : ℕ) → orLater a (orElse o (cond b (some n) none)) ≡ orElse (orLater a o) (cond b (some (suc n)) none)
+unfolding orLater orElse further
+later-of true b o n = refl
+later-of false true none n = refl
+later-of false false none n = refl
+later-of false b (some i) n = refl
+
+clash-last : (l e : List Group) (g : Group) → firstClash e (l ++ (g ∷ [])) ≡ orElse (firstClash e l) (cond (isKeyOf (g .path) (e ++ l)) (some (length l)) none)
+unfolding firstClash orElse
+clash-last [] e g = rw (append-nil e) (last-of (isKeyOf (g .path) e))
+clash-last (x ∷ l) e g =
+    let same-list : (e ++ (x ∷ [])) ++ l ≡ e ++ (x ∷ l) = append-assoc e (x ∷ []) l in
+    rw (clash-last l (e ++ (x ∷ [])) g, same-list) (later-of (isKeyOf (x .path) e) (isKeyOf (g .path) (e ++ (x ∷ l))) (firstClash (e ++ (x ∷ [])) l) (length l))
+
+module _ (f : ℕ → Group) where
+  -- whether the path of group j is a key of group i
+  abbrev keyAt : ℕ → ℕ → Bool
+  keyAt i j = hasKey (f i .path) (f j .path)
+
+  next-clash : (n : ℕ) → firstClash [] (upTo f (suc n)) ≡ orElse (firstClash [] (upTo f n)) (cond (isKeyOf (f n .path) (upTo f n)) (some n) none)
+  unfolding upTo
+  next-clash n = clash-last (upTo f n) [] (f n) ∙ rw (length-upTo f n)
+
+  no-key : (p : List ℕ) (n : ℕ) → ((i : ℕ) → i < n → hasKey (f i .path) p ≡ false) → isKeyOf p (upTo f n) ≡ false
+  unfolding upTo isKeyOf
+  no-key p zero h = refl
+  no-key p (suc n) h = key-last p (upTo f n) (f n) ∙ rw (no-key p n (λ i k. h i (omega (arith, k))), h n (omega arith))
+
+  a-key : (p : List ℕ) (n i : ℕ) → i < n → hasKey (f i .path) p ≡ true → isKeyOf p (upTo f n) ≡ true
+  unfolding upTo
+  a-key p zero i k h = absurd (not-suc-le-zero k)
+  a-key p (suc n) i k h = key-last p (upTo f n) (f n) ∙ by-equal i n
+      (λ q. rw (rw q at h) (or-true (isKeyOf p (upTo f n))))
+      (λ q. rw (a-key p n i (omega (arith, k, q)) h))
+
+  no-clash : (n : ℕ) → ((i j : ℕ) → i < j → j < n → keyAt i j ≡ false) → firstClash [] (upTo f n) ≡ none
+  unfolding upTo firstClash orElse
+  no-clash zero h = refl
+  no-clash (suc n) h = next-clash n ∙ rw (no-clash n (λ i j a b. h i j a (omega (arith, b))), no-key (f n .path) n (λ i k. h i n k (omega arith)))
+
+  a-clash : (n j : ℕ) → j < n → Hit keyAt j → ((i k : ℕ) → i < k → k < j → keyAt i k ≡ false) → firstClash [] (upTo f n) ≡ some j
+  unfolding orElse
+  a-clash zero j l t h = absurd (not-suc-le-zero l)
+  a-clash (suc n) j l t h = next-clash n ∙ by-equal j n
+      (λ q. rw (no-clash n (λ i k a b. h i k a (omega (arith, b, q))), a-key (f n .path) n (t .earlier) (omega (arith, t .before, q)) (rw q at (t .key)), q))
+      (λ q. rw (a-clash n j (omega (arith, l, q)) t h))
+
+-- ---- narrowing down
+
+by-false : (b : Bool) → (b ≡ true → ⊥) → b ≡ false
+by-false true h = absurd (h refl)
+by-false false h = refl
+
+module _ {p q : ℕ → Bool} where
+  pub narrowed-as : {h least r : ℕ} → ((j : ℕ) → p j ≡ q j) → Narrowed p h least r → Narrowed q h least r
+  narrowed-as e n = record {
+    within = n .within;
+    clear = λ j a b. sym (e j) ∙ n .clear j a b;
+    hit = λ l. (n .hit l .0, sym (e _) ∙ n .hit l .1);
+  }
+
+  -- by one test and then by another
+  pub narrowed-both : {h least a b : ℕ} → Narrowed p h least a → Narrowed q h a b → Narrowed (λ j. p j || q j) h least b
+  narrowed-both {h} {least} {a} {b} n m = record {
+    within = omega (arith, n .within, m .within);
+    clear = λ j k l. rw (n .clear j k (omega (arith, l, m .within)), m .clear j k l);
+    hit = λ l. by-order a b
+        (λ g. let same-place : b ≡ a = omega (arith, g, m .within) in
+        let it = n .hit (omega (arith, l, same-place)) in
+        (omega (arith, it .0, same-place), rw (same-place, it .1)))
+        (λ g. let it = m .hit g in (it .0, rw (it .1) (or-true (p b))));
+  }
+
+pub narrowed-none : {p : ℕ → Bool} (h least : ℕ) → ((j : ℕ) → h < j → j < least → p j ≡ false) → Narrowed p h least least
+narrowed-none h least f = record { within = omega arith; clear = f; hit = λ l. absurd (omega (arith, l)) }
+
+-- number by number
+pub scanned-start : (test : ℕ → Bool) (h : ℕ) → Scanned test h (h + 1)
+scanned-start test h = record { behind = omega arith; clear = λ i a b. absurd (omega (arith, a, b)) }
+
+module _ {test : ℕ → Bool} {h j : ℕ} (n : Scanned test h j) where
+  pub scanned-step : test j ≡ false → Scanned test h (j + 1)
+  scanned-step e = record { behind = omega (arith, n .behind); clear = λ i a b. by-equal i j (λ q. rw q e) (λ q. n .clear i a (omega (arith, b, q))) }
+
+  pub scanned-hit : {to : ℕ} → j < to → test j ≡ true → Narrowed test h to j
+  scanned-hit l e = record { within = omega (arith, l); clear = n .clear; hit = λ _. (n .behind, e) }
+
+  pub scanned-end : {to : ℕ} → to ≤ j → Narrowed test h to to
+  scanned-end {to} l = narrowed-none h to (λ i a b. n .clear i a (omega (arith, b, l)))
+
+pub path-test : (s : Store) (k : List ℕ) (j : ℕ) {t : List ℕ} {b : Bool} → b ≡ same k t → t ≡ pathAt s j → isAt s (some k) j ≡ b
+unfolding isThe
+path-test s k j e d = ap (same k) (sym d) ∙ sym e
+
+-- an alias that is not there, or is spelled out
+module _ (s : Store) {o : Option (List ℕ)} {h least : ℕ} where
+  pub alias-none : o ≡ none → Narrowed (isAt s o) h least least
+  unfolding isThe
+  alias-none e = narrowed-none h least (λ j a b. ap (λ (x : Option (List ℕ)). isAt s x j) e)
+
+  pub alias-some : {k : List ℕ} {r : ℕ} → o ≡ some k → Narrowed (isAt s (some k)) h least r → Narrowed (isAt s o) h least r
+  alias-some e = narrowed-as (λ j. ap (λ (x : Option (List ℕ)). isAt s x j) (sym e))
+
+-- up to the last group that has a key
+module _ {s : Store} {k : List ℕ} {end h least to r : ℕ} (d : Keyed s k end) (e : to ≡ min end least) (n : Narrowed (isAt s (some k)) h to r) where
+  pub narrowed-less : r < to → Narrowed (isAt s (some k)) h least r
+  narrowed-less l = record { within = omega (arith, n .within, e); clear = n .clear; hit = λ _. n .hit l }
+
+  pub narrowed-not : least ≤ s .header .groups → to ≤ r → Narrowed (isAt s (some k)) h least least
+  narrowed-not few l = narrowed-none h least (λ j a b. by-order end j
+      (λ past. d .past j past (omega (arith, b, few)))
+      (λ before. n .clear j a (omega (arith, b, before, l, e))))
+
+-- the last group that has a key
+module _ (s : Store) (k : List ℕ) where
+  last-place : pathPlace k (contentOf s .groups) ≡ lastBelow (λ g. hasKey (pathAt s g) k) (s .header .groups)
+  unfolding pathPlace contentOf
+  last-place = lastPlace-upTo _ (groupAt s) (s .header .groups)
+
+  -- a group with that path has the key
+  path-key : (j : ℕ) → isAt s (some k) j ≡ true → hasKey (pathAt s j) k ≡ true
+  unfolding isThe
+  path-key j e = has-itself (pathAt s j) k (sym (same-true k (pathAt s j) e))
+
+  pub keyed-at : {x : ℕ} → pathPlace k (contentOf s .groups) ≡ some x → Keyed s k (x + 1)
+  keyed-at {x} e = record {
+    few = omega (arith, last-in);
+    past = λ j a b. by-false (isAt s (some k) j) (λ t. behind j a (lastBelow-reach (λ g. hasKey (pathAt s g) k) (s .header .groups) j b (path-key j t)));
+  }
+    where
+      last-in : x < s .header .groups
+      last-in = (rw (sym last-place ∙ e) at (lastBelow-passes (λ g. hasKey (pathAt s g) k) (s .header .groups))) .0
+
+      behind : (j : ℕ) → x + 1 ≤ j → (f : ℕ) × ((lastBelow (λ g. hasKey (pathAt s g) k) (s .header .groups) ≡ some f) × (j ≤ f)) → ⊥
+      behind j a (f, (q, l)) = let z : x ≡ f = cc (last-place) in omega (arith, z, a, l)
+
+  pub keyed-nowhere : pathPlace k (contentOf s .groups) ≡ none → Keyed s k 0
+  keyed-nowhere e = record {
+    few = omega arith;
+    past = λ j a b. by-false (isAt s (some k) j) (λ t. found (lastBelow-reach (λ g. hasKey (pathAt s g) k) (s .header .groups) j b (path-key j t)));
+  }
+    where
+      found : {j : ℕ} → (f : ℕ) × ((lastBelow (λ g. hasKey (pathAt s g) k) (s .header .groups) ≡ some f) × (j ≤ f)) → ⊥
+      found (f, (q, l)) = clash (cc (last-place))
+
+-- by all three keys of a group
+pub narrowed-keys : (s : Store) (h : ℕ) {t : List ℕ} {least a b r : ℕ} {d c : Option (List ℕ)} → t ≡ pathAt s h → d ≡ defaultAlias t → c ≡ coreAlias t
+    → Narrowed (isAt s (some t)) h least a → Narrowed (isAt s d) h a b → Narrowed (isAt s c) h b r → Narrowed (isKeyAt s h) h least r
+unfolding isThe
+narrowed-keys s h {t} et ed ec n m o = narrowed-as
+    (λ j. sym (ap (λ (x : List ℕ). hasKey x (pathAt s j)) (sym et) ∙ has-by-parts t (pathAt s j) ∙ rw (← ed, ← ec)))
+    (narrowed-both n (narrowed-both m o))
+
+-- ---- the search
+
+pub sought-start : (test : ℕ → ℕ → Bool) (n : ℕ) → Sought test n 0 n
+sought-start test n = record { within = omega arith; clear = λ i j a. absurd (not-suc-le-zero a); hit = λ l. absurd (omega (arith, l)) }
+
+pub sought-step : {test : ℕ → ℕ → Bool} {n h least r : ℕ} → Sought test n h least → Narrowed (test h) h least r → Sought test n (h + 1) r
+sought-step {test} {n} {h} {least} {r} s k = record {
+  within = omega (arith, s .within, k .within);
+  clear = λ i j a b l. by-equal i h (λ q. rw q (k .clear j (omega (arith, b, q)) l)) (λ q. s .clear i j (omega (arith, a, q)) b (omega (arith, l, k .within)));
+  hit = λ l. by-order least r
+      (λ g. let same-place : r ≡ least = omega (arith, g, k .within) in rw same-place (s .hit (omega (arith, l, same-place))))
+      (λ g. record { earlier = h; before = k .hit g .0; key = k .hit g .1 });
+}
+
+module _ (s : Store) {n h least : ℕ} (e : n ≡ s .header .groups) (found : Sought (isKeyAt s) n h least) (over : least ≤ h) where
+  all-clear : (i j : ℕ) → i < j → j < least → isKeyAt s i j ≡ false
+  all-clear i j a b = found .clear i j (omega (arith, a, b, over)) a b
+
+  pub sought-some : least < n → some least ≡ firstClash [] (contentOf s .groups)
+  unfolding contentOf
+  sought-some l = sym (a-clash (groupAt s) (s .header .groups) least (omega (arith, l, e)) (found .hit l) all-clear)
+
+  pub sought-none : n ≤ least → none ≡ firstClash [] (contentOf s .groups)
+  unfolding contentOf
+  sought-none l = sym (no-clash (groupAt s) (s .header .groups) (λ i j a b. all-clear i j a (omega (arith, b, l, e))))

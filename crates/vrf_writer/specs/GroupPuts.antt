@@ -1,0 +1,114 @@
+-- Groups and their slots as the writer sends them.
+use mathlib.Core.Path.{_≡_, refl, sym, ap, _∙_}
+use mathlib.Core.List.{List, [], _∷_, _++_, append-assoc, append-nil}
+use mathlib.Core.Option.{none, some}
+use Prim.Native.Nat.{ℕ, zero, suc, _+_, _<_, _≤_}
+use native.Mathlib.Nat.{add-zero, zero-add}
+use native.Mathlib.Omega.{arith}
+use lib.ListN.{length}
+use Rattle.vrf_bitio.specs.Number.{encodePacked, encodeWord32}
+use Rattle.vrf_text.specs.Text.{encodeText}
+use Rattle.vrf_model.specs.Book.{Slot, filled, Group}
+use Rattle.vrf_model.specs.Lookup.{placeOr}
+use Rattle.vrf_model.specs.Writer.{encodeSlot, encodeSlots, encodeGroup, encodeAll}
+use Rattle.vrf_table.specs.Table.{info, text, findKey}
+use Rattle.vrf_store.specs.UpTo.{upTo}
+use Rattle.vrf_store.specs.UpToLaws.{length-upTo}
+use Rattle.vrf_store.specs.Store.{Store, fieldAt, orEmpty, slotKey, slotBy, groupBy, contentOf}
+use Rattle.vrf_store.specs.Lookups.{group-at}
+use Rattle.vrf_store.specs.SlotRow.{fieldFound}
+use Rattle.vrf_store.specs.Valid.{Valid}
+use Rattle.vrf_writer.specs.Puts.{Puts, Under}
+use Rattle.vrf_writer.specs.PutsLaws.{under-start, first-lent, first-put}
+use Rattle.vrf_writer.specs.EachPuts.{all-next}
+
+-- a slot of a group, and a group, as all fields of a store fill them
+abbrev pub slotAt : Store → ℕ → ℕ → Slot
+slotAt s place slot = slotBy s (s .header .fields) place slot
+
+abbrev pub groupAt : Store → ℕ → Group
+groupAt s g = groupBy s (s .header .fields) g
+
+-- ---- slots
+
+-- a name of kind 0 with number 0
+unfoldable pub nameCode : List ℕ → List ℕ
+nameCode t = 0 ∷ (encodeText t ++ encodeWord32 0)
+
+-- what follows the place of a filled slot
+abbrev pub checksumOn : ℕ → List ℕ → List ℕ
+checksumOn checksum name = encodeWord32 checksum ++ nameCode name
+
+module _ (t l : List ℕ) (fits : length (nameCode t) ≤ length l) where
+  pub name-start : Under (nameCode t) l l 0 (0 ∷ (encodeText t ++ encodeWord32 0))
+  unfolding nameCode
+  name-start = under-start refl fits
+
+-- the field of row e
+module _ (s : Store) (slot e : ℕ) (l : List ℕ) (fits : length (encodeSlot slot (fieldAt s e)) ≤ length l) where
+  pub field-start : Under (encodeSlot slot (fieldAt s e)) l l 0 (1 ∷ (encodePacked slot ++ checksumOn (info (s .fieldRows) e) (text (s .fieldRows) (s .texts) e)))
+  unfolding encodeSlot fieldAt nameCode
+  field-start = under-start refl fits
+
+module _ {s : Store} (v : Valid s) (place slot : ℕ) where
+  slot-is : slotAt s place slot ≡ orEmpty (fieldAt s) (fieldFound s (slotKey place slot))
+  unfolding slotBy findKey
+  slot-is = ap (orEmpty (fieldAt s)) (sym (v .fieldTable .latest (slotKey place slot)))
+
+  pub slot-field : {e : ℕ} → fieldFound s (slotKey place slot) ≡ some e → encodeSlot slot (fieldAt s e) ≡ encodeSlot slot (slotAt s place slot)
+  unfolding orEmpty
+  slot-field q = ap (encodeSlot slot) (sym (slot-is ∙ ap (orEmpty (fieldAt s)) q))
+
+  pub slot-none : fieldFound s (slotKey place slot) ≡ none → 0 ∷ [] ≡ encodeSlot slot (slotAt s place slot)
+  unfolding orEmpty encodeSlot
+  slot-none q = ap (encodeSlot slot) (sym (slot-is ∙ ap (orEmpty (fieldAt s)) q))
+
+-- ---- all slots of a group
+
+slots-last : (l : List Slot) (a : Slot) (k : ℕ) → encodeSlots k (l ++ (a ∷ [])) ≡ encodeSlots k l ++ encodeSlot (k + length l) a
+unfolding encodeSlots
+slots-last [] a k = rw (append-nil (encodeSlot k a), add-zero k)
+slots-last (x ∷ l) a k =
+    let next : k + 1 + length l ≡ k + suc (length l) = omega arith in
+    rw (slots-last l a (k + 1), next) (sym (append-assoc (encodeSlot k x) (encodeSlots (k + 1) l) (encodeSlot (k + suc (length l)) a)))
+
+-- slots are the elements of a list of their places
+pub slots-code : (f : ℕ → Slot) (n : ℕ) → encodeAll (λ (q : ℕ). encodeSlot q (f q)) (upTo (λ (q : ℕ). q) n) ≡ encodeSlots 0 (upTo f n)
+unfolding upTo encodeAll encodeSlots
+slots-code f zero = refl
+slots-code f (suc n) =
+    let place : 0 + length (upTo f n) ≡ n = zero-add (length (upTo f n)) ∙ length-upTo f n in
+    all-next (λ (q : ℕ). encodeSlot q (f q)) (λ (q : ℕ). q) n
+    ∙ rw (slots-code f n) (sym (slots-last (upTo f n) (f n) 0 ∙ rw place))
+
+module _ (s : Store) (place : ℕ) (h : place < s .header .groups) where
+  slots-count : {n : ℕ} → n ≡ placeOr (λ (g : Group). length (g .slots)) 0 (contentOf s .groups) place → n ≡ info (s .groupRows) place
+  unfolding groupBy
+  slots-count e = e ∙ group-at s 0 place (λ (g : Group). length (g .slots)) h ∙ length-upTo (slotAt s place) (info (s .groupRows) place)
+
+  pub group-slots-code : {n : ℕ} → n ≡ placeOr (λ (g : Group). length (g .slots)) 0 (contentOf s .groups) place → encodeAll (λ (q : ℕ). encodeSlot q (slotAt s place q)) (upTo (λ (q : ℕ). q) n) ≡ encodeSlots 0 (groupAt s place .slots)
+  unfolding groupBy
+  group-slots-code {n} e = slots-code (slotAt s place) n ∙ ap (λ (k : ℕ). encodeSlots 0 (upTo (slotAt s place) k)) (slots-count e)
+
+-- ---- groups
+
+-- what follows the path, and what follows the index
+abbrev pub slotsOn : Group → List ℕ
+slotsOn g = encodePacked (length (g .slots)) ++ encodeSlots 0 (g .slots)
+
+abbrev pub indexOn : Group → List ℕ
+indexOn g = encodePacked (g .index) ++ slotsOn g
+
+module _ (g : Group) (l : List ℕ) (fits : length (encodeGroup g) ≤ length l) {t : List ℕ} (e : t ≡ g .path) where
+  pub path-lent : length (encodeText t) ≤ length l
+  unfolding encodeGroup
+  path-lent = first-lent l (encodeText (g .path)) (indexOn g) refl fits (ap encodeText e)
+
+  pub path-put : {ys : List ℕ} {a : ℕ} → Puts (encodeText t) l ys a → Under (encodeGroup g) l ys a (indexOn g)
+  unfolding encodeGroup
+  path-put p = first-put l (encodeText (g .path)) (indexOn g) refl fits (ap encodeText e) p
+
+-- all groups
+pub groups-code : (s : Store) {n : ℕ} → n ≡ s .header .groups → encodeAll encodeGroup (upTo (groupAt s) n) ≡ encodeAll encodeGroup (contentOf s .groups)
+unfolding contentOf
+groups-code s e = ap (λ (k : ℕ). encodeAll encodeGroup (upTo (groupAt s) k)) e

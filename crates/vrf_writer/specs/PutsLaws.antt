@@ -1,0 +1,102 @@
+-- Writers one after the other: each is lent what those before it left free.
+use mathlib.Core.Path.{_≡_, refl, sym, ap, subst, _∙_}
+use mathlib.Core.List.{List, [], _∷_, _++_, append-assoc, append-nil}
+use Prim.Native.Nat.{ℕ, _+_, _-_, _≤_}
+use native.Mathlib.Nat.{zero-add}
+use native.Mathlib.Omega.{arith}
+use lib.ListN.{length, drop, set, length-append, length-drop, drop-of-length-le}
+use lib.Seq.{take-all, drop-drop}
+use Rattle.vrf_bitio.specs.Pasted.{pasted}
+use Rattle.vrf_bitio.specs.PastedLaws.{pasted-nil, pasted-cons, pasted-front, pasted-length, pasted-append}
+use Rattle.vrf_writer.specs.Puts.{Puts, lentFrom, backFrom, Under}
+
+-- ---- a part of a slice, from a place on, lent to a writer
+
+-- all that stands there is lent
+lent : (xs : List ℕ) (a : ℕ) → lentFrom xs a ≡ drop a xs
+lent xs a = take-all (length xs - a) (drop a xs) (omega (arith, length-drop a xs))
+
+-- and what comes back stands in its place
+back : (xs v : List ℕ) (a : ℕ) {ys : List ℕ} → ys ≡ pasted (lentFrom xs a) 0 v → backFrom xs a ys ≡ pasted xs a v
+unfolding pasted
+back xs v a {ys} e =
+    let none : drop (length xs - a) (drop a xs) ≡ [] = drop-of-length-le (drop a xs) {i = length xs - a} (omega (arith, length-drop a xs)) in
+    let written : ys ≡ v ++ drop (a + length v) xs = e ∙ rw (lent xs a, pasted-front (drop a xs) v, drop-drop (length v) a xs) in
+    rw (none, append-nil ys, written)
+
+-- ---- the same code
+
+pub puts-as : {c d l xs : List ℕ} {n : ℕ} → c ≡ d → Puts c l xs n → Puts d l xs n
+puts-as {l = l} {xs = xs} {n = n} e p = subst (λ (x : List ℕ). Puts x l xs n) e p
+
+pub fits-as : {c d : List ℕ} {k : ℕ} → c ≡ d → length d ≤ k → length c ≤ k
+fits-as e h = omega (arith, h, ap length e)
+
+-- ---- a code under way
+
+pub under-start : {code rest l : List ℕ} → code ≡ rest → length code ≤ length l → Under code l l 0 rest
+under-start {l = l} e h = record { front = []; split = sym e; bytes = sym (pasted-nil l 0); count = refl; fits = h }
+
+module _ {code l xs rest : List ℕ} {at : ℕ} (u : Under code l xs at rest) where
+  pub under-long : length xs ≡ length l
+  under-long = ap length (u .bytes) ∙ pasted-length (u .front) l 0 (omega (arith, u .fits, ap length (u .split), length-append (u .front) rest))
+
+  -- what is still due has room
+  pub under-room : at + length rest ≤ length xs
+  under-room = omega (arith, under-long, u .fits, u .count, ap length (u .split), length-append (u .front) rest)
+
+  pub under-end : rest ≡ [] → Puts code l xs at
+  under-end e =
+      let all : u .front ≡ code = sym (append-nil (u .front)) ∙ rw e at (u .split) in
+      record { bytes = rw (← all) (u .bytes); count = rw (← all) (u .count) }
+
+-- a part of it more
+module _ {code l xs : List ℕ} {at : ℕ} (v rest : List ℕ) (u : Under code l xs at (v ++ rest)) where
+  part-room : at + length v ≤ length xs
+  part-room = omega (arith, under-room u, length-append v rest)
+
+  pub under-pasted : {ys : List ℕ} → ys ≡ pasted xs at v → Under code l ys (at + length v) rest
+  under-pasted e = record {
+    front = u .front ++ v;
+    split = append-assoc (u .front) v rest ∙ u .split;
+    bytes = e ∙ rw (u .bytes) (pasted-append (u .front) v l 0 at (omega (arith, u .count)) (omega (arith, part-room, under-long u)));
+    count = omega (arith, u .count, length-append (u .front) v);
+    fits = u .fits;
+  }
+
+  -- by a writer that is lent what is free, and has room there
+  pub under-lent : {w : List ℕ} → w ≡ v → length w ≤ length (lentFrom xs at)
+  under-lent e = rw (e, lent xs at, length-drop at xs) (omega (arith, part-room))
+
+  pub under-next : {w ys : List ℕ} {n : ℕ} → w ≡ v → Puts w (lentFrom xs at) ys n → Under code l (backFrom xs at ys) (at + n) rest
+  under-next e p = rw (p .count, e) (under-pasted (back xs v at (rw e at (p .bytes))))
+
+-- a byte more
+pub under-byte : {code l xs rest : List ℕ} {at : ℕ} (b : ℕ) → Under code l xs at (b ∷ rest) → Under code l (set xs at b) (at + 1) rest
+under-byte {xs = xs} {rest = rest} {at = at} b u = under-pasted (b ∷ []) rest u (sym (pasted-cons xs at b [] (omega (arith, under-room u)) ∙ pasted-nil (set xs at b) (at + 1)))
+
+-- the first part, by a writer that is lent all
+module _ (l : List ℕ) {code : List ℕ} (v rest : List ℕ) (e : code ≡ v ++ rest) (fits : length code ≤ length l) where
+  pub first-lent : {w : List ℕ} → w ≡ v → length w ≤ length l
+  first-lent d = rw d (omega (arith, fits, ap length e, length-append v rest))
+
+  pub first-put : {w ys : List ℕ} {n : ℕ} → w ≡ v → Puts w l ys n → Under code l ys n rest
+  first-put d p = rw (p .count, d) (rw zero-add at (under-pasted v rest (under-start e fits) (rw d at (p .bytes))))
+
+-- the last part
+module _ {code l xs v : List ℕ} {at : ℕ} (u : Under code l xs at v) where
+  more : Under code l xs at (v ++ [])
+  more = rw (append-nil v) u
+
+  pub last-lent : {w : List ℕ} → w ≡ v → length w ≤ length (lentFrom xs at)
+  last-lent = under-lent v [] more
+
+  pub last-put : {w ys : List ℕ} {n : ℕ} → w ≡ v → Puts w (lentFrom xs at) ys n → Puts code l (backFrom xs at ys) (at + n)
+  last-put e p = under-end (under-next v [] more e p) refl
+
+  module _ {w ys : List ℕ} {n : ℕ} (e : w ≡ v) (p : Puts w (lentFrom xs at) ys n) where
+    pub last-long : length (backFrom xs at ys) ≡ length l
+    last-long = under-long (under-next v [] more e p)
+
+    pub last-room : at + n ≤ length l
+    last-room = omega (arith, under-room (under-next v [] more e p), last-long)

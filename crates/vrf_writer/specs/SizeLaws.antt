@@ -1,0 +1,173 @@
+-- The parts of a block add up to it.
+use mathlib.Core.Path.{_≡_, refl, sym, ap, _∙_}
+use mathlib.Core.List.{List, [], _∷_, _++_}
+use Prim.Native.Nat.{ℕ, zero, suc, _+_, _*_, _/_, _%_, _^_, _<_, _≤_}
+use native.Mathlib.Nat.{mul-suc}
+use native.Mathlib.Omega.{arith}
+use lib.ListN.{length, length-append}
+use Rattle.vrf_bitio.specs.Number.{encodePacked, encodeWord32}
+use Rattle.vrf_text.specs.Text.{encodeText}
+use Rattle.vrf_model.specs.Book.{Guid, Slot, empty, filled, Group}
+use Rattle.vrf_model.specs.Writer.{encodeSlot, encodeSlots, encodeGuid, encodeGroup, encodeAll, encodeBook}
+use Rattle.vrf_table.specs.Chain.{lastBelow}
+use Rattle.vrf_table.specs.Table.{key, info, text}
+use Rattle.vrf_store.specs.UpTo.{upTo, sumBelow}
+use Rattle.vrf_store.specs.UpToLaws.{length-upTo, sumBelow-ext, sumBelow-set}
+use Rattle.vrf_store.specs.Store.{Store, guidAt, fieldAt, orEmpty, slotBy, groupBy, contentOf}
+use Rattle.vrf_store.specs.Valid.{Valid}
+use Rattle.vrf_store.specs.Accepted.{sumBelow-nil, sumBelow-one, sumBelow-plus, slotBy-other, slotBy-before, slotBy-after}
+use Rattle.vrf_writer.specs.NumberPuts.{word-length}
+use Rattle.vrf_writer.specs.NumberLengths.{packed-short, text-short}
+use Rattle.vrf_writer.specs.EachPuts.{all-next}
+use Rattle.vrf_writer.specs.GuidPuts.{outerOn, pathOn}
+use Rattle.vrf_writer.specs.GroupPuts.{slotAt, groupAt, slots-code}
+use Rattle.vrf_writer.specs.BlockPuts.{block-length}
+use Rattle.vrf_writer.specs.Size.{beyond, groupBytes, fieldBytes}
+
+pub all-length : {A : Type 0} (f : A → List ℕ) (g : ℕ → A) (n : ℕ) → length (encodeAll f (upTo g n)) ≡ sumBelow (λ e. length (f (g e))) n
+unfolding sumBelow upTo encodeAll
+all-length f g zero = refl
+all-length f g (suc n) = ap length (all-next f g n) ∙ length-append (encodeAll f (upTo g n)) (f (g n)) ∙ rw (all-length f g n)
+
+-- ---- slots
+
+slot-length : (q : ℕ) (x : Slot) → length (encodeSlot q x) ≡ 1 + beyond q x
+unfolding encodeSlot beyond
+slot-length q empty = refl
+slot-length q (filled checksum name) = omega (
+  arith,
+  length-append (encodePacked q) (encodeWord32 checksum ++ (0 ∷ (encodeText name ++ encodeWord32 0))),
+  length-append (encodeWord32 checksum) (0 ∷ (encodeText name ++ encodeWord32 0)),
+  length-append (encodeText name) (encodeWord32 0),
+  word-length checksum,
+  word-length 0,
+)
+
+slots-length : (f : ℕ → Slot) (n : ℕ) → length (encodeSlots 0 (upTo f n)) ≡ n + sumBelow (λ q. beyond q (f q)) n
+slots-length f n =
+    ap length (sym (slots-code f n))
+    ∙ all-length (λ (q : ℕ). encodeSlot q (f q)) (λ (q : ℕ). q) n
+    ∙ sumBelow-ext (λ q. length (encodeSlot q (f q))) (λ q. 1 + beyond q (f q)) n (λ q h. slot-length q (f q))
+    ∙ sumBelow-plus (λ q. 1) (λ q. beyond q (f q)) n
+    ∙ ap (λ (k : ℕ). k + sumBelow (λ q. beyond q (f q)) n) (sumBelow-one n)
+
+-- ---- what the fields put into the slots of all groups
+
+module _ {s : Store} (v : Valid s) where
+  -- where field n stands
+  abbrev place : ℕ → ℕ
+  place n = key (s .fieldRows) n / 65536
+
+  abbrev slot : ℕ → ℕ
+  slot n = key (s .fieldRows) n % 65536
+
+  -- what the first n fields put into the slots of group g
+  abbrev load : ℕ → ℕ → ℕ
+  load n g = sumBelow (λ q. beyond q (slotBy s n g q)) (info (s .groupRows) g)
+
+  load-nil : (g : ℕ) → load 0 g ≡ 0
+  unfolding slotBy lastBelow orEmpty beyond
+  load-nil g = sumBelow-nil _ (info (s .groupRows) g) (λ q. refl)
+
+  module _ (n : ℕ) (h : n < s .header .fields) where
+    load-other : (g : ℕ) → g < s .header .groups → (g ≡ place n → ⊥) → load n g ≡ load (suc n) g
+    load-other g k ne = sumBelow-ext _ _ (info (s .groupRows) g) (λ q l. ap (beyond q) (slotBy-other v n h g q k l (λ e. ne (e .0))))
+
+    none-before : beyond (slot n) (slotBy s n (place n) (slot n)) ≡ 0
+    unfolding beyond
+    none-before = ap (beyond (slot n)) (slotBy-before v n h)
+
+    load-own : load (suc n) (place n) ≡ load n (place n) + fieldBytes s n
+    load-own =
+        let good = v .fields n h .0 in
+        let others : (q : ℕ) → q < info (s .groupRows) (place n) → (q ≡ slot n → ⊥) → beyond q (slotBy s n (place n) q) ≡ beyond q (slotBy s (suc n) (place n) q) = λ q l ne. ap (beyond q) (slotBy-other v n h (place n) q (good .place) l (λ e. ne (e .1))) in
+        let step = sumBelow-set _ _ (info (s .groupRows) (place n)) (slot n) (good .slot) others in
+        omega (arith, step, none-before, ap (beyond (slot n)) (slotBy-after v n h))
+
+  loads : (n : ℕ) → n ≤ s .header .fields → sumBelow (load n) (s .header .groups) ≡ sumBelow (fieldBytes s) n
+  unfolding sumBelow
+  loads zero h = sumBelow-nil (load 0) (s .header .groups) load-nil
+  loads (suc n) h =
+      let good = v .fields n h .0 in
+      omega (arith, loads n (omega arith), load-own n h, sumBelow-set (load n) (load (suc n)) (s .header .groups) (place n) (good .place) (load-other n h))
+
+-- ---- groups, and all
+
+module _ {s : Store} (v : Valid s) where
+  group-length : (g : ℕ) → length (encodeGroup (groupAt s g)) ≡ groupBytes (groupAt s g) + load v (s .header .fields) g
+  unfolding encodeGroup groupBy groupBytes
+  group-length g =
+      let slots : List Slot = upTo (slotAt s g) (info (s .groupRows) g) in
+      let count : List ℕ = encodePacked (length slots) in
+      let index : List ℕ = encodePacked (key (s .groupRows) g) in
+      omega (
+        arith,
+        length-append (encodeText (text (s .groupRows) (s .texts) g)) (index ++ (count ++ encodeSlots 0 slots)),
+        length-append index (count ++ encodeSlots 0 slots),
+        length-append count (encodeSlots 0 slots),
+        slots-length (slotAt s g) (info (s .groupRows) g),
+        length-upTo (slotAt s g) (info (s .groupRows) g),
+      )
+
+  groups-length : length (encodeAll encodeGroup (contentOf s .groups)) ≡ sumBelow (λ g. groupBytes (groupAt s g)) (s .header .groups) + sumBelow (fieldBytes s) (s .header .fields)
+  unfolding contentOf
+  groups-length =
+      all-length encodeGroup (groupAt s) (s .header .groups)
+      ∙ sumBelow-ext _ _ (s .header .groups) (λ g h. group-length g)
+      ∙ sumBelow-plus (λ g. groupBytes (groupAt s g)) (load v (s .header .fields)) (s .header .groups)
+      ∙ ap (λ (k : ℕ). sumBelow (λ g. groupBytes (groupAt s g)) (s .header .groups) + k) (loads v (s .header .fields) (omega arith))
+
+  pub block-bytes : length (encodeBook (contentOf s)) ≡ 24 + length (encodeAll encodeGuid (contentOf s .guids)) + sumBelow (λ g. groupBytes (groupAt s g)) (s .header .groups) + sumBelow (fieldBytes s) (s .header .fields)
+  block-bytes = omega (arith, block-length (contentOf s), groups-length)
+
+-- ---- sums that 64 bits hold
+
+pub sum-short : (f : ℕ → ℕ) (most n : ℕ) → ((e : ℕ) → e < n → f e ≤ most) → sumBelow f n ≤ most * n
+unfolding sumBelow
+sum-short f most zero h = omega arith
+sum-short f most (suc n) h = rw (mul-suc most n) (omega (arith, sum-short f most n (λ e k. h e (omega (arith, k))), h n (omega arith)))
+
+module _ (r : Guid) where
+  pub guid-length : length (encodeGuid r) ≡ length (encodePacked (r .guid)) + length (encodePacked (r .outer)) + 2 + length (encodeText (r .path))
+  unfolding encodeGuid
+  guid-length = omega (
+    arith,
+    length-append (encodePacked (r .guid)) (outerOn r),
+    length-append (encodePacked (r .outer)) (1 ∷ pathOn r),
+    length-append (encodeText (r .path)) (0 ∷ []),
+  )
+
+module _ {s : Store} (v : Valid s) where
+  pub guid-short : (e : ℕ) → e < s .header .guids → length (encodeGuid (guidAt s e)) ≤ 4113
+  unfolding guidAt
+  guid-short e h =
+      let r : Guid = guidAt s e in
+      let path : length (r .path) ≤ 4096 = v .guidTable .texts e h .isText .short in
+      omega (arith, guid-length r, packed-short (r .guid), packed-short (r .outer), text-short (r .path), path)
+
+  pub group-short : (g : ℕ) → g < s .header .groups → groupBytes (groupAt s g) ≤ 69647
+  unfolding groupBytes groupBy
+  group-short g h =
+      let r : Group = groupAt s g in
+      let path : length (r .path) ≤ 4096 = v .groupTable .texts g h .isText .short in
+      let few : length (r .slots) ≤ 65536 = rw (length-upTo (slotAt s g) (info (s .groupRows) g)) (v .groups g h .1) in
+      omega (arith, packed-short (r .index), packed-short (length (r .slots)), text-short (r .path), path, few)
+
+  pub field-short : (e : ℕ) → e < s .header .fields → fieldBytes s e ≤ 4115
+  unfolding beyond fieldAt
+  field-short e h =
+      let t : List ℕ = text (s .fieldRows) (s .texts) e in
+      let name : length t ≤ 4096 = v .fieldTable .texts e h .isText .short in
+      omega (arith, packed-short (key (s .fieldRows) e % 65536), text-short t, name)
+
+  pub block-short : length (encodeBook (contentOf s)) < 2 ^ 64
+  unfolding contentOf
+  block-short = omega (
+    arith,
+    block-bytes v,
+    all-length encodeGuid (guidAt s) (s .header .guids),
+    sum-short (λ e. length (encodeGuid (guidAt s e))) 4113 (s .header .guids) guid-short,
+    sum-short (λ g. groupBytes (groupAt s g)) 69647 (s .header .groups) group-short,
+    sum-short (fieldBytes s) 4115 (s .header .fields) field-short,
+    v .header .tops,
+  )

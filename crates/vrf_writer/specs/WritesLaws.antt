@@ -1,0 +1,32 @@
+-- When the writer answers what, by what the code compares.
+use mathlib.Core.Path.{_≡_, sym}
+use mathlib.Core.Logic.{_⊎_}
+use mathlib.Core.List.{List, []}
+use mathlib.Core.Option.{none, some}
+use Prim.Native.Nat.{ℕ, _<_, _≤_}
+use native.Mathlib.Omega.{arith}
+use lib.ListN.{length}
+use Rattle.vrf_bitio.specs.Pasted.{pasted}
+use Rattle.vrf_model.specs.Book.{Content}
+use Rattle.vrf_model.specs.Writer.{encodeBook, firstClash}
+use Rattle.vrf_model.specs.WriterLaws.{writing}
+use Rattle.vrf_model.specs.declared.Wrote.{Wrote}
+use Rattle.vrf_model.specs.declared.Wrote.the-variants.{Length, Refused}
+use Rattle.vrf_writer.specs.Writes.{WritesBook}
+
+module _ (c : Content) {l l′ : List ℕ} where
+  pub writes-clash : {place : ℕ} → some place ≡ firstClash [] (c .groups) → l′ ≡ l → WritesBook c l l′ (Refused (record { number = 44; a = place; b = 0 }))
+  writes-clash {place} e s = record { answer = sym (writing (length l) c .clashes place .1 (sym e)); bytes = s }
+
+  module _ {n : ℕ} (clear : firstClash [] (c .groups) ≡ none) (e : n ≡ length (encodeBook c)) where
+    pub writes-long : {r : Wrote} → r ≡ Refused (record { number = 45; a = n; b = 0 }) → (length l < n) ⊎ (268435456 < n) → l′ ≡ l → WritesBook c l l′ r
+    writes-long er over s = rw er (record {
+      answer = sym (writing (length l) c .too-long n .1 (record { clear = clear; over = rw e at over; long = e }));
+      bytes = s;
+    })
+
+    pub writes-all : n ≤ length l → n ≤ 268435456 → l′ ≡ pasted l 0 (encodeBook c) → WritesBook c l l′ (Length n)
+    writes-all fits small s = record {
+      answer = sym (writing (length l) c .accepted n .1 (record { clear = clear; fits = omega (arith, fits, e); size = omega (arith, small, e); long = e }));
+      bytes = s;
+    }

@@ -1,0 +1,36 @@
+// A whole block.
+use crate::groups::put_groups;
+use crate::guids::put_guids;
+use crate::numbers::put_word;
+use vrf_store::parts::groups;
+use vrf_store::parts::guids;
+use vrf_words::zero_words;
+ghost use mathlib.Core.Path.{_≡_};
+ghost use Prim.Native.Nat.{_+_, _≤_};
+ghost use lib.ListN.{length};
+ghost use Rattle.vrf_bitio.specs.Pasted.{pasted};
+ghost use Rattle.vrf_model.specs.Writer.{encodeTables, encodeBook};
+ghost use Rattle.vrf_store.specs.Good.{Good};
+ghost use Rattle.vrf_store.specs.Stepped.{held};
+ghost use Rattle.vrf_writer.specs.Puts.{Puts};
+
+// What stands behind the first word: three zero words, the GUID records with their count, the groups with theirs.
+fn put_tables(out: &mut [u8], m: &[u8]) -> usize
+    requires { ⌜ Good (now m) × (length (encodeTables (held (now m))) ≤ length (now out)) ⌝ }
+    ensures { λ r. ⌜ Puts (encodeTables (held (now (m .entry)))) (now (out .entry)) (now (out .exit)) r ⌝ }
+{
+    zero_words(out, 0, 3);
+    let mut at = 12 + put_word(&mut out[12..], guids(m));
+    at += put_guids(&mut out[at..], m);
+    at += put_word(&mut out[at..], groups(m));
+    at + put_groups(&mut out[at..], m)
+}
+
+// A block of n bytes.
+pub fn put_block(out: &mut [u8], m: &[u8], n: u32)
+    requires { ⌜ Good (now m) × (n ≡ length (encodeBook (held (now m)))) × (n ≤ length (now out)) ⌝ }
+    ensures { λ _. ⌜ now (out .exit) ≡ pasted (now (out .entry)) 0 (encodeBook (held (now (m .entry)))) ⌝ }
+{
+    put_word(out, n - 8);
+    put_tables(&mut out[4..], m);
+}

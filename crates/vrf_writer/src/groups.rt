@@ -1,0 +1,100 @@
+// Groups and their slots as the writer sends them.
+use crate::numbers::put_packed;
+use crate::numbers::put_text;
+use crate::numbers::put_word;
+use vrf_store::look::find_field;
+use vrf_store::look::group_index;
+use vrf_store::look::group_path;
+use vrf_store::look::group_slots;
+use vrf_store::look::row_info;
+use vrf_store::parts::field_rows;
+use vrf_store::parts::groups;
+use vrf_store::parts::row_text;
+use vrf_store::parts::texts;
+use vrf_table::Entry;
+ghost use mathlib.Core.Path.{_≡_};
+ghost use Prim.Native.Nat.{_+_, _<_, _≤_};
+ghost use lib.ListN.{length};
+ghost use Rattle.vrf_model.specs.Writer.{encodeSlot, encodeSlots, encodeGroup, encodeAll};
+ghost use Rattle.vrf_store.specs.Store.{headerOf, storeOf, fieldAt};
+ghost use Rattle.vrf_store.specs.Good.{Good};
+ghost use Rattle.vrf_store.specs.Stepped.{held};
+ghost use Rattle.vrf_writer.specs.Puts.{Puts};
+ghost use Rattle.vrf_writer.specs.GroupPuts.{slotAt, groupAt, nameCode};
+
+// A name: kind 0, its text, and 0 for its number.
+fn put_name(out: &mut [u8], t: &[u8]) -> usize
+    requires { ⌜ (length (nameCode (now t)) ≤ length (now out)) × (length (now t) ≤ 4096) ⌝ }
+    ensures { λ r. ⌜ Puts (nameCode (now (t .entry))) (now (out .entry)) (now (out .exit)) r ⌝ }
+{
+    out[0] = 0;
+    let at = 1 + put_text(&mut out[1..], t);
+    at + put_word(&mut out[at..], 0)
+}
+
+// The slot that row e of the fields fills.
+fn put_field(out: &mut [u8], m: &[u8], slot: u32, e: u32) -> usize
+    requires { ⌜ Good (now m) × (e < headerOf (now m) .fields) × (length (encodeSlot slot (fieldAt (storeOf (now m)) e)) ≤ length (now out)) ⌝ }
+    ensures { λ r. ⌜ Puts (encodeSlot slot (fieldAt (storeOf (now (m .entry))) e)) (now (out .entry)) (now (out .exit)) r ⌝ }
+{
+    let rows = field_rows(m);
+    out[0] = 1;
+    let mut at = 1 + put_packed(&mut out[1..], slot);
+    at += put_word(&mut out[at..], row_info(rows, e));
+    at + put_name(&mut out[at..], row_text(rows, texts(m), e))
+}
+
+// A slot of the group at a place.
+fn put_slot(out: &mut [u8], m: &[u8], place: u32, slot: u32) -> usize
+    requires { ⌜ Good (now m) × (length (encodeSlot slot (slotAt (storeOf (now m)) place slot)) ≤ length (now out)) ⌝ }
+    ensures { λ r. ⌜ Puts (encodeSlot slot (slotAt (storeOf (now (m .entry))) place slot)) (now (out .entry)) (now (out .exit)) r ⌝ }
+{
+    match find_field(m, place, slot) {
+        Entry::At(e) => put_field(out, m, slot, e),
+        Entry::Nowhere => {
+            out[0] = 0;
+            1
+        }
+    }
+}
+
+// All slots of the group at a place, in their order.
+fn put_slots(out: &mut [u8], m: &[u8], place: u32) -> usize
+    requires { ⌜ Good (now m) × (place < headerOf (now m) .groups) × (length (encodeSlots 0 (groupAt (storeOf (now m)) place .slots)) ≤ length (now out)) ⌝ }
+    ensures { λ r. ⌜ Puts (encodeSlots 0 (groupAt (storeOf (now (m .entry))) place .slots)) (now (out .entry)) (now (out .exit)) r ⌝ }
+{
+    let n = group_slots(m, place);
+    let mut at = 0;
+    let mut slot = 0;
+    while slot < n {
+        at += put_slot(&mut out[at..], m, place, slot);
+        slot += 1;
+    }
+    at
+}
+
+// The group at a place.
+fn put_group(out: &mut [u8], m: &[u8], g: u32) -> usize
+    requires { ⌜ Good (now m) × (g < headerOf (now m) .groups) × (length (encodeGroup (groupAt (storeOf (now m)) g)) ≤ length (now out)) ⌝ }
+    ensures { λ r. ⌜ Puts (encodeGroup (groupAt (storeOf (now (m .entry))) g)) (now (out .entry)) (now (out .exit)) r ⌝ }
+{
+    let mut at = put_text(out, group_path(m, g));
+    at += put_packed(&mut out[at..], group_index(m, g));
+    at += put_packed(&mut out[at..], group_slots(m, g));
+    at + put_slots(&mut out[at..], m, g)
+}
+
+// All groups, in their order.
+pub fn put_groups(out: &mut [u8], m: &[u8]) -> usize
+    requires { ⌜ Good (now m) × (length (encodeAll encodeGroup (held (now m) .groups)) ≤ length (now out)) ⌝ }
+    ensures { λ r. ⌜ Puts (encodeAll encodeGroup (held (now (m .entry)) .groups)) (now (out .entry)) (now (out .exit)) r ⌝ }
+{
+    let n = groups(m);
+    let mut at = 0;
+    let mut g = 0;
+    while g < n {
+        at += put_group(&mut out[at..], m, g);
+        g += 1;
+    }
+    at
+}

@@ -1,0 +1,138 @@
+// How long a block is. No empty slot is looked at: their bytes count with their groups, and the rest with the fields.
+use crate::guids::guid_of;
+use vrf_store::look::group_index;
+use vrf_store::look::group_path;
+use vrf_store::look::group_slots;
+use vrf_store::look::guid_outer;
+use vrf_store::look::guid_path;
+use vrf_store::look::row_key;
+use vrf_store::parts::field_rows;
+use vrf_store::parts::fields;
+use vrf_store::parts::groups;
+use vrf_store::parts::guids;
+use vrf_store::parts::row_text;
+use vrf_store::parts::texts;
+ghost use mathlib.Core.Path.{_≡_};
+ghost use Prim.Native.Nat.{_<_, _≤_};
+ghost use lib.ListN.{length};
+ghost use Rattle.vrf_bitio.specs.Number.{encodePacked};
+ghost use Rattle.vrf_text.specs.Text.{encodeText};
+ghost use Rattle.vrf_model.specs.Writer.{encodeGuid, encodeAll, encodeBook};
+ghost use Rattle.vrf_store.specs.UpTo.{sumBelow};
+ghost use Rattle.vrf_store.specs.Store.{headerOf, storeOf, guidAt};
+ghost use Rattle.vrf_store.specs.Good.{Good};
+ghost use Rattle.vrf_store.specs.Stepped.{held};
+ghost use Rattle.vrf_writer.specs.GroupPuts.{groupAt};
+ghost use Rattle.vrf_writer.specs.Size.{groupBytes, fieldBytes};
+
+// A packed number.
+fn packed_len(n: u32) -> u64
+    ensures { λ r. ⌜ r ≡ length (encodePacked n) ⌝ }
+{
+    if n < 0x80 {
+        return 1;
+    }
+    if n < 0x4000 {
+        return 2;
+    }
+    if n < 0x20_0000 {
+        return 3;
+    }
+    if n < 0x1000_0000 {
+        return 4;
+    }
+    5
+}
+
+// A text.
+fn text_len(t: &[u8]) -> u64
+    requires { ⌜ length (now t) ≤ 4096 ⌝ }
+    ensures { λ r. ⌜ r ≡ length (encodeText (now (t .entry))) ⌝ }
+{
+    if t.len() == 0 {
+        return 4;
+    }
+    t.len() as u64 + 5
+}
+
+// The GUID record at a place.
+fn guid_len(m: &[u8], i: u32) -> u64
+    requires { ⌜ Good (now m) × (i < headerOf (now m) .guids) ⌝ }
+    ensures { λ r. ⌜ r ≡ length (encodeGuid (guidAt (storeOf (now (m .entry))) i)) ⌝ }
+{
+    let numbers = packed_len(guid_of(m, i)) + packed_len(guid_outer(m, i));
+    numbers + 2 + text_len(guid_path(m, i))
+}
+
+// All GUID records.
+fn guids_len(m: &[u8]) -> u64
+    requires { ⌜ Good (now m) ⌝ }
+    ensures { λ r. ⌜ r ≡ length (encodeAll encodeGuid (held (now (m .entry)) .guids)) ⌝ }
+{
+    let n = guids(m);
+    let mut sum = 0;
+    let mut i = 0;
+    while i < n {
+        sum += guid_len(m, i);
+        i += 1;
+    }
+    sum
+}
+
+// The group at a place, a byte for each slot.
+fn group_len(m: &[u8], g: u32) -> u64
+    requires { ⌜ Good (now m) × (g < headerOf (now m) .groups) ⌝ }
+    ensures { λ r. ⌜ r ≡ groupBytes (groupAt (storeOf (now (m .entry))) g) ⌝ }
+{
+    let slots = group_slots(m, g);
+    let path = text_len(group_path(m, g));
+    path + packed_len(group_index(m, g)) + packed_len(slots) + slots as u64
+}
+
+// All groups, a byte for each slot.
+fn groups_len(m: &[u8]) -> u64
+    requires { ⌜ Good (now m) ⌝ }
+    ensures { λ r. ⌜ r ≡ sumBelow (λ g. groupBytes (groupAt (storeOf (now (m .entry))) g)) (headerOf (now (m .entry)) .groups) ⌝ }
+{
+    let n = groups(m);
+    let mut sum = 0;
+    let mut g = 0;
+    while g < n {
+        sum += group_len(m, g);
+        g += 1;
+    }
+    sum
+}
+
+// The field in row e, but for the byte of its slot.
+fn field_len(m: &[u8], e: u32) -> u64
+    requires { ⌜ Good (now m) × (e < headerOf (now m) .fields) ⌝ }
+    ensures { λ r. ⌜ r ≡ fieldBytes (storeOf (now (m .entry))) e ⌝ }
+{
+    let rows = field_rows(m);
+    let slot = (row_key(rows, e) % 0x1_0000) as u32;
+    packed_len(slot) + 9 + text_len(row_text(rows, texts(m), e))
+}
+
+// All fields, but for the bytes of their slots.
+fn fields_len(m: &[u8]) -> u64
+    requires { ⌜ Good (now m) ⌝ }
+    ensures { λ r. ⌜ r ≡ sumBelow (fieldBytes (storeOf (now (m .entry)))) (headerOf (now (m .entry)) .fields) ⌝ }
+{
+    let n = fields(m);
+    let mut sum = 0;
+    let mut e = 0;
+    while e < n {
+        sum += field_len(m, e);
+        e += 1;
+    }
+    sum
+}
+
+// A whole block.
+pub fn block_len(m: &[u8]) -> u64
+    requires { ⌜ Good (now m) ⌝ }
+    ensures { λ r. ⌜ r ≡ length (encodeBook (held (now (m .entry)))) ⌝ }
+{
+    24 + guids_len(m) + groups_len(m) + fields_len(m)
+}
