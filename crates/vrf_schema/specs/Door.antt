@@ -3,6 +3,7 @@ use mathlib.Core.Path.{_≡_, refl, sym, ap, subst, _∙_}
 use mathlib.Core.Bool.{Bool, true, false, true≢false}
 use mathlib.Core.List.{List}
 use Prim.Native.Nat.{ℕ, _<_, _≤_}
+use lib.ListN.{length}
 use native.Mathlib.Omega.{arith}
 use borrow.Author.Tests.{lt-ltb, le-ltb}
 use Rattle.vrf_bitio.specs.BitsLaws.{Bytes}
@@ -12,6 +13,7 @@ use Rattle.vrf_text.specs.Answers.{CallerAnswer}
 use Rattle.vrf_text.specs.declared.Caller.{Caller}
 use Rattle.vrf_text.specs.declared.Caller.the-variants.{Accepted, Refused as NotAccepted}
 use Rattle.vrf_text.specs.TextLaws.{callerText-text}
+use Rattle.vrf_model.specs.Book.{stepped}
 use Rattle.vrf_model.specs.Setting.{Step, done, addGroup}
 use Rattle.vrf_model.specs.Calls.{Call, add-export-group, Answer, refusal-of, acted, field-placed, at-place, Result, only, ofStep, onText, addDirectly, run, runBook}
 use Rattle.vrf_model.specs.Answers.{refusalOf, actedOf, addedOf, placedOf}
@@ -21,7 +23,7 @@ use Rattle.vrf_model.specs.declared.Added.{Added}
 use Rattle.vrf_model.specs.declared.Added.the-variants.{At, Refused as NotAdded}
 use Rattle.vrf_model.specs.declared.Placed.{Placed}
 use Rattle.vrf_model.specs.declared.Placed.the-variants.{Placed as IsPlaced, NotPlaced, Refused as PlaceRefused}
-use Rattle.vrf_store.specs.Store.{bookOf}
+use Rattle.vrf_store.specs.Store.{countersOf, bookOf}
 use Rattle.vrf_store.specs.Check.{check}
 use Rattle.vrf_store.specs.Good.{Good, good-check, check-good}
 use Rattle.vrf_store.specs.Stepped.{held}
@@ -41,17 +43,15 @@ pub record Met (m : List ℕ) (x : CallerText) (d : Caller) : Type 0 where
 -- ---- what a call left
 
 -- the door's argument, said once: the check passed, and the memory holds what the call makes
-called : {k : Call} {m m′ : List ℕ} (x : Result) {r : Answer} → check m ≡ true → run k (held m) ≡ x → Holds m m′ (x .content) (x .counted) → r ≡ x .answer → Called k m m′ r
+pub left : {k : Call} {m m′ : List ℕ} (x : Result) {r : Answer} → check m ≡ true → run k (held m) ≡ x → Good m′ → held m′ ≡ x .content → countersOf m′ ≡ stepped (countersOf m) (x .counted) → length m′ ≡ length m → r ≡ x .answer → Called k m m′ r
 unfolding bookOf runBook
-called x good e h a = record {
-  spoiled = λ s. absurd (true≢false (sym good ∙ s));
-  ran = λ _. record {
-    accepted = good-check (h .good);
-    book = cc (e, h .content, h .counters);
-    answer = a ∙ ap (λ (z : Result). z .answer) (sym e);
-    long = h .long;
-  };
+left x checked e good content counters long a = record {
+  spoiled = λ s. absurd (true≢false (sym checked ∙ s));
+  ran = λ _. record { accepted = good-check good; book = cc (e, content, counters); answer = a ∙ ap (λ (z : Result). z .answer) (sym e); long = long };
 }
+
+pub called : {k : Call} {m m′ : List ℕ} (x : Result) {r : Answer} → check m ≡ true → run k (held m) ≡ x → Holds m m′ (x .content) (x .counted) → r ≡ x .answer → Called k m m′ r
+called x checked e h a = left x checked e (h .good) (h .content) (h .counters) (h .long) a
 
 -- ---- what a call meets
 

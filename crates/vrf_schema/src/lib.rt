@@ -2,6 +2,8 @@
 pub mod calls;
 pub mod door;
 pub mod lookups;
+pub mod reading;
+pub mod writing;
 
 use vrf_bitio::Refusal;
 use vrf_store::counters::Counters;

@@ -1,0 +1,155 @@
+-- Demand 3 (document 01, The book) over the contracts of the exported functions: a reader who joins late, from a written block, never
+-- parts company with one who was there from the start. Nothing here speaks of code but by `Begun`, `Called` and `Writes`, which the
+-- exported functions carry.
+use mathlib.Core.Path.{_≡_, refl, sym, ap, subst, _∙_}
+use mathlib.Core.Bool.{true}
+use mathlib.Core.List.{List, [], _∷_}
+use Prim.Native.Nat.{ℕ, _≤_}
+use lib.ListN.{length, take}
+use lib.Seq.{take-append-seam}
+use Rattle.vrf_bitio.specs.PastedLaws.{pasted-front}
+use Rattle.vrf_model.specs.Book.{Allowances, Content, Book, fresh, freshBook}
+use Rattle.vrf_model.specs.Calls.{Call, Answer, counted, whole, read-checkpoint-tables, run, runBook, play, answers}
+use Rattle.vrf_model.specs.Lawful.{Each, nil, cons, Allowed, Sized}
+use Rattle.vrf_model.specs.Writer.{encodeBook, write, written}
+use Rattle.vrf_model.specs.Answers.{wroteOf}
+use Rattle.vrf_model.specs.declared.Wrote.{Wrote}
+use Rattle.vrf_model.specs.declared.Wrote.the-variants.{Length}
+use Rattle.vrf_model.specs.WriterLaws.{Writing, writing, write-accepts}
+use Rattle.vrf_model.specs.BlockRead.{countsOf}
+use Rattle.vrf_model.specs.Lockstep.{apart, Fit, Lockstep, stepped-fit, lockstep}
+use Rattle.vrf_model.specs.Seats.{OfGroups, lookups-off-lists, joining, lateSeat, Joins}
+use Rattle.vrf_model.specs.Seats
+use Rattle.vrf_model.specs.declared.Acted.the-variants.{Done}
+use Rattle.vrf_store.specs.Store.{contentOf, bookOf}
+use Rattle.vrf_store.specs.Good.{check-good}
+use Rattle.vrf_store.specs.Check.{check}
+use Rattle.vrf_schema.specs.Begun.{Begun}
+use Rattle.vrf_schema.specs.Called.{Called}
+use Rattle.vrf_schema.specs.Writes.{Writes}
+
+-- ---- lists of calls
+
+-- a chain of the exported functions' contracts: each call gets the memory as the one before left it, refused or not, and nobody else
+-- writes it meanwhile. Its numbers have the width of the function's arguments.
+pub data Played : List Call → List ℕ → List Answer → List ℕ → Type 0 where
+  nothing : {m : List ℕ} → Played [] m [] m
+  next : {k : Call} {ks : List Call} {m m₁ m′ : List ℕ} {r : Answer} {rs : List Answer} → Sized k → Called k m m₁ r → Played ks m₁ rs m′ → Played (k ∷ ks) m (r ∷ rs) m′
+
+-- ---- the claim
+
+-- what two seats have after the same further calls
+pub record Together (m late : List ℕ) (rs : List Answer) (m′ : List ℕ) (qs : List Answer) (late′ : List ℕ) : Type 0 where
+  -- equal answers, with counts and positions, refusals with number, a and b
+  pub answers : rs ≡ qs
+  -- the same lists
+  pub lists : bookOf m′ .content ≡ bookOf late′ .content
+  -- counters as far apart, modulo 2^64, as before them
+  pub counters : apart (bookOf m′ .counters) (bookOf late′ .counters) ≡ apart (bookOf m .counters) (bookOf late .counters)
+
+-- the late seat has read the early seat's block, and answered r
+pub record Joined (m late : List ℕ) (r : Answer) : Type 0 where
+  -- it was not refused, but counted what the early seat holds
+  pub answered : r ≡ counted (countsOf (bookOf m .content))
+  pub lists : bookOf late .content ≡ bookOf m .content
+  pub together : (further : List Call) {rs qs : List Answer} {m′ late′ : List ℕ} → Played further m rs m′ → Played further late qs late′ → Together m late rs m′ qs late′
+
+-- Demand 3, sentence by sentence:
+-- 'Demand 3 is a single claim over whole lists of calls, not one for each call.' `calls` in `demand-3` and `further` are any lists.
+-- 'Each call gets the book as the one before left it, refused or not, and nobody else writes it meanwhile.' This is `Played`.
+-- 'The GUID and group lists are what this document, and the Rust where it is silent, makes of the allowances and the calls' arguments
+-- alone.' This is `book`.
+-- 'Writing changes no book; the late seat's window is the written block.' `Writes` has the memory before alone; the window is the first
+-- n bytes of the buffer.
+-- 'The further list goes on from both books, with the same arguments.' This is `together`.
+-- 'Answers are compared with their counts and positions, refusals with number, a and b.' An `Answer` has them.
+pub record Seated (a : Allowances) (calls : List Call) (rs : List Answer) (m : List ℕ) : Type 0 where
+  -- what the early seat holds and has answered
+  pub book : bookOf m ≡ play calls (freshBook a)
+  pub answered : rs ≡ answers calls (freshBook a)
+  -- the writer is refused exactly where a path is a key of an earlier group (44), or the block is too long (45)
+  pub writing : {before after : List ℕ} {r : Wrote} → Writes m before after r → (wroteOf r ≡ write (length before) (bookOf m .content)) × Writing (length before) (bookOf m .content)
+  -- else a late memory, opened with the same allowances, reads the block, and the two go on together
+  pub joins : {before after : List ℕ} {n : ℕ} → Writes m before after (Length n)
+      → {lent late₀ late : List ℕ} {r : Answer} → Begun a lent late₀ Done → Called (read-checkpoint-tables (whole (take n after))) late₀ late r
+      → Joined m late r
+  -- at either seat, as at this one, what is asked of the groups is answered off the group list
+  pub lookups : {k : Call} → OfGroups k → {m′ : List ℕ} {r : Answer} → Called k m m′ r → (c : Content) → c .groups ≡ bookOf m .content .groups → r ≡ run k c .answer
+
+-- ---- what a list of calls leaves
+
+pub record Left (calls : List Call) (m : List ℕ) (rs : List Answer) (m′ : List ℕ) : Type 0 where
+  pub accepted : check m′ ≡ true
+  pub book : bookOf m′ ≡ play calls (bookOf m)
+  pub answers : rs ≡ answers calls (bookOf m)
+  pub sized : Each Sized calls
+
+left : {calls : List Call} {m m′ : List ℕ} {rs : List Answer} → check m ≡ true → Played calls m rs m′ → Left calls m rs m′
+unfolding play answers
+left good nothing = record { accepted = good; book = refl; answers = refl; sized = nil }
+left {m = m} good (next {k = k} {ks = ks} z c p) =
+    let one = c .ran good in
+    let all = left (one .accepted) p in
+    record {
+      accepted = all .accepted;
+      book = all .book ∙ ap (play ks) (one .book);
+      answers = cc (one .answer, all .answers, one .book);
+      sized = cons z (all .sized);
+    }
+
+-- what is opened has allowances that may be
+opened-allowed : (a : Allowances) (m : List ℕ) → check m ≡ true → bookOf m ≡ freshBook a → Allowed a
+unfolding bookOf freshBook fresh contentOf
+opened-allowed a m good e = subst Allowed (ap (λ (b : Book). b .content .allowed) e) (check-good m good .valid .header .tops)
+
+-- ---- the late seat
+
+module _ (a : Allowances) (m : List ℕ) (good : check m ≡ true) {calls : List Call} (sized : Each Sized calls) (tops : Allowed a) (literals : a .guids ≤ a .literals) (e : bookOf m ≡ play calls (freshBook a)) where
+  seats : (room : ℕ) → Seats.Demand-3 a (bookOf m) room
+  seats room = subst (λ (b : Book). Seats.Demand-3 a b room) (sym e) (Seats.demand-3 a tops literals calls sized room)
+
+  module _ {before after : List ℕ} {n : ℕ} (w : Writes m before after (Length n)) where
+    -- the block stands at the front of the buffer
+    block : take n after ≡ encodeBook (bookOf m .content)
+    block =
+        let h = w .wrote good in
+        let long = write-accepts (length before) (bookOf m .content) (sym (h .answer)) .long in
+        rw (h .bytes, pasted-front before (encodeBook (bookOf m .content)), long) (take-append-seam (encodeBook (bookOf m .content)) _)
+
+    model : Joins a (bookOf m)
+    model = seats (length before) .joins n (sym (w .wrote good .answer))
+
+    joined : {late₀ late : List ℕ} {r : Answer} → check late₀ ≡ true → bookOf late₀ ≡ freshBook a → Called (read-checkpoint-tables (whole (take n after))) late₀ late r → Joined m late r
+    unfolding joining lateSeat freshBook
+    joined {late₀} {late} {r} fine opened called =
+        let at : Called (joining (bookOf m)) late₀ late r = rw block at called in
+        let ran = at .ran fine in
+        let now : bookOf late ≡ lateSeat a (bookOf m) = ran .book ∙ ap (runBook (joining (bookOf m))) opened in
+        let same : bookOf late .content ≡ bookOf m .content = ap (λ (b : Book). b .content) now ∙ model .lists in
+        record {
+          answered = ran .answer ∙ ap (λ (b : Book). run (joining (bookOf m)) (b .content) .answer) opened ∙ model .answered;
+          lists = same;
+          together = λ further p q.
+              let one = left good p in
+              let two = left (ran .accepted) q in
+              let step = model .together further in
+              record {
+                answers = one .answers ∙ step .answered ∙ sym (two .answers ∙ ap (answers further) now);
+                lists = ap (λ (b : Book). b .content) (one .book) ∙ step .content ∙ sym (ap (λ (b : Book). b .content) (two .book ∙ ap (play further) now));
+                counters = cc (one .book, two .book, now, step .counters);
+              };
+        }
+
+-- The theorem. Literals are no fewer than GUIDs, because the writer sends every path as a literal.
+pub demand-3 : (a : Allowances) → a .guids ≤ a .literals → {lent m₀ m : List ℕ} → Begun a lent m₀ Done → (calls : List Call) {rs : List Answer} → Played calls m₀ rs m → Seated a calls rs m
+demand-3 a literals {m₀ = m₀} {m} opened calls {rs} played =
+    let l = left (opened .accepted) played in
+    let e : bookOf m ≡ play calls (freshBook a) = l .book ∙ ap (play calls) (opened .book) in
+    let tops = opened-allowed a m₀ (opened .accepted) (opened .book) in
+    record {
+      book = e;
+      answered = l .answers ∙ ap (answers calls) (opened .book);
+      writing = λ w. (w .wrote (l .accepted) .answer, writing _ _);
+      joins = λ w opened′ called. joined a m (l .accepted) (l .sized) tops literals e w (opened′ .accepted) (opened′ .book) called;
+      lookups = λ k called c groups. called .ran (l .accepted) .answer ∙ lookups-off-lists k (bookOf m .content) c (sym groups);
+    }
