@@ -20,7 +20,7 @@ const USAGE: &str = "modes:
   calls SEED N         compares N random scripts of book calls and lookups
   reads SEED N         compares N scripts of good and damaged runs and blocks
   seats SEED N         compares N scripts of a book and a late one
-  bench                times the readings against the original's";
+  bench [NAME]         times the cases whose names begin so, or all of them";
 
 pub fn run(mode: &str, args: &[String]) -> Result<(), Trouble> {
     let args: Vec<&str> = args.iter().map(String::as_str).collect();
@@ -35,7 +35,8 @@ pub fn run(mode: &str, args: &[String]) -> Result<(), Trouble> {
         ("calls", [seed, scripts]) => books::calls(number(seed)?, number(scripts)?),
         ("reads", [seed, scripts]) => books::reads(number(seed)?, number(scripts)?),
         ("seats", [seed, scripts]) => books::seats(number(seed)?, number(scripts)?),
-        ("bench", []) => bench::run(),
+        ("bench", []) => bench::run(None),
+        ("bench", [name]) => bench::run(Some(name)),
         _ => Err(usage()),
     }
 }

@@ -175,10 +175,32 @@ pub mod loops {
                 m: usize,
                 bits: u64,
             ) -> u64;
+            pub fn bench_fill(
+                memory: *mut u8,
+                memory_len: usize,
+                guids: u64,
+                groups: u64,
+                fields: u64,
+                text: u64,
+                sheet: *const u8,
+                sheet_len: usize,
+                texts: *const u8,
+                texts_len: usize,
+            ) -> u64;
+            pub fn bench_check(memory: *const u8, memory_len: usize) -> bool;
+            pub fn bench_look(
+                memory: *const u8,
+                memory_len: usize,
+                what: u32,
+                sheet: *const u8,
+                sheet_len: usize,
+                texts: *const u8,
+                texts_len: usize,
+            ) -> u64;
         }
     }
 
-    // SAFETY, for all four: slices with their own lengths, borrowed for the call.
+    // SAFETY, for all of them: slices with their own lengths, borrowed for the call.
 
     pub fn read_bits(s: &[u8], widths: &[u8]) -> u64 {
         unsafe { c::bench_read_bits(s.as_ptr(), s.len(), widths.as_ptr(), widths.len()) }
@@ -195,6 +217,44 @@ pub mod loops {
     pub fn copy_bits_to(s: &[u8], skip: u64, dst: &mut [u8], bits: u64) -> u64 {
         unsafe {
             c::bench_copy_bits_to(s.as_ptr(), s.len(), skip, dst.as_mut_ptr(), dst.len(), bits)
+        }
+    }
+
+    /// Opens a book and plays a sheet of calls on it.
+    pub fn fill(memory: &mut [u8], allowances: [u64; 4], sheet: &[u8], texts: &[u8]) -> u64 {
+        let [guids, groups, fields, text] = allowances;
+        unsafe {
+            c::bench_fill(
+                memory.as_mut_ptr(),
+                memory.len(),
+                guids,
+                groups,
+                fields,
+                text,
+                sheet.as_ptr(),
+                sheet.len(),
+                texts.as_ptr(),
+                texts.len(),
+            )
+        }
+    }
+
+    pub fn check(memory: &[u8]) -> bool {
+        unsafe { c::bench_check(memory.as_ptr(), memory.len()) }
+    }
+
+    /// A sheet's lookups, all of one kind, in a book that passed its check.
+    pub fn look(memory: &[u8], what: u32, sheet: &[u8], texts: &[u8]) -> u64 {
+        unsafe {
+            c::bench_look(
+                memory.as_ptr(),
+                memory.len(),
+                what,
+                sheet.as_ptr(),
+                sheet.len(),
+                texts.as_ptr(),
+                texts.len(),
+            )
         }
     }
 }

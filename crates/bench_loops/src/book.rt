@@ -1,0 +1,252 @@
+// What tests/compare times of a book. A sheet lists calls or lookups, one row of six words each; the texts that they bring stand beside it.
+use vrf_cache::fields::set_field_on_group;
+use vrf_cache::groups::add_export_group;
+use vrf_cache::guids::set_net_guid_path;
+use vrf_cache::resolve::resolve_cnc_for_instance_name;
+use vrf_cache::resolve::unique_leaf_match;
+use vrf_model::Acted;
+use vrf_model::Added;
+use vrf_model::Placed;
+use vrf_schema::calls::open;
+use vrf_store::check::check;
+use vrf_store::look::find_guid;
+use vrf_store::look::find_index;
+use vrf_store::look::find_path_place;
+use vrf_store::look::guid_path;
+use vrf_table::Entry;
+use vrf_text::Caller;
+use vrf_text::check_text;
+use vrf_words::get32;
+ghost use mathlib.Core.Path.{_≡_};
+ghost use Prim.Native.Nat.{_+_, _*_, _≤_};
+ghost use lib.ListN.{length};
+ghost use Rattle.vrf_text.specs.Text.{IsText};
+ghost use Rattle.vrf_store.specs.Check.{check};
+ghost use Rattle.vrf_store.specs.Good.{Good};
+
+// A row of a sheet. A call is of a kind, and takes numbers and a text: a GUID with its outer (0), a group's index with its slots (1), or a
+// field's group index, handle and checksum (2). A lookup takes the first number or the text.
+struct Row {
+    kind: u32,
+    a: u32,
+    b: u32,
+    c: u32,
+    at: u32,
+    len: u32,
+}
+
+fn row_at(sheet: &[u8], i: usize) -> Row
+    requires { ⌜ 24 * i + 24 ≤ length (now sheet) ⌝ }
+{
+    let word = 6 * i;
+    Row {
+        kind: get32(sheet, word),
+        a: get32(sheet, word + 1),
+        b: get32(sheet, word + 2),
+        c: get32(sheet, word + 3),
+        at: get32(sheet, word + 4),
+        len: get32(sheet, word + 5),
+    }
+}
+
+// The text of a row, empty where it does not lie in the texts or is too long.
+fn text_of(texts: &[u8], r: Row) -> &[u8]
+    ensures { λ t. ⌜ length (now t) ≤ 4096 ⌝ }
+{
+    let from = r.at as usize;
+    let to = from + (r.len as usize);
+    if to <= texts.len() {
+        if r.len <= 4096 {
+            return &texts[from..to];
+        }
+    }
+    &texts[0..0]
+}
+
+// Each call says whether it was taken.
+
+fn set_guid(m: &mut [u8], r: Row, path: &[u8]) -> bool
+    requires { ⌜ Good (now m) × IsText (now path) ⌝ }
+    ensures { λ _. ⌜ Good (now (m .exit)) ⌝ }
+{
+    match set_net_guid_path(m, r.a, path, r.b) {
+        Acted::Done => true,
+        Acted::Refused(_) => false,
+    }
+}
+
+fn add_group(m: &mut [u8], r: Row, path: &[u8]) -> bool
+    requires { ⌜ Good (now m) × IsText (now path) ⌝ }
+    ensures { λ _. ⌜ Good (now (m .exit)) ⌝ }
+{
+    match add_export_group(m, path, r.a, r.b % 65_537) {
+        Added::At(_) => true,
+        Added::Refused(_) => false,
+    }
+}
+
+fn set_field(m: &mut [u8], r: Row, name: &[u8]) -> bool
+    requires { ⌜ Good (now m) × IsText (now name) ⌝ }
+    ensures { λ _. ⌜ Good (now (m .exit)) ⌝ }
+{
+    match set_field_on_group(m, r.a, r.b, r.c, name) {
+        Placed::Placed => true,
+        Placed::NotPlaced => false,
+        Placed::Refused(_) => false,
+    }
+}
+
+fn set(m: &mut [u8], r: Row, text: &[u8]) -> bool
+    requires { ⌜ Good (now m) × IsText (now text) ⌝ }
+    ensures { λ _. ⌜ Good (now (m .exit)) ⌝ }
+{
+    let kind = r.kind;
+    match kind {
+        0 => set_guid(m, r, text),
+        1 => add_group(m, r, text),
+        _ => set_field(m, r, text),
+    }
+}
+
+// The text is tested as a caller's; the Rust makes a `str` of it.
+fn set_tested(m: &mut [u8], r: Row, text: &[u8]) -> bool
+    requires { ⌜ Good (now m) ⌝ }
+    ensures { λ _. ⌜ Good (now (m .exit)) ⌝ }
+{
+    match check_text(text) {
+        Caller::Accepted => set(m, r, text),
+        Caller::Refused(_) => false,
+    }
+}
+
+// How many calls of a sheet were taken.
+fn set_all(m: &mut [u8], sheet: &[u8], texts: &[u8]) -> u64
+    requires { ⌜ Good (now m) ⌝ }
+{
+    let n = sheet.len() / 24;
+    let mut taken: u64 = 0;
+    for i in 0..n {
+        let r = row_at(sheet, i);
+        if set_tested(m, r, text_of(texts, r)) {
+            taken = std::num::wrapping_add_u64(taken, 1);
+        }
+    }
+    taken
+}
+
+// Opens a book and plays a sheet of calls on it. Answers how many were taken.
+#[no_mangle]
+pub extern "C" fn bench_fill(
+    m: &mut [u8],
+    guids: u64,
+    groups: u64,
+    fields: u64,
+    text: u64,
+    sheet: &[u8],
+    texts: &[u8],
+) -> u64 {
+    match open(m, guids, groups, fields, text, 0) {
+        Acted::Done => set_all(m, sheet, texts),
+        Acted::Refused(_) => 0,
+    }
+}
+
+// The check alone.
+#[no_mangle]
+pub extern "C" fn bench_check(m: &[u8]) -> bool
+    ensures { λ r. ⌜ r ≡ check (now (m .entry)) ⌝ }
+{
+    check(m)
+}
+
+// 1 for a place.
+fn hit(e: Entry) -> u64 {
+    match e {
+        Entry::At(_) => 1,
+        Entry::Nowhere => 0,
+    }
+}
+
+// The length of a GUID's path: the Rust's lookup answers the path itself.
+fn path_length(m: &[u8], guid: u32) -> u64
+    requires { ⌜ Good (now m) ⌝ }
+{
+    match find_guid(m, guid) {
+        Entry::At(i) => guid_path(m, i).len() as u64,
+        Entry::Nowhere => 0,
+    }
+}
+
+// The lookups of a sheet, each kind in a loop of its own.
+
+fn paths_of_guids(m: &[u8], sheet: &[u8]) -> u64
+    requires { ⌜ Good (now m) ⌝ }
+{
+    let n = sheet.len() / 24;
+    let mut sum: u64 = 0;
+    for i in 0..n {
+        sum = std::num::wrapping_add_u64(sum, path_length(m, row_at(sheet, i).a));
+    }
+    sum
+}
+
+fn by_index(m: &[u8], sheet: &[u8]) -> u64
+    requires { ⌜ Good (now m) ⌝ }
+{
+    let n = sheet.len() / 24;
+    let mut sum: u64 = 0;
+    for i in 0..n {
+        sum = std::num::wrapping_add_u64(sum, hit(find_index(m, row_at(sheet, i).a)));
+    }
+    sum
+}
+
+fn by_path(m: &[u8], sheet: &[u8], texts: &[u8]) -> u64
+    requires { ⌜ Good (now m) ⌝ }
+{
+    let n = sheet.len() / 24;
+    let mut sum: u64 = 0;
+    for i in 0..n {
+        let e = find_path_place(m, text_of(texts, row_at(sheet, i)));
+        sum = std::num::wrapping_add_u64(sum, hit(e));
+    }
+    sum
+}
+
+fn by_leaf(m: &[u8], sheet: &[u8], texts: &[u8]) -> u64
+    requires { ⌜ Good (now m) ⌝ }
+{
+    let n = sheet.len() / 24;
+    let mut sum: u64 = 0;
+    for i in 0..n {
+        let e = unique_leaf_match(m, text_of(texts, row_at(sheet, i)));
+        sum = std::num::wrapping_add_u64(sum, hit(e));
+    }
+    sum
+}
+
+fn by_instance(m: &[u8], sheet: &[u8], texts: &[u8]) -> u64
+    requires { ⌜ Good (now m) ⌝ }
+{
+    let n = sheet.len() / 24;
+    let mut sum: u64 = 0;
+    for i in 0..n {
+        let e = resolve_cnc_for_instance_name(m, text_of(texts, row_at(sheet, i)));
+        sum = std::num::wrapping_add_u64(sum, hit(e));
+    }
+    sum
+}
+
+// A sheet's lookups, all of one kind. The inner functions are what is timed, so the caller tests the book before, by `bench_check`.
+#[no_mangle]
+pub extern "C" fn bench_look(m: &[u8], what: u32, sheet: &[u8], texts: &[u8]) -> u64
+    requires { ⌜ Good (now m) ⌝ }
+{
+    match what {
+        0 => paths_of_guids(m, sheet),
+        1 => by_index(m, sheet),
+        2 => by_path(m, sheet, texts),
+        3 => by_leaf(m, sheet, texts),
+        _ => by_instance(m, sheet, texts),
+    }
+}

@@ -1,0 +1,525 @@
+//! Books: filling a fresh one, lookups in a filled one, and the check.
+
+use std::rc::Rc;
+
+use vrf_schema::NetGuidCache;
+
+use super::race::{Race, shared};
+use super::sheet::{ADD_GROUP, SET_FIELD, SET_GUID, Sheet};
+use crate::ported::loops;
+use crate::rng::Rng;
+use crate::trouble::Trouble;
+
+/// What a recording's book holds at its end, about.
+const GUIDS: u32 = 12_000;
+const GROUPS: u32 = 543;
+const FIELDS: u32 = 2_900;
+
+const MANY_GUIDS: u32 = 200_000;
+
+/// How many lookups a sheet has: too many for the processor to learn their
+/// branches by heart.
+const LOOKUPS: u32 = 32_768;
+
+const CHECK: &str = "check_by_from_utf8";
+
+/// The cases, and how many bytes of text the checked book has.
+pub fn races() -> Result<(Vec<Race>, usize), Trouble> {
+    keep_the_heap();
+    let mut rng = Rng::new(11);
+    let mut races = fillings(&mut rng)?;
+    races.append(&mut of_guids(&mut rng)?);
+    races.append(&mut of_groups(&mut rng)?);
+    let (check, text) = checking(&mut rng);
+    races.push(check);
+    Ok((races, text))
+}
+
+/// What the cases say together: how much longer a GUID's setting takes in a
+/// large book than in a small one, and how fast the check is.
+pub fn report(races: &[Race], text: usize) {
+    let seconds = |name: &str| {
+        races
+            .iter()
+            .find(|race| race.name == name)
+            .map(Race::seconds)
+    };
+    if let (Some(few), Some(many)) = (seconds(&setting(GUIDS)), seconds(&setting(MANY_GUIDS))) {
+        let times = f64::from(MANY_GUIDS) / f64::from(GUIDS);
+        println!(
+            "set_net_guid_path_growth {:.2}, the original's {:.2}",
+            many.1 / few.1 / times,
+            many.0 / few.0 / times
+        );
+    }
+    if let Some((_, check)) = seconds(CHECK) {
+        println!(
+            "check_speed {:.2} GB of text a second",
+            text as f64 / check / 1e9
+        );
+    }
+}
+
+fn setting(count: u32) -> String {
+    format!("set_net_guid_path_{count}")
+}
+
+/// The lent memory is the same in every turn, so the system has long given it.
+/// The original's heap is kept as well: else the system would take it back
+/// after every book, and the next book would pay for getting it again.
+fn keep_the_heap() {
+    unsafe extern "C" {
+        fn mallopt(parameter: i32, value: i32) -> i32;
+    }
+    const TRIM_THRESHOLD: i32 = -1;
+    const MMAP_THRESHOLD: i32 = -3;
+    // SAFETY: the C library's own settings, before any other thread runs.
+    unsafe {
+        mallopt(TRIM_THRESHOLD, i32::MAX);
+        mallopt(MMAP_THRESHOLD, 1 << 25);
+    }
+}
+
+/// Memory that holds what a sheet sets and not a record more, and the
+/// allowances for it.
+struct Room {
+    allowances: [u64; 4],
+    memory: Vec<u8>,
+}
+
+impl Room {
+    fn of(sheet: &Sheet) -> Self {
+        let [guids, groups, fields] = [SET_GUID, ADD_GROUP, SET_FIELD].map(|k| sheet.count(k));
+        let text = sheet.texts.len() as u64;
+        // The need as docs/LAYOUT.md has it.
+        let need = 4 * (37 + 7 * guids + 13 * groups + 7 * fields) + 2 * text;
+        Room {
+            allowances: [guids, groups, fields, text],
+            memory: vec![0; need as usize],
+        }
+    }
+
+    fn fill(&mut self, sheet: &Sheet) -> u64 {
+        loops::fill(&mut self.memory, self.allowances, &sheet.rows, &sheet.texts)
+    }
+}
+
+fn fillings(rng: &mut Rng) -> Result<Vec<Race>, Trouble> {
+    let cases = [
+        (setting(GUIDS), guids(rng, GUIDS, rising)),
+        (setting(50_000), guids(rng, 50_000, rising)),
+        (setting(MANY_GUIDS), guids(rng, MANY_GUIDS, rising)),
+        (
+            format!("{}_random", setting(GUIDS)),
+            guids(rng, GUIDS, anything),
+        ),
+        (
+            format!("add_{GROUPS}_groups_{FIELDS}_fields"),
+            groups(rng).sheet,
+        ),
+    ];
+    cases
+        .into_iter()
+        .map(|(name, sheet)| {
+            let mut room = Room::of(&sheet);
+            if room.fill(&sheet) != sheet.len() {
+                return Err(Trouble::Wrong(format!("{name}: a call was refused")));
+            }
+            let (rust, port) = shared(sheet);
+            Ok(Race::new(
+                name,
+                move || original::fill(&rust),
+                move || room.fill(&port),
+            ))
+        })
+        .collect()
+}
+
+/// GUIDs as a server gives them: rising, with gaps.
+fn rising(rng: &mut Rng, last: u32) -> u32 {
+    last + 1 + rng.below(3) as u32
+}
+
+/// GUIDs anywhere: distinct all the same, since the last bits only rise.
+fn anything(rng: &mut Rng, last: u32) -> u32 {
+    let step = (last & 0xFFFF) + 1;
+    (rng.next() as u32 & 0xFFFF_0000) | step
+}
+
+/// Settings of distinct GUIDs. Every path is its own, and most have an outer.
+fn guids(rng: &mut Rng, count: u32, next: fn(&mut Rng, u32) -> u32) -> Sheet {
+    let mut sheet = Sheet::default();
+    let mut seen = vec![0];
+    for number in 0..count {
+        let guid = next(rng, seen[seen.len() - 1]);
+        let outer = seen[rng.below(seen.len() as u64) as usize];
+        let path = object_path(rng, number);
+        sheet.push(SET_GUID, [guid, outer, 0], &path);
+        seen.push(guid);
+    }
+    sheet
+}
+
+/// A path as objects have them, of 40 to 90 bytes.
+fn object_path(rng: &mut Rng, number: u32) -> String {
+    let roots = ["/Game/Characters/", "/Game/Maps/", "/Game/Equippables/"];
+    let words = [
+        "Hunter/",
+        "Ability_E/",
+        "_Core/",
+        "Guns/",
+        "Comp_",
+        "Weapon",
+        "State_",
+    ];
+    let len = 36 + rng.below(46) as usize;
+    let mut path = rng.pick(&roots).to_owned();
+    while path.len() < len {
+        path += rng.pick(&words);
+    }
+    path.truncate(len);
+    format!("{path}.{number:06}_C")
+}
+
+/// The groups of a recording, each followed by its fields.
+struct Groups {
+    sheet: Sheet,
+    paths: Vec<String>,
+    /// Bare names of classes, and of those whose ClassNetCache is a group.
+    classes: Vec<String>,
+    cached: Vec<String>,
+}
+
+fn groups(rng: &mut Rng) -> Groups {
+    let mut made = Groups {
+        sheet: Sheet::default(),
+        paths: Vec::new(),
+        classes: Vec::new(),
+        cached: Vec::new(),
+    };
+    for index in 0..GROUPS {
+        // Evenly, so that there are as many as asked for in the end.
+        let fields = FIELDS * (index + 1) / GROUPS - FIELDS * index / GROUPS;
+        let slots = fields + rng.below(3) as u32;
+        let is_cache = index % 2 == 1;
+        let name = class_name(rng, index);
+        let path = group_path(rng, &name, is_cache);
+        made.sheet.push(ADD_GROUP, [index, slots, 0], &path);
+        for handle in 0..fields {
+            let checksum = rng.next() as u32;
+            let name = field_name(rng);
+            made.sheet.push(SET_FIELD, [index, handle, checksum], &name);
+        }
+        made.paths.push(path);
+        let names = if is_cache {
+            &mut made.cached
+        } else {
+            &mut made.classes
+        };
+        names.push(name);
+    }
+    made
+}
+
+fn class_name(rng: &mut Rng, number: u32) -> String {
+    let words = [
+        "Bomb",
+        "Window",
+        "Shield",
+        "Ability_",
+        "Hunter",
+        "Equippable",
+        "Comp_",
+    ];
+    let mut name = String::new();
+    for _ in 0..2 + rng.below(3) {
+        name += rng.pick(&words);
+    }
+    format!("{name}{number}x")
+}
+
+/// A class or a ClassNetCache, in one of the spellings that classes have.
+fn group_path(rng: &mut Rng, name: &str, is_cache: bool) -> String {
+    let suffix = if is_cache { "_ClassNetCache" } else { "" };
+    match rng.below(6) {
+        0 | 1 => format!("/Script/ShooterGame.{name}Component{suffix}"),
+        2 => format!("/Game/Characters/Hunter/S0/Ability_E/{name}.{name}_C{suffix}"),
+        3 => format!("/Game/Characters/_Core/Abilities/{name}.{name}_C{suffix}"),
+        4 => format!("/Game/Equippables/Guns/_Core/{name}.{name}_C{suffix}"),
+        _ => format!("/Script/ShooterGame.{name}{suffix}"),
+    }
+}
+
+fn field_name(rng: &mut Rng) -> String {
+    let words = [
+        "Replicated",
+        "Movement",
+        "Indicator",
+        "Location",
+        "Owner",
+        "State",
+        "b",
+    ];
+    let mut name = String::new();
+    for _ in 0..2 + rng.below(3) {
+        name += rng.pick(&words);
+    }
+    name
+}
+
+/// A filled book, on both sides.
+struct Book {
+    cache: Rc<NetGuidCache>,
+    memory: Rc<Vec<u8>>,
+}
+
+impl Book {
+    /// The port's lookups ask that the book has passed its check.
+    fn of(sheet: &Sheet) -> Result<Self, Trouble> {
+        let mut room = Room::of(sheet);
+        room.fill(sheet);
+        if !loops::check(&room.memory) {
+            return Err(Trouble::Ported(
+                "a book that it filled fails its check".into(),
+            ));
+        }
+        Ok(Book {
+            cache: Rc::new(original::fill(sheet).left.unwrap_or_default()),
+            memory: Rc::new(room.memory),
+        })
+    }
+
+    fn race(&self, name: &str, look: Look, mut ask: impl FnMut(&mut Sheet)) -> Race {
+        let mut sheet = Sheet::default();
+        (0..LOOKUPS).for_each(|_| ask(&mut sheet));
+        let (rust, port) = shared(sheet);
+        let (cache, memory) = (self.cache.clone(), self.memory.clone());
+        let Look { original, ported } = look;
+        Race::new(
+            name,
+            move || original(&cache, &rust),
+            move || loops::look(&memory, ported, &port.rows, &port.texts),
+        )
+    }
+}
+
+/// A kind of lookups: the original's loop, and the port's number for it.
+#[derive(Clone, Copy)]
+struct Look {
+    original: fn(&NetGuidCache, &Sheet) -> u64,
+    ported: u32,
+}
+
+const PATH_BY_GUID: Look = Look {
+    original: original::path_by_guid,
+    ported: 0,
+};
+const BY_INDEX: Look = Look {
+    original: original::by_index,
+    ported: 1,
+};
+const BY_PATH: Look = Look {
+    original: original::by_path,
+    ported: 2,
+};
+const BY_LEAF: Look = Look {
+    original: original::by_leaf,
+    ported: 3,
+};
+const BY_INSTANCE: Look = Look {
+    original: original::by_instance,
+    ported: 4,
+};
+
+fn of_guids(rng: &mut Rng) -> Result<Vec<Race>, Trouble> {
+    let sheet = guids(rng, GUIDS, rising);
+    let known: Vec<u32> = sheet.rows().map(|row| row.a).collect();
+    let book = Book::of(&sheet)?;
+    Ok(vec![
+        book.race("get_path_by_guid_found", PATH_BY_GUID, |sheet| {
+            sheet.ask(rng.pick(&known), "");
+        }),
+        book.race("get_path_by_guid_absent", PATH_BY_GUID, |sheet| {
+            sheet.ask(1_000_000 + rng.below(1 << 20) as u32, "");
+        }),
+    ])
+}
+
+fn of_groups(rng: &mut Rng) -> Result<Vec<Race>, Trouble> {
+    let Groups {
+        sheet,
+        paths,
+        classes,
+        cached,
+    } = groups(rng);
+    let book = Book::of(&sheet)?;
+    let any =
+        |rng: &mut Rng, texts: &[String]| texts[rng.below(texts.len() as u64) as usize].clone();
+    let unknown = |rng: &mut Rng| {
+        let number = GROUPS + rng.below(1_000) as u32;
+        class_name(rng, number)
+    };
+    Ok(vec![
+        book.race("get_group_by_index_found", BY_INDEX, |sheet| {
+            sheet.ask(rng.below(u64::from(GROUPS)) as u32, "");
+        }),
+        book.race("get_group_by_index_absent", BY_INDEX, |sheet| {
+            sheet.ask(GROUPS + rng.below(1 << 20) as u32, "");
+        }),
+        book.race("get_group_by_path_found", BY_PATH, |sheet| {
+            sheet.ask(0, &any(rng, &paths));
+        }),
+        book.race("get_group_by_path_absent", BY_PATH, |sheet| {
+            let name = unknown(rng);
+            sheet.ask(0, &group_path(rng, &name, false));
+        }),
+        book.race("unique_leaf_match_found", BY_LEAF, |sheet| {
+            sheet.ask(0, &any(rng, &classes));
+        }),
+        book.race("unique_leaf_match_absent", BY_LEAF, |sheet| {
+            sheet.ask(0, &unknown(rng));
+        }),
+        book.race("resolve_cnc_found", BY_INSTANCE, |sheet| {
+            let name = any(rng, &cached);
+            sheet.ask(0, &instance_name(rng, &name));
+        }),
+        book.race("resolve_cnc_absent", BY_INSTANCE, |sheet| {
+            let name = unknown(rng);
+            sheet.ask(0, &instance_name(rng, &name));
+        }),
+    ])
+}
+
+/// A class's name with what tells its instances apart.
+fn instance_name(rng: &mut Rng, class: &str) -> String {
+    match rng.below(4) {
+        0 => class.to_owned(),
+        1 => format!("{class}_A"),
+        2 => format!("{class}_2"),
+        _ => format!("{class}_Ascent_{}", rng.below(100)),
+    }
+}
+
+/// The check of a book of GUIDs, beside `from_utf8` of its texts: the original
+/// has no check, but it tests every text before it takes it. And how many bytes
+/// the texts have.
+fn checking(rng: &mut Rng) -> (Race, usize) {
+    let sheet = guids(rng, GUIDS, rising);
+    let text = sheet.texts.len();
+    let mut room = Room::of(&sheet);
+    room.fill(&sheet);
+    let race = Race::new(
+        CHECK,
+        move || original::all_utf8(&sheet),
+        move || u64::from(loops::check(&room.memory)),
+    );
+    (race, text)
+}
+
+/// The same loops over the original, never inlined, as in `bits`.
+mod original {
+    use std::hint::black_box;
+    use std::str;
+
+    use vrf_schema::NetGuidCache;
+    use vrf_schema::export::{NetFieldExport, NetFieldExportGroup};
+    use vrf_schema::guid::NetworkGuid;
+
+    use super::super::race::Outcome;
+    use super::super::sheet::{ADD_GROUP, Row, SET_GUID, Sheet};
+
+    #[inline(never)]
+    pub fn fill(sheet: &Sheet) -> Outcome {
+        let mut cache = NetGuidCache::new();
+        let mut taken = 0;
+        for row in black_box(sheet).rows() {
+            if let Ok(text) = str::from_utf8(sheet.text(row)) {
+                taken += u64::from(set(&mut cache, row, text));
+            }
+        }
+        Outcome {
+            sum: taken,
+            left: Some(cache),
+        }
+    }
+
+    #[inline]
+    fn set(cache: &mut NetGuidCache, row: Row, text: &str) -> bool {
+        match row.kind {
+            SET_GUID => {
+                cache.set_net_guid_path(row.a, text, Some(NetworkGuid(row.b)));
+                true
+            }
+            ADD_GROUP => {
+                let group = NetFieldExportGroup::new(text.to_owned(), row.a, row.b);
+                cache.add_export_group(group).is_ok()
+            }
+            _ => {
+                let field = NetFieldExport {
+                    handle: row.b,
+                    compatible_checksum: row.c,
+                    name: text.to_owned(),
+                };
+                cache.set_field_on_group(row.a, field)
+            }
+        }
+    }
+
+    #[inline(never)]
+    pub fn all_utf8(sheet: &Sheet) -> u64 {
+        let mut texts = black_box(sheet).rows().map(|row| sheet.text(row));
+        u64::from(texts.all(|text| str::from_utf8(text).is_ok()))
+    }
+
+    /// The sum of what a lookup answers to every row.
+    #[inline(always)]
+    fn each(sheet: &Sheet, look: impl Fn(Row) -> u64) -> u64 {
+        let rows = black_box(sheet).rows();
+        rows.map(look).fold(0, u64::wrapping_add)
+    }
+
+    /// A row's text: the port looks texts up untested too.
+    #[inline(always)]
+    fn text(sheet: &Sheet, row: Row) -> &str {
+        // SAFETY: a sheet's rows point to the texts that were pushed with them.
+        unsafe { str::from_utf8_unchecked(sheet.text(row)) }
+    }
+
+    #[inline(never)]
+    pub fn path_by_guid(cache: &NetGuidCache, sheet: &Sheet) -> u64 {
+        each(sheet, |row| {
+            cache
+                .get_path_by_guid(row.a)
+                .map_or(0, |path| path.len() as u64)
+        })
+    }
+
+    #[inline(never)]
+    pub fn by_index(cache: &NetGuidCache, sheet: &Sheet) -> u64 {
+        each(sheet, |row| {
+            u64::from(cache.get_group_by_index(row.a).is_some())
+        })
+    }
+
+    #[inline(never)]
+    pub fn by_path(cache: &NetGuidCache, sheet: &Sheet) -> u64 {
+        each(sheet, |row| {
+            u64::from(cache.get_group_by_path(text(sheet, row)).is_some())
+        })
+    }
+
+    #[inline(never)]
+    pub fn by_leaf(cache: &NetGuidCache, sheet: &Sheet) -> u64 {
+        each(sheet, |row| {
+            u64::from(cache.unique_leaf_match(text(sheet, row)).is_some())
+        })
+    }
+
+    #[inline(never)]
+    pub fn by_instance(cache: &NetGuidCache, sheet: &Sheet) -> u64 {
+        each(sheet, |row| {
+            let found = cache.resolve_cnc_for_instance_name(text(sheet, row));
+            u64::from(found.is_some())
+        })
+    }
+}
