@@ -13,16 +13,12 @@ use Rattle.vrf_model.specs.Answers.{countsOf}
 use Rattle.vrf_model.specs.declared.Tables.{Tables}
 use Rattle.vrf_model.specs.declared.Tables.the-variants.{Read, Refused as NotRead}
 use Rattle.vrf_store.specs.Good.{Good}
-use Rattle.vrf_reader.specs.Goes.{Goes, Out, Reads}
+use Rattle.vrf_reader.specs.Goes.{Goes}
 use Rattle.vrf_reader.specs.declared.Moved.{Moved}
 use Rattle.vrf_reader.specs.declared.Moved.the-variants.{To, Refused as NotMoved}
 use Rattle.vrf_checkpoint.specs.Stands.{noTable}
 use Rattle.vrf_checkpoint.specs.declared.block.Head.{Head}
 use Rattle.vrf_checkpoint.specs.declared.block.Head.the-variants.{Of, Refused as NoHead}
-
--- a reader that leaves every book as it is
-pub record ReadsOnly {A : Type 0} (s : List ℕ) (k : Intake A) (c : Cursor) (o : Out A) : Type 0 where
-  pub reads : (m : List ℕ) → Good m → Reads s k c m m o
 
 -- a count that its reading let pass
 abbrev pub UpTo : ℕ → Word → Type 0

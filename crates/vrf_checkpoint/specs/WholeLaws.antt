@@ -17,13 +17,13 @@ use Rattle.vrf_model.specs.Block.{Counts, Table, zeroWord, countUpTo, blockGuid
 use Rattle.vrf_model.specs.declared.Tables.{Tables}
 use Rattle.vrf_model.specs.declared.Tables.the-variants.{Read, Refused as NotRead}
 use Rattle.vrf_store.specs.Good.{Good}
-use Rattle.vrf_reader.specs.Goes.{Goes, at, no, moved, valued}
+use Rattle.vrf_reader.specs.Goes.{Goes, at, no, ReadsOnly, moved, valued}
 use Rattle.vrf_reader.specs.GoesLaws.{alike, gave, refused, then, bind, bind-stop, reads}
 use Rattle.vrf_reader.specs.declared.Moved.{Moved}
 use Rattle.vrf_reader.specs.declared.Moved.the-variants.{To, Refused as NotMoved}
 use Rattle.vrf_checkpoint.specs.declared.guids.Paths.{Paths}
 use Rattle.vrf_checkpoint.specs.Stands.{Stands, noTable}
-use Rattle.vrf_checkpoint.specs.Whole.{ReadsOnly, zerosThen, guidsFrom, groupsFrom, endFrom, Goes-on, ZerosRead, BlockReads}
+use Rattle.vrf_checkpoint.specs.Whole.{zerosThen, guidsFrom, groupsFrom, endFrom, Goes-on, ZerosRead, BlockReads}
 
 -- ---- words
 

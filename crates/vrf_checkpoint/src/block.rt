@@ -19,9 +19,9 @@ ghost use mathlib.Core.List.{List};
 ghost use Rattle.vrf_model.specs.Block.{Table, zeroWord, countUpTo, blockEnd, block};
 ghost use Rattle.vrf_store.specs.Good.{Good};
 ghost use Rattle.vrf_store.specs.Store.{storeOf};
-ghost use Rattle.vrf_reader.specs.Goes.{moved, valued};
+ghost use Rattle.vrf_reader.specs.Goes.{ReadsOnly, moved, valued};
 ghost use Rattle.vrf_checkpoint.specs.Stands.{Stands};
-ghost use Rattle.vrf_checkpoint.specs.Whole.{ReadsOnly, UpTo, ZerosRead, HeadReads, groupsFrom, BlockReads};
+ghost use Rattle.vrf_checkpoint.specs.Whole.{UpTo, ZerosRead, HeadReads, groupsFrom, BlockReads};
 
 // The head of a block: W, how many GUIDs follow, and the cursor behind them.
 enum Head {

@@ -1,18 +1,16 @@
 -- Readers of the book in the code, beside document 01's.
 pub mod Goes
 pub mod GoesLaws
+pub mod Joined
 -- texts and names, read into a room
 pub mod Texts
 pub mod TextsLaws
--- entries of a run, and readers inside others
+-- runs of entries, and the fields run
 pub mod Times
-pub mod Joined
--- the fields run
 pub mod Fields
 pub mod FieldsLaws
--- objects, and runs of them
+-- objects, and the GUID run
 pub mod Objects
 pub mod ObjectSteps
 pub mod Within
-pub mod Entries
 pub mod GuidSteps

@@ -1,5 +1,5 @@
 -- `load_object` step by step, as the code goes: flags, head, checksum, record, and one object over another.
-use mathlib.Core.Path.{_≡_, refl, subst}
+use mathlib.Core.Path.{_≡_, refl}
 use mathlib.Core.Logic.{_≢_}
 use mathlib.Core.Bool.{Bool, true, false, cond, _||_}
 use mathlib.Core.List.{List}
@@ -22,97 +22,94 @@ use Rattle.vrf_store.specs.Good.{Good}
 use Rattle.vrf_store.specs.Stepped.{held}
 use Rattle.vrf_cache.specs.Taken.{Taken, NotTaken}
 use Rattle.vrf_reader.specs.declared.objects.Head.the-variants.{Ends, Path, Refused as NoHead}
-use Rattle.vrf_reader.specs.Goes.{Goes, Out, at, no, Reads}
-use Rattle.vrf_reader.specs.GoesLaws.{stays, gave, refused, taken, not-taken, then, bind, bind-stop, reads}
+use Rattle.vrf_reader.specs.Goes.{Goes, Out, at, no, Reads, ReadsOnly, byted}
+use Rattle.vrf_reader.specs.GoesLaws.{stays, gave, refused, taken, not-taken, then, bind, bind-stop, read-on, read-stops, stops, reads}
 use Rattle.vrf_reader.specs.Texts.{Texted}
-use Rattle.vrf_reader.specs.Objects.{ReadsOnly, byted, recorded, HeadOf}
+use Rattle.vrf_reader.specs.TextsLaws.{room-gave}
+use Rattle.vrf_reader.specs.Objects.{HeadOf, recorded}
 
 -- ---- flags
 
-module _ (s : List ℕ) (c : Cursor) (exporting : Bool) (guid : ℕ) where
+module _ {s : List ℕ} {c : Cursor} (exporting : Bool) (guid : ℕ) where
   pub flags-read : (exporting || eqb guid 1) ≡ true → (o : Byte) → ByteAnswer s c (readAt s c byte) o → ReadsOnly s (flagsOf exporting guid) c (byted o)
   unfolding flagsOf
-  flags-read h (Value v d) g m good = rw h (gave byte good g)
-  flags-read h (NoByte r) e m good = rw h (refused byte good e)
+  flags-read h (Value v d) g = record { reads = λ m good. rw h (gave byte good g) }
+  flags-read h (NoByte r) e = record { reads = λ m good. rw h (refused byte good e) }
 
   pub flags-none : (exporting || eqb guid 1) ≡ false → ReadsOnly s (flagsOf exporting guid) c (at 0 c)
   unfolding flagsOf
-  flags-none h m good = rw h (stays good)
+  flags-none h = record { reads = λ m good. rw h (stays good) }
 
 -- ---- head
 
 module _ {s : List ℕ} {c : Cursor} (exporting : Bool) where
   pub head-refused : {q : Refusal} → Refuses (readAt s c packed) q → HeadOf s exporting c (NoHead q)
   unfolding objectOver
-  head-refused {q} e outer m good = bind-stop _ q (refused packed good e)
+  head-refused e = record { reads = λ outer m good. read-stops packed _ good e }
 
-  pub head-zero : {guid : ℕ} {d : Cursor} → Gave s c (readAt s c packed) guid d → guid ≡ 0 → HeadOf s exporting c (Ends 0 d)
-  unfolding objectOver
-  head-zero {guid} {d} g z outer m good = subst (λ (t : Bool). Goes s (objectOver outer exporting) c m (cond t (return 0) (objectAfter outer exporting guid)) d m) (eq-eqb guid 0 z) (bind _ (gave packed good g))
-
-  module _ {guid : ℕ} {d : Cursor} (g : Gave s c (readAt s c packed) guid d) (some : guid ≢ 0) where
-    on : (outer : Intake ℕ) (m : List ℕ) → Good m → Goes s (objectOver outer exporting) c m (objectAfter outer exporting guid) d m
+  module _ {guid : ℕ} {d : Cursor} (g : Gave s c (readAt s c packed) guid d) where
+    to-guid : (outer : Intake ℕ) {m : List ℕ} → Good m → Goes s (objectOver outer exporting) c m (cond (eqb guid 0) (return 0) (objectAfter outer exporting guid)) d m
     unfolding objectOver
-    on outer m good = subst (λ (t : Bool). Goes s (objectOver outer exporting) c m (cond t (return 0) (objectAfter outer exporting guid)) d m) (ne-eqb guid 0 some) (bind _ (gave packed good g))
+    to-guid outer good = read-on packed _ good g
 
-    pub head-flagless : (q : Refusal) → ReadsOnly s (flagsOf exporting guid) d (no q) → HeadOf s exporting c (NoHead q)
-    unfolding objectAfter
-    head-flagless q h outer m good = reads (on outer m good) m (no q) (bind-stop _ q (h m good))
+    pub head-zero : guid ≡ 0 → HeadOf s exporting c (Ends 0 d)
+    head-zero z = record { reads = λ outer m good. rw (eq-eqb guid 0 z) at (to-guid outer good) }
 
-    module _ (flags : ℕ) {e : Cursor} (h : ReadsOnly s (flagsOf exporting guid) d (at flags e)) where
-      flagged : (outer : Intake ℕ) (m : List ℕ) → Good m → (t : Bool) → eqb (flags % 2) 1 ≡ t → Goes s (objectOver outer exporting) c m (cond t (withPath outer guid flags) (return guid)) e m
+    module _ (some : guid ≢ 0) where
+      to-flags : (outer : Intake ℕ) {m : List ℕ} → Good m → Goes s (objectOver outer exporting) c m (objectAfter outer exporting guid) d m
+      to-flags outer good = rw (ne-eqb guid 0 some) at (to-guid outer good)
+
+      pub head-flagless : (q : Refusal) → ReadsOnly s (flagsOf exporting guid) d (no q) → HeadOf s exporting c (NoHead q)
       unfolding objectAfter
-      flagged outer m good t q = subst (λ (t : Bool). Goes s (objectOver outer exporting) c m (cond t (withPath outer guid flags) (return guid)) e m) q (then (on outer m good) (bind _ (h m good)))
+      head-flagless q h = record { reads = λ outer m good. stops (to-flags outer good) q (bind-stop _ q (h .reads m good)) }
 
-      pub head-path : flags % 2 ≡ 1 → HeadOf s exporting c (Path guid flags e)
-      head-path q outer m good = flagged outer m good true (eq-eqb (flags % 2) 1 q)
+      module _ {flags : ℕ} {e : Cursor} (h : ReadsOnly s (flagsOf exporting guid) d (at flags e)) where
+        to-path : (outer : Intake ℕ) {m : List ℕ} → Good m → Goes s (objectOver outer exporting) c m (cond (eqb (flags % 2) 1) (withPath outer guid flags) (return guid)) e m
+        unfolding objectAfter
+        to-path outer good = then (to-flags outer good) (bind _ (h .reads _ good))
 
-      pub head-ends : flags % 2 ≢ 1 → HeadOf s exporting c (Ends guid e)
-      head-ends q outer m good = flagged outer m good false (ne-eqb (flags % 2) 1 q)
+        pub head-path : flags % 2 ≡ 1 → HeadOf s exporting c (Path guid flags e)
+        head-path q = record { reads = λ outer m good. rw (eq-eqb (flags % 2) 1 q) at (to-path outer good) }
+
+        pub head-ends : flags % 2 ≢ 1 → HeadOf s exporting c (Ends guid e)
+        head-ends q = record { reads = λ outer m good. rw (ne-eqb (flags % 2) 1 q) at (to-path outer good) }
 
 -- ---- checksum
 
 module _ {s : List ℕ} {c : Cursor} (flags : ℕ) where
   pub checksum-none : flags / 4 % 2 ≢ 1 → ReadsOnly s (skipChecksum flags) c (at tt c)
   unfolding skipChecksum
-  checksum-none h m good = rw (ne-eqb (flags / 4 % 2) 1 h) (stays good)
+  checksum-none h = record { reads = λ m good. rw (ne-eqb (flags / 4 % 2) 1 h) (stays good) }
 
   module _ (h : flags / 4 % 2 ≡ 1) where
     pub checksum-read : {v : ℕ} {d : Cursor} → Gave s c (readAt s c word32) v d → ReadsOnly s (skipChecksum flags) c (at tt d)
     unfolding skipChecksum
-    checksum-read g m good = rw (eq-eqb (flags / 4 % 2) 1 h) (bind _ (gave word32 good g))
+    checksum-read g = record { reads = λ m good. rw (eq-eqb (flags / 4 % 2) 1 h) (read-on word32 _ good g) }
 
     pub checksum-refused : {q : Refusal} → Refuses (readAt s c word32) q → ReadsOnly s (skipChecksum flags) c (no q)
     unfolding skipChecksum
-    checksum-refused {q} e m good = rw (eq-eqb (flags / 4 % 2) 1 h) (bind-stop _ q (refused word32 good e))
+    checksum-refused e = record { reads = λ m good. rw (eq-eqb (flags / 4 % 2) 1 h) (read-stops word32 _ good e) }
 
 -- ---- record
 
-module _ {s : List ℕ} {c : Cursor} (guid flags outer : ℕ) {m : List ℕ} (good : Good m) where
-  pub record-textless : {q : Refusal} → Refuses (readAt s c fstring) q → Goes s (recorded guid flags outer) c m (stop (q .number) (q .a) (q .b)) c m
+module _ {s : List ℕ} {c : Cursor} (guid flags outer : ℕ) {m : List ℕ} (good : Good m) {room : List ℕ} {n : ℕ} {d : Cursor} (t : Texted s c (readAt s c fstring) room n d) where
+  to-checksum : Goes s (recorded guid flags outer) c m (skipChecksum flags >>= λ u. step (setGuid (record { guid = guid; path = take n room; outer = outer })) >>= λ v. return guid) d m
   unfolding recorded
-  record-textless {q} e = bind-stop _ q (refused fstring good e)
+  to-checksum = read-on fstring _ good (room-gave t)
 
-  module _ {room : List ℕ} {n : ℕ} {d : Cursor} (t : Texted s c (readAt s c fstring) room n d) where
-    abbrev behindPath : Intake ℕ
-    behindPath = do
-      u ← skipChecksum flags
-      v ← step (setGuid (record { guid = guid; path = take n room; outer = outer }))
-      return guid
+  pub record-sumless : (q : Refusal) → ReadsOnly s (skipChecksum flags) d (no q) → Reads s (recorded guid flags outer) c m m (no q)
+  record-sumless q h = stops to-checksum q (bind-stop _ q (h .reads m good))
 
-    on-path : Goes s (recorded guid flags outer) c m behindPath d m
-    unfolding recorded
-    on-path = rw (t .here) (bind _ (gave fstring good (t .gave)))
+  module _ {e : Cursor} (h : ReadsOnly s (skipChecksum flags) d (at tt e)) where
+    to-setting : Goes s (recorded guid flags outer) c m (step (setGuid (record { guid = guid; path = take n room; outer = outer })) >>= λ v. return guid) e m
+    to-setting = then to-checksum (bind _ (h .reads m good))
 
-    pub record-sumless : (q : Refusal) → ReadsOnly s (skipChecksum flags) d (no q) → Goes s (recorded guid flags outer) c m (stop (q .number) (q .a) (q .b)) c m
-    record-sumless q h = reads on-path m (no q) (bind-stop _ q (h m good))
+    module _ {m′ : List ℕ} where
+      pub record-set : Taken (setGuid (record { guid = guid; path = take n room; outer = outer }) (held m)) tt m m′ → Goes s (recorded guid flags outer) c m (return guid) e m′
+      record-set k = then to-setting (bind _ (taken _ k))
 
-    module _ {e : Cursor} (h : ReadsOnly s (skipChecksum flags) d (at tt e)) {m′ : List ℕ} where
-      pub recorded-done : Taken (setGuid (record { guid = guid; path = take n room; outer = outer }) (held m)) tt m m′ → Goes s (recorded guid flags outer) c m (return guid) e m′
-      recorded-done k = then on-path (then (bind _ (h m good)) (bind _ (taken _ k)))
-
-      pub recorded-not : {q : Refusal} → NotTaken (setGuid (record { guid = guid; path = take n room; outer = outer }) (held m)) q m m′ → Goes s (recorded guid flags outer) c m (stop (q .number) (q .a) (q .b)) c m′
-      recorded-not {q} k = reads (then on-path (bind _ (h m good))) m′ (no q) (bind-stop _ q (not-taken _ good k))
+      pub record-refused : {q : Refusal} → NotTaken (setGuid (record { guid = guid; path = take n room; outer = outer }) (held m)) q m m′ → Reads s (recorded guid flags outer) c m m′ (no q)
+      record-refused {q} k = stops to-setting q (bind-stop _ q (not-taken _ good k))
 
 -- ---- one object over another
 
@@ -120,29 +117,26 @@ pub too-deep : {s : List ℕ} {c : Cursor} (left : ℕ) (exporting : Bool) {m : 
 unfolding object
 too-deep left exporting good z = rw z (stays good)
 
-over : (left : ℕ) (exporting : Bool) → left ≢ 0 → objectOver (object (left - 1) exporting) exporting ≡ object left exporting
+over : (left : ℕ) (exporting : Bool) → left ≢ 0 → object left exporting ≡ objectOver (object (left - 1) exporting) exporting
 unfolding object
 over zero exporting h = absurd (h refl)
 over (suc left) exporting h = let e : suc left - 1 ≡ left = omega arith in rw e
 
-module _ {s : List ℕ} {c : Cursor} (left : ℕ) (exporting : Bool) (some : left ≢ 0) {m : List ℕ} (good : Good m) where
-  as-object : {k : Intake ℕ} {d : Cursor} → Goes s (objectOver (object (left - 1) exporting) exporting) c m k d m → Goes s (object left exporting) c m k d m
-  as-object {k} {d} g = subst (λ (o : Intake ℕ). Goes s o c m k d m) (over left exporting some) g
-
-  pub object-refused : (q : Refusal) → HeadOf s exporting c (NoHead q) → Goes s (object left exporting) c m (stop (q .number) (q .a) (q .b)) c m
-  object-refused q h = as-object (h (object (left - 1) exporting) m good)
+module _ {s : List ℕ} {c : Cursor} (left : ℕ) {exporting : Bool} (some : left ≢ 0) {m : List ℕ} (good : Good m) where
+  pub object-refused : (q : Refusal) → HeadOf s exporting c (NoHead q) → Reads s (object left exporting) c m m (no q)
+  object-refused q h = rw (over left exporting some) (h .reads (object (left - 1) exporting) m good)
 
   pub object-ends : (guid : ℕ) {d : Cursor} → HeadOf s exporting c (Ends guid d) → Goes s (object left exporting) c m (return guid) d m
-  object-ends guid h = as-object (h (object (left - 1) exporting) m good)
+  object-ends guid h = rw (over left exporting some) (h .reads (object (left - 1) exporting) m good)
 
-  module _ (guid flags : ℕ) {d : Cursor} (h : HeadOf s exporting c (Path guid flags d)) where
-    on-outer : Goes s (object left exporting) c m (withPath (object (left - 1) exporting) guid flags) d m
-    on-outer = as-object (h (object (left - 1) exporting) m good)
+  module _ {guid flags : ℕ} {d : Cursor} (h : HeadOf s exporting c (Path guid flags d)) where
+    to-outer : Goes s (object left exporting) c m (withPath (object (left - 1) exporting) guid flags) d m
+    to-outer = rw (over left exporting some) (h .reads (object (left - 1) exporting) m good)
 
-    pub outer-refused : {m′ : List ℕ} (q : Refusal) → Goes s (object (left - 1) exporting) d m (stop (q .number) (q .a) (q .b)) d m′ → Goes s (object left exporting) c m (stop (q .number) (q .a) (q .b)) c m′
+    pub outer-refused : {m′ : List ℕ} (q : Refusal) → Reads s (object (left - 1) exporting) d m m′ (no q) → Reads s (object left exporting) c m m′ (no q)
     unfolding withPath
-    outer-refused {m′} q g = reads on-outer m′ (no q) (bind-stop _ q g)
+    outer-refused q g = stops to-outer q (bind-stop _ q g)
 
     pub outer-then : {m′ : List ℕ} (outer : ℕ) {e : Cursor} → Goes s (object (left - 1) exporting) d m (return outer) e m′ → (m″ : List ℕ) (o : Out ℕ) → Reads s (recorded guid flags outer) e m′ m″ o → Reads s (object left exporting) c m m″ o
     unfolding withPath recorded
-    outer-then outer g = reads (then on-outer (bind (recorded guid flags) g))
+    outer-then outer g = reads (then to-outer (bind (recorded guid flags) g))

@@ -16,30 +16,18 @@ use vrf_model::UNKNOWN_PATH_INDEX;
 use vrf_store::look::find_index;
 use vrf_table::Entry;
 use vrf_text::Text;
-ghost use mathlib.Core.Path.{_≡_};
 ghost use Prim.Native.Nat.{_≤_};
 ghost use lib.ListN.{length};
 ghost use Rattle.vrf_model.specs.Intake.{times};
 ghost use Rattle.vrf_model.specs.Runs.{declaredGroup, groupOf, exportedField, exportEntry, fieldsRun};
 ghost use Rattle.vrf_store.specs.Good.{Good};
 ghost use Rattle.vrf_reader.specs.Goes.{Reads, moved, valued};
-ghost use Rattle.vrf_reader.specs.Fields.{fieldRead, fieldOf, placedAt, addedAt};
+ghost use Rattle.vrf_reader.specs.Fields.{fieldRead, fieldOf};
 
 // A group has at most this many slots.
 const MAX_SLOTS: u32 = 65536;
 
-// Where a reader stands that has set a field: one that found no slot stops no run.
-fn placed_at(end: Cursor, p: Placed) -> Moved
-    ensures { λ r. ⌜ r ≡ placedAt end p ⌝ }
-{
-    match p {
-        Placed::Placed => Moved::To(end),
-        Placed::NotPlaced => Moved::To(end),
-        Placed::Refused(r) => Moved::Refused(r),
-    }
-}
-
-// A field behind its handle: checksum and name, set on the group that has the index. A block's fields are read by it too.
+// A field behind its handle, in an export and in a block: checksum and name. One that finds no slot stops no reader.
 pub fn named_field(
     s: &[u8],
     c: Cursor,
@@ -55,10 +43,13 @@ pub fn named_field(
         Word::Refused(r) => Moved::Refused(r),
         Word::Value(checksum, next) => match read_fname(s, next, room) {
             Text::Refused(r) => Moved::Refused(r),
-            Text::Read(n, end) => placed_at(
-                end,
-                set_field_on_group(m, index, handle, checksum, &room[..n as usize]),
-            ),
+            Text::Read(n, end) => {
+                match set_field_on_group(m, index, handle, checksum, &room[..n as usize]) {
+                    Placed::Refused(r) => Moved::Refused(r),
+                    Placed::Placed => Moved::To(end),
+                    Placed::NotPlaced => Moved::To(end),
+                }
+            }
         },
     }
 }
@@ -74,7 +65,7 @@ fn exported_field(s: &[u8], c: Cursor, m: &mut [u8], room: &mut [u8], index: u32
     }
 }
 
-// A field where its byte is not 0.
+// What follows an export's group: a field where the byte is not 0.
 fn field_of(s: &[u8], c: Cursor, m: &mut [u8], room: &mut [u8], index: u32) -> Moved
     requires { ⌜ Good (now m) × (4096 ≤ length (now room)) ⌝ }
     ensures { λ r. ⌜ Reads (now (s .entry)) (fieldOf index) c (now (m .entry)) (now (m .exit)) (moved r) ⌝ }
@@ -90,17 +81,7 @@ fn field_of(s: &[u8], c: Cursor, m: &mut [u8], room: &mut [u8], index: u32) -> M
     }
 }
 
-// Where a reader stands that has added a group.
-fn added_at(end: Cursor, a: Added) -> Moved
-    ensures { λ r. ⌜ r ≡ addedAt end a ⌝ }
-{
-    match a {
-        Added::At(_) => Moved::To(end),
-        Added::Refused(r) => Moved::Refused(r),
-    }
-}
-
-// A group declared in the run: path and slot count, which is tested before the group is added.
+// A group declared in the run: path and slots, 22 above 65,536, and then the adding.
 fn declared_group(s: &[u8], c: Cursor, m: &mut [u8], room: &mut [u8], index: u32) -> Moved
     requires { ⌜ Good (now m) × (4096 ≤ length (now room)) ⌝ }
     ensures { λ r. ⌜ Reads (now (s .entry)) (declaredGroup index) c (now (m .entry)) (now (m .exit)) (moved r) ⌝ }
@@ -117,13 +98,16 @@ fn declared_group(s: &[u8], c: Cursor, m: &mut [u8], room: &mut [u8], index: u32
                         b: 0,
                     });
                 }
-                added_at(end, add_export_group(m, &room[..n as usize], index, slots))
+                match add_export_group(m, &room[..n as usize], index, slots) {
+                    Added::Refused(r) => Moved::Refused(r),
+                    Added::At(_) => Moved::To(end),
+                }
             }
         },
     }
 }
 
-// The group that an export's flag tells of: 1 declares it, 0 refers to one that the book has.
+// The flag: 1 declares a group, 0 refers to one that the book has, else 20; any other flag is 21.
 fn group_of(s: &[u8], c: Cursor, m: &mut [u8], room: &mut [u8], index: u32, flag: u32) -> Moved
     requires { ⌜ Good (now m) × (4096 ≤ length (now room)) ⌝ }
     ensures { λ r. ⌜ Reads (now (s .entry)) (groupOf index flag) c (now (m .entry)) (now (m .exit)) (moved r) ⌝ }
@@ -165,7 +149,7 @@ fn export_entry(s: &[u8], c: Cursor, m: &mut [u8], room: &mut [u8]) -> Moved
     }
 }
 
-// So many exports.
+// So many exports, one after the other.
 fn export_entries(s: &[u8], c: Cursor, m: &mut [u8], room: &mut [u8], n: u32) -> Moved
     requires { ⌜ Good (now m) × (4096 ≤ length (now room)) ⌝ }
     ensures { λ r. ⌜ Reads (now (s .entry)) (times n exportEntry) c (now (m .entry)) (now (m .exit)) (moved r) ⌝ }
@@ -182,7 +166,7 @@ fn export_entries(s: &[u8], c: Cursor, m: &mut [u8], room: &mut [u8], n: u32) ->
     Moved::To(at)
 }
 
-// Answers how many exports were read. What came before a refused one stays in the book.
+// A fields run answers its count. What it took before a refused step stays in the book.
 pub fn read_net_field_exports(s: &[u8], c: Cursor, m: &mut [u8], room: &mut [u8]) -> Word
     requires { ⌜ Good (now m) × (4096 ≤ length (now room)) ⌝ }
     ensures { λ r. ⌜ Reads (now (s .entry)) fieldsRun c (now (m .entry)) (now (m .exit)) (valued r) ⌝ }

@@ -12,13 +12,13 @@ ghost use mathlib.Core.Path.{_≡_};
 ghost use mathlib.Core.Bool.{true};
 ghost use Prim.Native.Nat.{_-_, _/_, _≤_};
 ghost use lib.ListN.{length};
+ghost use Rattle.vrf_model.specs.Intake.{times};
 ghost use Rattle.vrf_model.specs.Runs.{objectAt, payloadOf, guidEntry, guidRun};
 ghost use Rattle.vrf_store.specs.Good.{Good};
 ghost use Rattle.vrf_reader.specs.Goes.{Reads, moved, valued};
 ghost use Rattle.vrf_reader.specs.Within.{Within};
-ghost use Rattle.vrf_reader.specs.Entries.{entries};
 
-// How many whole bytes are left.
+// How many whole bytes are left in a window.
 fn whole_bytes(c: Cursor) -> u32
     ensures { λ r. ⌜ r ≡ (c .count - c .pos) / 8 ⌝ }
 {
@@ -28,7 +28,7 @@ fn whole_bytes(c: Cursor) -> u32
     0
 }
 
-// A payload of so many bytes is a window of its own, which its object takes whole. Answers the object's GUID and the cursor behind it.
+// A payload of so many bytes is a window of its own: 25 where its object leaves whole bytes. Answers the GUID.
 fn read_payload(s: &[u8], c: Cursor, m: &mut [u8], room: &mut [u8], size: u32) -> Word
     requires { ⌜ Good (now m) × ((4096 ≤ length (now room)) × Within (now s) c) ⌝ }
     ensures { λ r. ⌜ Reads (now (s .entry)) (payloadOf size (objectAt 0 true)) c (now (m .entry)) (now (m .exit)) (valued r) ⌝ }
@@ -52,8 +52,8 @@ fn read_payload(s: &[u8], c: Cursor, m: &mut [u8], room: &mut [u8], size: u32) -
     }
 }
 
-// One entry: the payload's size, as a signed number, and the payload.
-fn read_guid_entry(s: &[u8], c: Cursor, m: &mut [u8], room: &mut [u8]) -> Moved
+// One entry: the payload's size, 24 where it is negative, and the payload.
+fn guid_entry(s: &[u8], c: Cursor, m: &mut [u8], room: &mut [u8]) -> Moved
     requires { ⌜ Good (now m) × ((4096 ≤ length (now room)) × Within (now s) c) ⌝ }
     ensures { λ r. ⌜ Reads (now (s .entry)) guidEntry c (now (m .entry)) (now (m .exit)) (moved r) ⌝ }
 {
@@ -75,30 +75,33 @@ fn read_guid_entry(s: &[u8], c: Cursor, m: &mut [u8], room: &mut [u8]) -> Moved
     }
 }
 
-// The n entries of a run.
-fn read_guid_entries(s: &[u8], c: Cursor, m: &mut [u8], room: &mut [u8], n: u32) -> Word
+// So many entries, one after the other.
+fn guid_entries(s: &[u8], c: Cursor, m: &mut [u8], room: &mut [u8], n: u32) -> Moved
     requires { ⌜ Good (now m) × ((4096 ≤ length (now room)) × Within (now s) c) ⌝ }
-    ensures { λ r. ⌜ Reads (now (s .entry)) (entries guidEntry n n) c (now (m .entry)) (now (m .exit)) (valued r) ⌝ }
+    ensures { λ r. ⌜ Reads (now (s .entry)) (times n guidEntry) c (now (m .entry)) (now (m .exit)) (moved r) ⌝ }
 {
     let mut at = c;
     let mut i: u32 = 0;
     while i < n {
-        match read_guid_entry(s, at, m, room) {
-            Moved::Refused(r) => return Word::Refused(r),
+        match guid_entry(s, at, m, room) {
+            Moved::Refused(r) => return Moved::Refused(r),
             Moved::To(next) => at = next,
         }
         i += 1;
     }
-    Word::Value(n, at)
+    Moved::To(at)
 }
 
-// A GUID run answers its count.
+// A GUID run answers its count. What it took before a refused step stays in the book.
 pub fn read_export_guids(s: &[u8], c: Cursor, m: &mut [u8], room: &mut [u8]) -> Word
     requires { ⌜ Good (now m) × ((4096 ≤ length (now room)) × Within (now s) c) ⌝ }
     ensures { λ r. ⌜ Reads (now (s .entry)) guidRun c (now (m .entry)) (now (m .exit)) (valued r) ⌝ }
 {
     match c.read_int_packed(s) {
         Word::Refused(r) => Word::Refused(r),
-        Word::Value(n, next) => read_guid_entries(s, next, m, room, n),
+        Word::Value(n, next) => match guid_entries(s, next, m, room, n) {
+            Moved::Refused(r) => Word::Refused(r),
+            Moved::To(end) => Word::Value(n, end),
+        },
     }
 }

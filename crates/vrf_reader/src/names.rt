@@ -1,4 +1,4 @@
-// Texts and field names, read into the front of a room of 4,096 bytes.
+// Texts and field names on the wire, read into the front of a room of 4,096 bytes.
 use vrf_bitio::Byte;
 use vrf_bitio::Cursor;
 use vrf_bitio::Int;
@@ -18,7 +18,7 @@ ghost use Rattle.vrf_text.specs.Text.{fstring};
 ghost use Rattle.vrf_model.specs.Names.{textName, indexName, fname};
 ghost use Rattle.vrf_reader.specs.Texts.{TextIn, numbered, Small, namedBy};
 
-// Reads a text: how many bytes of the room it has, and the cursor behind it.
+// A text, which a room of 4,096 bytes always takes: how many bytes it has there, and the cursor behind it.
 pub fn read_text(s: &[u8], c: Cursor, room: &mut [u8]) -> Text
     requires { ⌜ 4096 ≤ length (now room) ⌝ }
     ensures { λ r. ⌜ TextIn (now (s .entry)) c (readAt (now (s .entry)) c fstring) (now (room .exit)) r ⌝ }
@@ -26,7 +26,7 @@ pub fn read_text(s: &[u8], c: Cursor, room: &mut [u8]) -> Text
     read_fstring(s, c, room)
 }
 
-// A rendered name as the answer of its reading. In a room of 4,096 bytes none is cut short.
+// A rendered name as the answer of its reading: 41 over 4,096 bytes. A room of 4,096 bytes is never too short for one.
 fn named(r: Rendered, next: Cursor) -> Text
     requires { ⌜ Small r ⌝ }
     ensures { λ t. ⌜ t ≡ namedBy r next ⌝ }
@@ -46,7 +46,7 @@ fn named(r: Rendered, next: Cursor) -> Text
     }
 }
 
-// The number of a name whose base text is the first n bytes of the room.
+// The signed number behind a base text, which is the first n bytes of the room.
 fn read_number(s: &[u8], c: Cursor, room: &mut [u8], n: u32) -> Text
     requires { ⌜ (4096 ≤ length (now room)) × (n ≤ length (now room)) ⌝ }
     ensures { λ r. ⌜ TextIn (now (s .entry)) c (readAt (now (s .entry)) c (numbered (take n (now (room .entry))))) (now (room .exit)) r ⌝ }
@@ -68,7 +68,7 @@ fn read_text_name(s: &[u8], c: Cursor, room: &mut [u8]) -> Text
     }
 }
 
-// Any other kind: a packed index, rendered in decimal.
+// Kind nonzero: a packed index, rendered in decimal.
 fn read_index_name(s: &[u8], c: Cursor, room: &mut [u8]) -> Text
     requires { ⌜ 4096 ≤ length (now room) ⌝ }
     ensures { λ r. ⌜ TextIn (now (s .entry)) c (readAt (now (s .entry)) c indexName) (now (room .exit)) r ⌝ }
@@ -79,7 +79,7 @@ fn read_index_name(s: &[u8], c: Cursor, room: &mut [u8]) -> Text
     }
 }
 
-// Reads a field name as it is held.
+// A field name: its kind byte, and a name of that kind.
 pub fn read_fname(s: &[u8], c: Cursor, room: &mut [u8]) -> Text
     requires { ⌜ 4096 ≤ length (now room) ⌝ }
     ensures { λ r. ⌜ TextIn (now (s .entry)) c (readAt (now (s .entry)) c fname) (now (room .exit)) r ⌝ }

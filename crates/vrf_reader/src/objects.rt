@@ -1,4 +1,4 @@
-// load_object: an object reference on the wire, its outer objects recorded first.
+// load_object: an object and, inside it, its outer objects, which are recorded first.
 use crate::Moved;
 use crate::names::read_text;
 use vrf_bitio::Byte;
@@ -13,10 +13,10 @@ ghost use Prim.Native.Nat.{_≤_};
 ghost use lib.ListN.{length};
 ghost use Rattle.vrf_model.specs.Runs.{flagsOf, skipChecksum, object};
 ghost use Rattle.vrf_store.specs.Good.{Good};
-ghost use Rattle.vrf_reader.specs.Goes.{Reads, moved, valued};
-ghost use Rattle.vrf_reader.specs.Objects.{ReadsOnly, byted, recorded, HeadOf};
+ghost use Rattle.vrf_reader.specs.Goes.{Reads, ReadsOnly, moved, byted, valued};
+ghost use Rattle.vrf_reader.specs.Objects.{HeadOf, recorded};
 
-// How deep outer objects are read.
+// At this depth an object is refused.
 pub const MAX_NET_GUID_RECURSION: u32 = 16;
 
 // An object up to its flags: its GUID where it ends there, its GUID and its flags where a path follows.
@@ -26,7 +26,7 @@ enum Head {
     Refused(Refusal),
 }
 
-// Flags are read when exporting or for GUID 1.
+// Flags are read when exporting or when the GUID is 1.
 fn read_flags(s: &[u8], c: Cursor, exporting: bool, guid: u32) -> Byte
     ensures { λ r. ⌜ ReadsOnly (now (s .entry)) (flagsOf exporting guid) c (byted r) ⌝ }
 {
@@ -36,7 +36,7 @@ fn read_flags(s: &[u8], c: Cursor, exporting: bool, guid: u32) -> Byte
     Byte::Value(0, c)
 }
 
-// The GUID and its flags. GUID 0 ends a chain.
+// The GUID and its flags: GUID 0 ends a chain with nothing more read, and bit 0 has a path.
 fn read_head(s: &[u8], c: Cursor, exporting: bool) -> Head
     ensures { λ r. ⌜ HeadOf (now (s .entry)) exporting c r ⌝ }
 {
@@ -59,7 +59,7 @@ fn read_head(s: &[u8], c: Cursor, exporting: bool) -> Head
     }
 }
 
-// Bit 2 of the flags: a checksum, which nobody keeps.
+// Bit 2 of the flags: a checksum, which is read after a path and not kept.
 fn skip_checksum(s: &[u8], c: Cursor, flags: u8) -> Moved
     ensures { λ r. ⌜ ReadsOnly (now (s .entry)) (skipChecksum flags) c (moved r) ⌝ }
 {
@@ -72,7 +72,7 @@ fn skip_checksum(s: &[u8], c: Cursor, flags: u8) -> Moved
     Moved::To(c)
 }
 
-// Behind the outer object: the path and the checksum, and then the record.
+// Behind the outer object: path and checksum, and then the setting.
 fn record_object(
     s: &[u8],
     c: Cursor,

@@ -3,12 +3,8 @@
 use mathlib.Core.Path.{_≡_, refl, sym, ap, subst, _∙_}
 use mathlib.Core.Bool.{Bool, true, false}
 use mathlib.Core.List.{List}
-use Prim.Native.Nat.{ℕ, _-_, _*_, min}
-use lib.Dec.{ltb}
-use lib.ListN.{length}
-use borrow.Author.Tests.{ltb-false}
-use Rattle.vrf_text.specs.Cases.{by-cond, clash}
-use Rattle.vrf_reader.specs.Within.{Within}
+use Prim.Native.Nat.{ℕ}
+use Rattle.vrf_reader.specs.Within.{Within, opened-within}
 use Rattle.vrf_model.specs.Block.{block}
 use Rattle.vrf_model.specs.declared.Tables.{Tables}
 use Rattle.vrf_model.specs.declared.Tables.the-variants.{Read as Seven, Refused as NotRead}
@@ -79,19 +75,6 @@ module _ {m s : List ℕ} {first count : ℕ} {c : Cursor} (a : MetWindow m s fi
 
   pub window-good : Good m
   window-good = check-good m passed
-
--- what opening a window gives lies within the slice
-opened-within : {s : List ℕ} (first count : ℕ) (c : Cursor) → window s first count ≡ ok (c .first, c .count) (c .pos) (restOf s c) → Within s c
-unfolding window
-opened-within {s} first count c =
-    let P : Read (ℕ × ℕ) → Type 0 = λ r. r ≡ ok (c .first, c .count) (c .pos) (restOf s c) → Within s c in
-    by-cond P (ltb 268435456 (length s)) (λ _ e. clash (cc)) λ small.
-    by-cond P (ltb (8 * length s - first) count) (λ _ e. clash (cc)) λ fits e.
-    let place : _≡_ {A = ℕ × ℕ} (c .first, c .count) (min first (8 * length s), count) = cc in
-    record {
-      inside = omega (arith, ap (λ (w : ℕ × ℕ). w .0) place, ap (λ (w : ℕ × ℕ). w .1) place, ltb-false (8 * length s - first) count fits);
-      small = ltb-false 268435456 (length s) small;
-    }
 
 pub window-within : {m s : List ℕ} {first count : ℕ} {c : Cursor} → MetWindow m s first count (Over c) → Within s c
 window-within {first = first} {count} {c} a = opened-within first count c (opened a)

@@ -5,8 +5,8 @@ use Rattle.vrf_bitio.specs.Number.{word32}
 use Rattle.vrf_bitio.specs.Answers.{readAt, WordAnswer}
 use Rattle.vrf_bitio.specs.declared.Word.{Word}
 use Rattle.vrf_model.specs.Block.{countUpTo}
-use Rattle.vrf_reader.specs.Goes.{valued}
-use Rattle.vrf_checkpoint.specs.Whole.{ReadsOnly, UpTo, ZerosRead}
+use Rattle.vrf_reader.specs.Goes.{ReadsOnly, valued}
+use Rattle.vrf_checkpoint.specs.Whole.{UpTo, ZerosRead}
 use Rattle.vrf_checkpoint.specs.WholeLaws.{head-refused, head-not-zero, head-no-count, head-read}
 use borrow.Author.Needs.{needs}
 use Rattle.vrf_checkpoint.proofs.block.read_head.Statement.{statement}

@@ -5,9 +5,9 @@ use native.Mathlib.Omega.{arith}
 use Prim.Native.Nat.{_*_}
 use Rattle.vrf_bitio.specs.declared.Word.{Word}
 use Rattle.vrf_model.specs.Block.{countUpTo, blockGroups, blockEnd}
-use Rattle.vrf_reader.specs.Goes.{valued}
+use Rattle.vrf_reader.specs.Goes.{ReadsOnly, valued}
 use Rattle.vrf_checkpoint.specs.Counts.{CountReads}
-use Rattle.vrf_checkpoint.specs.Whole.{ReadsOnly, UpTo}
+use Rattle.vrf_checkpoint.specs.Whole.{UpTo}
 use Rattle.vrf_checkpoint.specs.WholeLaws.{rest-no-count, rest-no-groups, rest-no-end, rest-read}
 use borrow.Author.Needs.{needs}
 use Rattle.vrf_checkpoint.proofs.block.read_rest.Statement.{statement}

@@ -2,9 +2,8 @@
 use mathlib.Core.Path.{subst}
 use denote.Ref.{now}
 use Rattle.vrf_model.specs.Block.{zeroWord}
-use Rattle.vrf_reader.specs.Goes.{moved}
+use Rattle.vrf_reader.specs.Goes.{ReadsOnly, moved}
 use Rattle.vrf_reader.specs.declared.Moved.{Moved}
-use Rattle.vrf_checkpoint.specs.Whole.{ReadsOnly}
 use Rattle.vrf_checkpoint.specs.WholeLaws.{zeros-stop, zeros-stop-2, zeros-read}
 use borrow.Author.Needs.{needs}
 use Rattle.vrf_checkpoint.proofs.block.read_zeros.Statement.{statement}

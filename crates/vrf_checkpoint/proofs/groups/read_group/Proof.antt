@@ -1,7 +1,8 @@
 -- `vrf_checkpoint::groups::read_group` meets its contract: path, group and slots, one after the other.
 use native.Mathlib.Omega.{arith}
 use borrow.Author.Needs.{needs}
-use Rattle.vrf_reader.specs.FieldsLaws.{front-length, path-held}
+use Rattle.vrf_model.specs.ReadsLaws.{fstring-reads}
+use Rattle.vrf_reader.specs.TextsLaws.{room-length, room-text}
 use Rattle.vrf_checkpoint.specs.CountsLaws.{no-path, group-refused, group-then}
 use Rattle.vrf_checkpoint.proofs.groups.read_group.Statement.{statement}
 use Rattle.vrf_checkpoint.proofs.groups.read_group.Tie as tie
@@ -22,10 +23,10 @@ slice-reshare-prefix-read-declared : tie.Need-slice-reshare-prefix-read-declared
 slice-reshare-prefix-read-declared c = (rw (c .before .before .n .given .1) at (c .before .before .before .before .before .before .read-text .ensures)) .fits
 
 slice-aggregate-read-declared : tie.Need-slice-aggregate-read-declared
-slice-aggregate-read-declared c = front-length (rw (c .before .before .before .n .given .1) at (c .before .before .before .before .before .before .before .read-text .ensures))
+slice-aggregate-read-declared c = room-length (rw (c .before .before .before .n .given .1) at (c .before .before .before .before .before .before .before .read-text .ensures))
 
 read-declared-requires : tie.Need-read-declared-requires
-read-declared-requires c κs = (c .before .before .before .before .before .before .before .before .before .before .before .before .pre .0, path-held (rw (c .before .before .before .n .given .1) at (c .before .before .before .before .before .before .before .read-text .ensures)))
+read-declared-requires c κs = (c .before .before .before .before .before .before .before .before .before .before .before .before .pre .0, room-text fstring-reads (rw (c .before .before .before .n .given .1) at (c .before .before .before .before .before .before .before .read-text .ensures)))
 
 enum-known-r-2 : tie.Need-enum-known-r-2
 enum-known-r-2 c = search needs

@@ -1,6 +1,10 @@
 -- `vrf_reader::fields::field_of` meets its contract.
 use borrow.Author.Needs.{needs}
-use Rattle.vrf_reader.specs.FieldsLaws.{no-byte, field-absent, field-present}
+use Rattle.vrf_bitio.specs.Number.{byte}
+use Rattle.vrf_reader.specs.Goes.{moved}
+use Rattle.vrf_reader.specs.GoesLaws.{read-stops}
+use Rattle.vrf_reader.specs.Fields.{fieldOf}
+use Rattle.vrf_reader.specs.FieldsLaws.{field-absent, field-present}
 use Rattle.vrf_reader.proofs.fields.field_of.Statement.{statement}
 use Rattle.vrf_reader.proofs.fields.field_of.Tie as tie
 
@@ -14,13 +18,20 @@ enum-known-has-field : tie.Need-enum-known-has-field
 enum-known-has-field c = search needs
 
 returns : tie.Need-returns
-returns c = field-absent _ (c .before .before .before .before .before .before .before .before .pre .0) (rw (c .before .before .has-field .given .1) at (c .before .before .before .before .read-u8 .ensures)) (c .if1 .taken)
+returns c =
+    let c4 = c .before .before .before .before in
+    let c8 = c4 .before .before .before .before in
+    field-absent _ (c8 .pre .0) (rw (c .before .before .has-field .given .1) at (c4 .read-u8 .ensures)) (c .if1 .taken)
 
 exported-field-requires : tie.Need-exported-field-requires
 exported-field-requires c κs = search needs
 
 returns-2 : tie.Need-returns-2
-returns-2 c = no-byte _ (c .before .before .before .before .before .before .before .pre .0) (c .before .r .given .0 .0) (rw (c .before .r .given .1) at (c .before .before .before .read-u8 .ensures))
+unfolding fieldOf
+returns-2 c =
+    let c3 = c .before .before .before in
+    let c7 = c3 .before .before .before .before in
+    read-stops byte _ (c7 .pre .0) (rw (c .before .r .given .1) at (c3 .read-u8 .ensures))
 
 same-length : tie.Need-same-length
 same-length c = search needs
@@ -29,7 +40,13 @@ same-length-2 : tie.Need-same-length-2
 same-length-2 c = search needs
 
 returns-3 : tie.Need-returns-3
-returns-3 c = field-present (c .before .before .before .before .before .before .before .before .before .before .before .before .before .before .before .args .index) (c .before .before .before .before .before .before .before .before .before .before .before .before .before .before .before .pre .0) (rw (c .before .before .before .before .before .before .before .before .before .has-field .given .1) at (c .before .before .before .before .before .before .before .before .before .before .before .read-u8 .ensures)) (c .before .before .before .before .before .before .before .if1 .left) (c .before .before .before .before .exported-field .last .1 .1 .0) (c .before .before .before .before .exported-field .result) (c .before .before .before .before .exported-field .ensures)
+returns-3 c =
+    let c4 = c .before .before .before .before in
+    let c7 = c4 .before .before .before in
+    let c9 = c7 .before .before in
+    let c11 = c9 .before .before in
+    let c15 = c11 .before .before .before .before in
+    field-present _ (c15 .pre .0) (rw (c9 .has-field .given .1) at (c11 .read-u8 .ensures)) (c7 .if1 .left) _ (moved (c4 .exported-field .result)) (c4 .exported-field .ensures)
 
 pub field-of-spec : {M : Type 1} → statement M
 field-of-spec =

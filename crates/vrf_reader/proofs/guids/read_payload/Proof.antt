@@ -1,8 +1,8 @@
 -- `vrf_reader::guids::read_payload` meets its contract: the window, its object, and what the object left.
-use mathlib.Core.Bool.{true}
-use Rattle.vrf_model.specs.Runs.{objectAt}
-use Rattle.vrf_reader.specs.GuidSteps.{opened, payload-short, payload-refused, payload-whole, payload-trailing}
 use borrow.Author.Needs.{needs}
+use Rattle.vrf_model.specs.Runs.{objectAt}
+use Rattle.vrf_reader.specs.Within.{sub-inside}
+use Rattle.vrf_reader.specs.GuidSteps.{payload-short, payload-refused, payload-whole, payload-trailing}
 use Rattle.vrf_reader.proofs.guids.read_payload.Statement.{statement}
 use Rattle.vrf_reader.proofs.guids.read_payload.Tie as tie
 
@@ -42,13 +42,20 @@ same-length-2 c = search needs
 returns : tie.Need-returns
 unfolding objectAt
 returns c =
-    let within = c .before .before .before .before .before .before .before .before .before .before .before .before .before .before .before .before .before .before .before .pre .1 .1 in
-    let sub = rw (c .before .before .before .before .before .before .before .before .before .before .before .before .before .at .given .1) at (c .before .before .before .before .before .before .before .before .before .before .before .before .before .before .before .sub-reader .ensures) in
-    let window = opened (c .before .before .before .before .before .before .before .before .before .before .before .before .before .before .before .before .before .before .before .args .size) within (sub .0) (sub .1) in
-    payload-trailing (c .before .before .before .before .before .before .before .before .before .before .before .before .before .before .before .before .before .before .before .args .size) (objectAt 0 true) window _ (rw (c .before .before .before .guid .given .1) at (c .before .before .before .before .before .before .before .before .before .load-object .ensures)) (c .before .whole-bytes .ensures) (c .if1 .taken)
+    let c3 = c .before .before .before in
+    let c9 = c3 .before .before .before .before .before .before in
+    let c13 = c9 .before .before .before .before in
+    let c15 = c13 .before .before in
+    let c19 = c15 .before .before .before .before in
+    let sub = rw (c13 .at .given .1) at (c15 .sub-reader .ensures) in
+    let window = sub-inside (c19 .args .size) (c19 .pre .1 .1) (sub .0) (sub .1) in
+    payload-trailing _ _ window _ (rw (c3 .guid .given .1) at (c9 .load-object .ensures)) (c .before .whole-bytes .ensures) (c .if1 .taken)
 
 returns-2 : tie.Need-returns-2
-returns-2 c = payload-short (c .before .before .before .before .before .before .before .args .size) (objectAt 0 true) (c .before .before .before .before .before .before .before .pre .1 .1) (c .before .before .before .before .before .before .before .pre .0) (rw (c .before .r .given .1) at (c .before .before .before .sub-reader .ensures))
+returns-2 c =
+    let c3 = c .before .before .before in
+    let c7 = c3 .before .before .before .before in
+    payload-short _ _ (c7 .pre .1 .1) (c7 .pre .0) (rw (c .before .r .given .1) at (c3 .sub-reader .ensures))
 
 same-length-3 : tie.Need-same-length-3
 same-length-3 c = search needs
@@ -59,10 +66,13 @@ same-length-4 c = search needs
 returns-3 : tie.Need-returns-3
 unfolding objectAt
 returns-3 c =
-    let within = c .before .before .before .before .before .before .before .before .before .before .before .before .before .before .before .before .before .pre .1 .1 in
-    let sub = rw (c .before .before .before .before .before .before .before .before .before .before .before .at .given .1) at (c .before .before .before .before .before .before .before .before .before .before .before .before .before .sub-reader .ensures) in
-    let window = opened (c .before .before .before .before .before .before .before .before .before .before .before .before .before .before .before .before .before .args .size) within (sub .0) (sub .1) in
-    payload-refused (c .before .before .before .before .before .before .before .before .before .before .before .before .before .before .before .before .before .args .size) (objectAt 0 true) window _ (rw (c .before .r2 .given .1) at (c .before .before .before .before .before .before .before .load-object .ensures))
+    let c7 = c .before .before .before .before .before .before .before in
+    let c11 = c7 .before .before .before .before in
+    let c13 = c11 .before .before in
+    let c17 = c13 .before .before .before .before in
+    let sub = rw (c11 .at .given .1) at (c13 .sub-reader .ensures) in
+    let window = sub-inside (c17 .args .size) (c17 .pre .1 .1) (sub .0) (sub .1) in
+    payload-refused _ _ window _ (rw (c .before .r2 .given .1) at (c7 .load-object .ensures))
 
 same-length-5 : tie.Need-same-length-5
 same-length-5 c = search needs
@@ -73,10 +83,14 @@ same-length-6 c = search needs
 returns-4 : tie.Need-returns-4
 unfolding objectAt
 returns-4 c =
-    let within = c .before .before .before .before .before .before .before .before .before .before .before .before .before .before .before .before .before .before .before .pre .1 .1 in
-    let sub = rw (c .before .before .before .before .before .before .before .before .before .before .before .before .before .at .given .1) at (c .before .before .before .before .before .before .before .before .before .before .before .before .before .before .before .sub-reader .ensures) in
-    let window = opened (c .before .before .before .before .before .before .before .before .before .before .before .before .before .before .before .before .before .before .before .args .size) within (sub .0) (sub .1) in
-    payload-whole (c .before .before .before .before .before .before .before .before .before .before .before .before .before .before .before .before .before .before .before .args .size) (objectAt 0 true) window _ (rw (c .before .before .before .guid .given .1) at (c .before .before .before .before .before .before .before .before .before .load-object .ensures)) (c .before .whole-bytes .ensures) (c .if1 .left)
+    let c3 = c .before .before .before in
+    let c9 = c3 .before .before .before .before .before .before in
+    let c13 = c9 .before .before .before .before in
+    let c15 = c13 .before .before in
+    let c19 = c15 .before .before .before .before in
+    let sub = rw (c13 .at .given .1) at (c15 .sub-reader .ensures) in
+    let window = sub-inside (c19 .args .size) (c19 .pre .1 .1) (sub .0) (sub .1) in
+    payload-whole _ _ window _ (rw (c3 .guid .given .1) at (c9 .load-object .ensures)) (c .before .whole-bytes .ensures) (c .if1 .left)
 
 pub read-payload-spec : {M : Type 1} → statement M
 read-payload-spec =

@@ -1,10 +1,9 @@
 -- `vrf_reader::names::read_fname` meets its contract: the kind byte, and a name of its kind.
-use mathlib.Core.Path.{subst}
-use denote.Ref.{now}
-use Rattle.vrf_bitio.specs.Number.{byte}
-use Rattle.vrf_bitio.specs.Answers.{readAt, ByteAnswer}
-use Rattle.vrf_reader.specs.TextsLaws.{kind-ended, text-kind, index-kind}
 use borrow.Author.Needs.{needs}
+use Rattle.vrf_bitio.specs.Number.{byte}
+use Rattle.vrf_bitio.specs.AnswersLaws.{refused-first}
+use Rattle.vrf_model.specs.Names.{fname}
+use Rattle.vrf_reader.specs.TextsLaws.{text-kind, index-kind}
 use Rattle.vrf_reader.proofs.names.read_fname.Statement.{statement}
 use Rattle.vrf_reader.proofs.names.read_fname.Tie as tie
 
@@ -24,24 +23,28 @@ same-length : tie.Need-same-length
 same-length c = search needs
 
 returns : tie.Need-returns
-returns c = let a = c .before .before .before .before .before .before .before .before .before .before .before .args in
-    let call = c .before .before .read-text-name in
-    text-kind (subst (ByteAnswer (now (a .s)) (a .c) (readAt (now (a .s)) (a .c) byte)) (c .before .before .before .before .before .before .kind .given .1) (c .before .before .before .before .before .before .before .before .read-u8 .ensures)) (call .last .1 .1 .0) (call .result) (c .before .before .before .before .if1 .taken) (call .ensures)
+returns c =
+    let c4 = c .before .before .before .before in
+    let c6 = c4 .before .before in
+    let c8 = c6 .before .before in
+    text-kind (rw (c6 .kind .given .1) at (c8 .read-u8 .ensures)) _ (c .before .before .read-text-name .result) (c4 .if1 .taken) (c .before .before .read-text-name .ensures)
 
 read-index-name-requires : tie.Need-read-index-name-requires
 read-index-name-requires c κs = search needs
 
 returns-2 : tie.Need-returns-2
-returns-2 c = let a = c .before .before .before .before .before .before .args in
-    kind-ended (now (a .s)) (a .c) (subst (ByteAnswer (now (a .s)) (a .c) (readAt (now (a .s)) (a .c) byte)) (c .before .r .given .1) (c .before .before .before .read-u8 .ensures))
+unfolding fname
+returns-2 c = refused-first _ _ byte _ (rw (c .before .r .given .1) at (c .before .before .before .read-u8 .ensures))
 
 same-length-2 : tie.Need-same-length-2
 same-length-2 c = search needs
 
 returns-3 : tie.Need-returns-3
-returns-3 c = let a = c .before .before .before .before .before .before .before .before .before .before .before .args in
-    let call = c .before .before .read-index-name in
-    index-kind (subst (ByteAnswer (now (a .s)) (a .c) (readAt (now (a .s)) (a .c) byte)) (c .before .before .before .before .before .before .kind .given .1) (c .before .before .before .before .before .before .before .before .read-u8 .ensures)) (call .last .1 .1 .0) (call .result) (c .before .before .before .before .if1 .left) (call .ensures)
+returns-3 c =
+    let c4 = c .before .before .before .before in
+    let c6 = c4 .before .before in
+    let c8 = c6 .before .before in
+    index-kind (rw (c6 .kind .given .1) at (c8 .read-u8 .ensures)) _ (c .before .before .read-index-name .result) (c4 .if1 .left) (c .before .before .read-index-name .ensures)
 
 pub read-fname-spec : {M : Type 1} → statement M
 read-fname-spec =

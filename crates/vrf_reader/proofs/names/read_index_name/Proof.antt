@@ -1,14 +1,10 @@
 -- `vrf_reader::names::read_index_name` meets its contract.
-use mathlib.Core.Path.{subst}
-use denote.Ref.{now}
 use native.Mathlib.Omega.{arith}
-use Rattle.vrf_bitio.specs.Reading.{return}
-use Rattle.vrf_bitio.specs.Number.{packed}
-use Rattle.vrf_bitio.specs.Answers.{readAt, WordAnswer}
-use Rattle.vrf_names.specs.Names.{decimal}
-use Rattle.vrf_model.specs.Names.{indexName}
-use Rattle.vrf_reader.specs.TextsLaws.{index-ended, fits-32, index-in}
 use borrow.Author.Needs.{needs}
+use Rattle.vrf_bitio.specs.Number.{packed}
+use Rattle.vrf_bitio.specs.AnswersLaws.{refused-first}
+use Rattle.vrf_model.specs.Names.{indexName}
+use Rattle.vrf_reader.specs.TextsLaws.{is-small, index-in}
 use Rattle.vrf_reader.proofs.names.read_index_name.Statement.{statement}
 use Rattle.vrf_reader.proofs.names.read_index_name.Tie as tie
 
@@ -25,19 +21,23 @@ render-index-requires : tie.Need-render-index-requires
 render-index-requires c κs = search needs
 
 named-requires : tie.Need-named-requires
-named-requires c κs = fits-32 _ _ _ (c .before .before .render-index .result) (c .before .before .render-index .ensures)
+named-requires c κs = is-small _ _ _ (c .before .before .render-index .result) (c .before .before .render-index .ensures)
 
 returns : tie.Need-returns
-returns c = let a = c .before .before .before .before .before .before .args in
-    index-ended (now (a .s)) (a .c) (subst (WordAnswer (now (a .s)) (a .c) (readAt (now (a .s)) (a .c) packed)) (c .before .r .given .1) (c .before .before .before .read-int-packed .ensures))
+unfolding indexName
+returns c = refused-first _ _ packed _ (rw (c .before .r .given .1) at (c .before .before .before .read-int-packed .ensures))
 
 same-length : tie.Need-same-length
 same-length c = search needs
 
 returns-2 : tie.Need-returns-2
-returns-2 c = let a = c .before .before .before .before .before .before .before .before .before .before .before .args in
-    let render = c .before .before .before .render-index in
-    index-in (now (a .room)) (render .last .1 .0) (c .before .before .before .before .before .before .before .before .before .before .before .pre) (render .result) (c .named .ensures) (omega arith) (subst (WordAnswer (now (a .s)) (a .c) (readAt (now (a .s)) (a .c) packed)) (c .before .before .before .before .before .before .index .given .1) (c .before .before .before .before .before .before .before .before .read-int-packed .ensures)) (render .ensures)
+returns-2 c =
+    let c3 = c .before .before .before in
+    let c6 = c3 .before .before .before in
+    let c8 = c6 .before .before in
+    let c11 = c8 .before .before .before in
+    let index = rw (c6 .index .given .1) at (c8 .read-int-packed .ensures) in
+    index-in _ _ (c11 .pre) (c3 .render-index .result) (c .named .ensures) (omega arith) index (c3 .render-index .ensures)
 
 pub read-index-name-spec : {M : Type 1} → statement M
 read-index-name-spec =

@@ -1,13 +1,9 @@
 -- `vrf_reader::names::read_number` meets its contract.
-use mathlib.Core.Path.{subst}
-use denote.Ref.{now}
-use lib.ListN.{length, take}
-use Rattle.vrf_bitio.specs.Number.{int32}
-use Rattle.vrf_bitio.specs.Answers.{readAt, IntAnswer}
-use Rattle.vrf_names.specs.Names.{rendered}
-use Rattle.vrf_model.specs.Names.{limited}
-use Rattle.vrf_reader.specs.TextsLaws.{ended, fits-32, numbered-in}
 use borrow.Author.Needs.{needs}
+use mir.Facts.{toZ-ofZ}
+use Rattle.vrf_bitio.specs.Number.{int32}
+use Rattle.vrf_bitio.specs.AnswersLaws.{refused-first}
+use Rattle.vrf_reader.specs.TextsLaws.{is-small, numbered-in}
 use Rattle.vrf_reader.proofs.names.read_number.Statement.{statement}
 use Rattle.vrf_reader.proofs.names.read_number.Tie as tie
 
@@ -24,19 +20,24 @@ render-fname-requires : tie.Need-render-fname-requires
 render-fname-requires c κs = search needs
 
 named-requires : tie.Need-named-requires
-named-requires c κs = fits-32 _ _ _ (c .before .before .render-fname .result) (c .before .before .render-fname .ensures)
+named-requires c κs = is-small _ _ _ (c .before .before .render-fname .result) (c .before .before .render-fname .ensures)
 
 returns : tie.Need-returns
-returns c = let a = c .before .before .before .before .before .before .args in
-    ended (now (a .s)) int32 (λ number. limited (rendered (take (a .n) (now (a .room))) number)) (a .c) (subst (IntAnswer (now (a .s)) (a .c) (readAt (now (a .s)) (a .c) int32)) (c .before .r .given .1) (c .before .before .before .read-i32 .ensures))
+returns c = refused-first _ _ int32 _ (rw (c .before .r .given .1) at (c .before .before .before .read-i32 .ensures))
 
 same-length : tie.Need-same-length
 same-length c = search needs
 
 returns-2 : tie.Need-returns-2
-returns-2 c = let a = c .before .before .before .before .before .before .before .before .before .before .before .args in
-    let render = c .before .before .before .render-fname in
-    numbered-in (now (a .room)) (render .last .0) (c .before .before .before .before .before .before .before .before .before .before .before .pre .0) (render .result) (c .named .ensures) (take (a .n) (now (a .room))) (subst (IntAnswer (now (a .s)) (a .c) (readAt (now (a .s)) (a .c) int32)) (c .before .before .before .before .before .before .number .given .1) (c .before .before .before .before .before .before .before .before .read-i32 .ensures)) (render .ensures)
+returns-2 c =
+    let c3 = c .before .before .before in
+    let c5 = c3 .before .before in
+    let c6 = c5 .before in
+    let c8 = c6 .before .before in
+    let c11 = c8 .before .before .before in
+    let number = rw (c6 .number .given .1) at (c8 .read-i32 .ensures) in
+    let same = toZ-ofZ (record { sfits = c5 .known-told2 .given .0 .1 }) in
+    numbered-in _ _ (c11 .pre .0) (c3 .render-fname .result) (c .named .ensures) _ number same (c3 .render-fname .ensures)
 
 pub read-number-spec : {M : Type 1} → statement M
 read-number-spec =

@@ -1,7 +1,7 @@
 -- `vrf_reader::names::read_text` meets its contract.
+use borrow.Author.Needs.{needs}
 use denote.Ref.{now}
 use Rattle.vrf_reader.specs.TextsLaws.{text-in}
-use borrow.Author.Needs.{needs}
 use Rattle.vrf_reader.proofs.names.read_text.Statement.{statement}
 use Rattle.vrf_reader.proofs.names.read_text.Tie as tie
 
@@ -12,8 +12,9 @@ same-length : tie.Need-same-length
 same-length c = search needs
 
 returns : tie.Need-returns
-returns c = let a = c .before .before .before .before .before .before .args in
-    text-in (now (a .s)) (a .c) (now (a .room)) (c .before .before .read-fstring .last .1 .1 .0) (c .before .before .before .before .before .before .pre) (c .before .before .read-fstring .result) (c .before .before .read-fstring .ensures)
+returns c =
+    let c6 = c .before .before .before .before .before .before in
+    text-in _ _ (now (c6 .args .room)) _ (c6 .pre) (c .before .before .read-fstring .result) (c .before .before .read-fstring .ensures)
 
 pub read-text-spec : {M : Type 1} → statement M
 read-text-spec = tie.close (tie.spec read-fstring-requires same-length returns)

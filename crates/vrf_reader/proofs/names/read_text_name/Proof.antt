@@ -1,13 +1,10 @@
 -- `vrf_reader::names::read_text_name` meets its contract: a text, and its number.
-use mathlib.Core.Path.{subst}
-use denote.Ref.{now}
 use native.Mathlib.Omega.{arith}
-use Rattle.vrf_bitio.specs.Answers.{readAt}
+use borrow.Author.Needs.{needs}
+use Rattle.vrf_bitio.specs.AnswersLaws.{refused-first}
 use Rattle.vrf_text.specs.Text.{fstring}
 use Rattle.vrf_model.specs.Names.{textName}
-use Rattle.vrf_reader.specs.Texts.{TextIn, numbered}
-use Rattle.vrf_reader.specs.TextsLaws.{text-ended, name-after}
-use borrow.Author.Needs.{needs}
+use Rattle.vrf_reader.specs.TextsLaws.{name-after}
 use Rattle.vrf_reader.proofs.names.read_text_name.Statement.{statement}
 use Rattle.vrf_reader.proofs.names.read_text_name.Tie as tie
 
@@ -21,24 +18,25 @@ enum-known-n : tie.Need-enum-known-n
 enum-known-n c = search needs
 
 read-number-requires : tie.Need-read-number-requires
-read-number-requires c κs = let a = c .before .before .before .before .before .before .before .before .before .before .args in
-    let t = subst (TextIn (now (a .s)) (a .c) (readAt (now (a .s)) (a .c) fstring) (c .before .before .before .before .before .before .read-text .last .1 .1 .0)) (c .before .before .n .given .1) (c .before .before .before .before .before .before .read-text .ensures) in
-    (omega arith, t .fits)
+read-number-requires c κs =
+    let c6 = c .before .before .before .before .before .before in
+    (omega arith, (rw (c .before .before .n .given .1) at (c6 .read-text .ensures)) .fits)
 
 same-length : tie.Need-same-length
 same-length c = search needs
 
 returns : tie.Need-returns
-returns c = let a = c .before .before .before .before .before .before .before .before .before .args in
-    text-ended (now (a .s)) (a .c) (subst (TextIn (now (a .s)) (a .c) (readAt (now (a .s)) (a .c) fstring) (c .before .before .before .before .before .read-text .last .1 .1 .0)) (c .before .r .given .1) (c .before .before .before .before .before .read-text .ensures))
+unfolding textName
+returns c = refused-first _ _ fstring _ (rw (c .before .r .given .1) at (c .before .before .before .before .before .read-text .ensures))
 
 same-length-2 : tie.Need-same-length-2
 same-length-2 c = search needs
 
 returns-2 : tie.Need-returns-2
-returns-2 c = let a = c .before .before .before .before .before .before .before .before .before .before .before .before .before .args in
-    let t = subst (TextIn (now (a .s)) (a .c) (readAt (now (a .s)) (a .c) fstring) (c .before .before .before .before .before .before .before .before .before .read-text .last .1 .1 .0)) (c .before .before .before .before .before .n .given .1) (c .before .before .before .before .before .before .before .before .before .read-text .ensures) in
-    name-after t (c .before .before .read-number .last .1 .1 .0) (c .before .before .read-number .result) (c .before .before .read-number .ensures)
+returns-2 c =
+    let c5 = c .before .before .before .before .before in
+    let c9 = c5 .before .before .before .before in
+    name-after (rw (c5 .n .given .1) at (c9 .read-text .ensures)) _ (c .before .before .read-number .result) (c .before .before .read-number .ensures)
 
 pub read-text-name-spec : {M : Type 1} → statement M
 read-text-name-spec =

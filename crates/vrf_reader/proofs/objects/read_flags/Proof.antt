@@ -1,5 +1,4 @@
 -- `vrf_reader::objects::read_flags` meets its contract.
-use denote.Ref.{now}
 use mathlib.Core.Logic.{⊎-elim}
 use borrow.Author.Needs.{needs}
 use Rattle.vrf_reader.specs.ObjectSteps.{flags-read, flags-none}
@@ -11,13 +10,10 @@ read-u8-requires c κs = search needs
 
 returns : tie.Need-returns
 returns c =
-    let args = c .before .before .before .args in
-    flags-read (now (args .s)) (args .c) (args .exporting) (args .guid) (⊎-elim (λ w. rw (w .taken)) (λ w. rw (w .0 .left, w .1 .taken)) (c .before .if1 .came)) (c .read-u8 .result) (c .read-u8 .ensures)
+    flags-read _ _ (⊎-elim (λ w. rw (w .taken)) (λ w. rw (w .0 .left, w .1 .taken)) (c .before .if1 .came)) (c .read-u8 .result) (c .read-u8 .ensures)
 
 returns-2 : tie.Need-returns-2
-returns-2 c =
-    let args = c .before .before .before .args in
-    flags-none (now (args .s)) (args .c) (args .exporting) (args .guid) (rw (c .before .if1 .left, c .if2 .left))
+returns-2 c = flags-none _ _ (rw (c .before .if1 .left, c .if2 .left))
 
 pub read-flags-spec : {M : Type 1} → statement M
 read-flags-spec = tie.close (tie.spec read-u8-requires returns returns-2)

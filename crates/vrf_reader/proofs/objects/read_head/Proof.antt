@@ -14,7 +14,9 @@ enum-known-guid : tie.Need-enum-known-guid
 enum-known-guid c = search needs
 
 returns : tie.Need-returns
-returns c = head-zero _ (rw (c .before .before .guid .given .1) at (c .before .before .before .before .read-int-packed .ensures)) (c .if1 .taken)
+returns c =
+    let c4 = c .before .before .before .before in
+    head-zero _ (rw (c .before .before .guid .given .1) at (c4 .read-int-packed .ensures)) (c .if1 .taken)
 
 read-flags-requires : tie.Need-read-flags-requires
 read-flags-requires c κs = search needs
@@ -27,24 +29,33 @@ enum-known-flags c = search needs
 
 returns-2 : tie.Need-returns-2
 returns-2 c =
-    let at = c .before .before .before .before .before in
-    let guid = rw (at .before .before .guid .given .1) at (at .before .before .before .before .read-int-packed .ensures) in
-    head-path _ guid (at .if1 .left) _ (rw (c .before .before .flags .given .1) at (c .before .before .before .before .read-flags .ensures)) (c .if2 .taken)
+    let c4 = c .before .before .before .before in
+    let c5 = c4 .before in
+    let c7 = c5 .before .before in
+    let c9 = c7 .before .before in
+    let guid = rw (c7 .guid .given .1) at (c9 .read-int-packed .ensures) in
+    head-path _ guid (c5 .if1 .left) (rw (c .before .before .flags .given .1) at (c4 .read-flags .ensures)) (c .if2 .taken)
 
 returns-3 : tie.Need-returns-3
 returns-3 c = head-refused _ (rw (c .before .r .given .1) at (c .before .before .before .read-int-packed .ensures))
 
 returns-4 : tie.Need-returns-4
 returns-4 c =
-    let at = c .before .before .before .before in
-    let guid = rw (at .before .before .guid .given .1) at (at .before .before .before .before .read-int-packed .ensures) in
-    head-flagless _ guid (at .if1 .left) _ (rw (c .before .r2 .given .1) at (c .before .before .before .read-flags .ensures))
+    let c3 = c .before .before .before in
+    let c4 = c3 .before in
+    let c6 = c4 .before .before in
+    let c8 = c6 .before .before in
+    let guid = rw (c6 .guid .given .1) at (c8 .read-int-packed .ensures) in
+    head-flagless _ guid (c4 .if1 .left) _ (rw (c .before .r2 .given .1) at (c3 .read-flags .ensures))
 
 returns-5 : tie.Need-returns-5
 returns-5 c =
-    let at = c .before .before .before .before .before in
-    let guid = rw (at .before .before .guid .given .1) at (at .before .before .before .before .read-int-packed .ensures) in
-    head-ends _ guid (at .if1 .left) _ (rw (c .before .before .flags .given .1) at (c .before .before .before .before .read-flags .ensures)) (c .if2 .left)
+    let c4 = c .before .before .before .before in
+    let c5 = c4 .before in
+    let c7 = c5 .before .before in
+    let c9 = c7 .before .before in
+    let guid = rw (c7 .guid .given .1) at (c9 .read-int-packed .ensures) in
+    head-ends _ guid (c5 .if1 .left) (rw (c .before .before .flags .given .1) at (c4 .read-flags .ensures)) (c .if2 .left)
 
 pub read-head-spec : {M : Type 1} → statement M
 read-head-spec =
