@@ -2,7 +2,7 @@
 use mathlib.Core.Bool.{Bool, true, false, cond, _&&_}
 use mathlib.Core.List.{List, [], _∷_, _++_}
 use mathlib.Core.Option.{Option, none, some}
-use Prim.Native.Nat.{ℕ, zero, suc, _+_, _-_}
+use Prim.Native.Nat.{ℕ, zero, suc, _+_, _-_, _*_, _^_}
 use lib.Dec.{eqb}
 use lib.ListN.{length, getD, take, drop}
 
@@ -12,6 +12,13 @@ same [] [] = true
 same [] (b ∷ t) = false
 same (a ∷ s) [] = false
 same (a ∷ s) (b ∷ t) = eqb a b && same s t
+
+-- the four and the eight bytes from place i on as one number, low byte first; past the end every byte is 0
+unfoldable pub four : List ℕ → ℕ → ℕ
+four t i = getD t i 0 + 256 * (getD t (i + 1) 0 + 256 * (getD t (i + 2) 0 + 256 * getD t (i + 3) 0))
+
+unfoldable pub eight : List ℕ → ℕ → ℕ
+eight t i = four t i + 2 ^ 32 * four t (i + 4)
 
 -- whether t starts with p, and whether it ends with p
 unfoldable pub startsWith : List ℕ → List ℕ → Bool

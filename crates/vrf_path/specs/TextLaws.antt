@@ -1,16 +1,16 @@
 -- Laws of texts: when two are the same, and how the searches go, place by place.
-use mathlib.Core.Path.{_≡_, refl, ap}
+use mathlib.Core.Path.{_≡_, refl, sym, ap, _∙_}
 use mathlib.Core.Bool.{Bool, true, false, cond, _&&_}
 use mathlib.Core.List.{List, [], _∷_}
 use mathlib.Core.Option.{none, some}
-use Prim.Native.Nat.{ℕ, zero, suc, _+_, _-_, _<_, _≤_}
+use Prim.Native.Nat.{ℕ, zero, suc, _+_, _-_, _*_, _^_, _<_, _≤_}
 use native.Mathlib.Numerals.{add-one}
 use native.Mathlib.Omega.{arith}
-use borrow.Author.Tests.{eq-eqb, ne-eqb, eqb-true}
+use borrow.Author.Tests.{eq-eqb, ne-eqb, eqb-true, eqb-false}
 use lib.Dec.{eqb}
 use lib.ListN.{length, getD, take, drop, length-take, length-drop, drop-of-length-le}
-use lib.Seq.{drop-cons}
-use Rattle.vrf_path.specs.Text.{same, startsWith, endsWith, firstFrom, lastBelow, nonEmpty}
+use lib.Seq.{drop-cons, drop-drop}
+use Rattle.vrf_path.specs.Text.{same, four, eight, startsWith, endsWith, firstFrom, lastBelow, nonEmpty}
 
 -- texts of different lengths differ
 pub same-lengths : (s t : List ℕ) → (length s ≡ length t → ⊥) → same s t ≡ false
@@ -53,6 +53,63 @@ module _ (s t : List ℕ) (i : ℕ) (hs : i < length s) (ht : i < length t) wher
 pub same-ended : (s t : List ℕ) (i : ℕ) → length s ≤ i → length t ≤ i → same (drop i s) (drop i t) ≡ true
 unfolding same
 same-ended s t i hs ht = rw (drop-of-length-le s hs, drop-of-length-le t ht)
+
+-- numbers are the same only if their low bytes are, and what is above these
+low-byte : (a b x y : ℕ) → a < 256 → b < 256 → a + 256 * x ≡ b + 256 * y → (a ≡ b) × (x ≡ y)
+low-byte a b x y ha hb e = (omega arith, omega arith)
+
+four-lt : (t : List ℕ) → ((i : ℕ) → getD t i 0 < 256) → (i : ℕ) → four t i < 2 ^ 32
+unfolding four
+four-lt t b i = omega (arith, b i, b (i + 1), b (i + 2), b (i + 3))
+
+-- texts of which some eight bytes differ
+pub differ-eight : (s t : List ℕ) (i : ℕ) → (eight s i ≡ eight t i → ⊥) → same s t ≡ false
+differ-eight s t i h = by (same s t) refl
+  where
+    by : (x : Bool) → same s t ≡ x → x ≡ false
+    by true e = absurd (h (ap (λ (u : List ℕ). eight u i) (same-true s t e)))
+    by false e = refl
+
+-- two texts from a place on, by four and by eight bytes
+module _ (s t : List ℕ) (bs : (i : ℕ) → getD s i 0 < 256) (bt : (i : ℕ) → getD t i 0 < 256) where
+  agree-four : (i : ℕ) → i + 4 ≤ length s → i + 4 ≤ length t → four s i ≡ four t i → same (drop i s) (drop i t) ≡ same (drop (i + 4) s) (drop (i + 4) t)
+  unfolding four
+  agree-four i hs ht e =
+      let p = low-byte (getD s i 0) (getD t i 0) _ _ (bs i) (bt i) e in
+      let q = low-byte (getD s (i + 1) 0) (getD t (i + 1) 0) _ _ (bs (i + 1)) (bt (i + 1)) (p .1) in
+      let r = low-byte (getD s (i + 2) 0) (getD t (i + 2) 0) _ _ (bs (i + 2)) (bt (i + 2)) (q .1) in
+      let e2 : i + 1 + 1 ≡ i + 2 = omega arith in
+      let e3 : i + 2 + 1 ≡ i + 3 = omega arith in
+      let e4 : i + 3 + 1 ≡ i + 4 = omega arith in
+      same-agree s t i (omega arith) (omega arith) (p .0)
+      ∙ rw e2 at (same-agree s t (i + 1) (omega arith) (omega arith) (q .0))
+      ∙ rw e3 at (same-agree s t (i + 2) (omega arith) (omega arith) (r .0))
+      ∙ rw e4 at (same-agree s t (i + 3) (omega arith) (omega arith) (r .1))
+
+  pub agree-eight : (i : ℕ) → i + 8 ≤ length s → i + 8 ≤ length t → eight s i ≡ eight t i → same (drop i s) (drop i t) ≡ same (drop (i + 8) s) (drop (i + 8) t)
+  unfolding eight
+  agree-eight i hs ht e =
+      let ls = four-lt s bs i in
+      let lt = four-lt t bt i in
+      let e8 : i + 4 + 4 ≡ i + 8 = omega arith in
+      agree-four i (omega arith) (omega arith) (omega arith) ∙ rw e8 at (agree-four (i + 4) (omega arith) (omega arith) (omega arith))
+
+  -- from a place among the last eight bytes on, if these agree
+  agree-last : (i last : ℕ) → last + 8 ≡ length s → last + 8 ≡ length t → last ≤ i → eight s last ≡ eight t last → same (drop i s) (drop i t) ≡ true
+  agree-last i last hs ht h e =
+      let tails : drop last s ≡ drop last t = same-true (drop last s) (drop last t) (agree-eight last (omega arith) (omega arith) e ∙ same-ended s t (last + 8) (omega arith) (omega arith)) in
+      let behind : last + (i - last) ≡ i = omega arith in
+      let from : (u : List ℕ) → drop (i - last) (drop last u) ≡ drop i u = λ u. drop-drop (i - last) last u ∙ ap (λ (k : ℕ). drop k u) behind in
+      let all : drop i s ≡ drop i t = sym (from s) ∙ ap (drop (i - last)) tails ∙ from t in
+      ap (λ (u : List ℕ). same u (drop i t)) all ∙ same-refl (drop i t)
+
+  -- the last eight bytes decide where all before such a place agree
+  pub last-decides : (i last : ℕ) → last + 8 ≡ length s → last + 8 ≡ length t → last ≤ i → same s t ≡ same (drop i s) (drop i t) → eqb (eight s last) (eight t last) ≡ same s t
+  last-decides i last hs ht h before = by (eqb (eight s last) (eight t last)) refl
+    where
+      by : (x : Bool) → eqb (eight s last) (eight t last) ≡ x → x ≡ same s t
+      by true e = sym (before ∙ agree-last i last hs ht h (eqb-true (eight s last) (eight t last) e))
+      by false e = sym (differ-eight s t last (eqb-false (eight s last) (eight t last) e))
 
 -- a text shorter than p neither starts nor ends with it
 pub starts-short : (p t : List ℕ) → length t < length p → startsWith p t ≡ false

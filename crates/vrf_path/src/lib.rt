@@ -1,8 +1,8 @@
 // Path keys, leaves and stems of document 01. Names follow path.rs and resolve.rs.
 ghost use mathlib.Core.Path.{_≡_};
-ghost use Prim.Native.Nat.{_+_, _-_, _<_, _≤_};
+ghost use Prim.Native.Nat.{_+_, _-_, _^_, _<_, _≤_};
 ghost use lib.ListN.{length, getD};
-ghost use Rattle.vrf_path.specs.Text.{same, startsWith, endsWith, firstFrom, lastBelow};
+ghost use Rattle.vrf_path.specs.Text.{same, four, eight, startsWith, endsWith, firstFrom, lastBelow};
 ghost use Rattle.vrf_path.specs.Keys.{isSeparator, hasSeparator, defaultAlias, coreAlias, hasKey, isThe};
 ghost use Rattle.vrf_path.specs.Stems.{isDigit, isCapital, digitsFrom, digitStems, capitalStems, stems};
 ghost use Rattle.vrf_path.specs.Answers.{
@@ -64,13 +64,34 @@ pub enum Stem {
     End,
 }
 
-// Whether two texts are the same.
-pub fn same(a: &[u8], b: &[u8]) -> bool
+// A byte as a number of 64 bits.
+fn wide(x: u8) -> u64
+    ensures { λ r. ⌜ (r ≡ x) × (r < 256) ⌝ }
+{
+    x as u64
+}
+
+// Four bytes from i on as one number, low byte first.
+fn four(t: &[u8], i: usize) -> u64
+    requires { ⌜ i + 4 ≤ length (now t) ⌝ }
+    ensures { λ r. ⌜ (r ≡ four (now (t .entry)) i) × (r < 2 ^ 32) ⌝ }
+{
+    wide(t[i]) + 0x100 * wide(t[i + 1]) + 0x1_0000 * wide(t[i + 2]) + 0x100_0000 * wide(t[i + 3])
+}
+
+// Eight bytes from i on as one number, low byte first: one load.
+pub fn eight(t: &[u8], i: usize) -> u64
+    requires { ⌜ i + 8 ≤ length (now t) ⌝ }
+    ensures { λ r. ⌜ r ≡ eight (now (t .entry)) i ⌝ }
+{
+    four(t, i) + 0x1_0000_0000 * four(t, i + 4)
+}
+
+// Whether two texts of one length are the same, byte by byte.
+fn same_bytes(a: &[u8], b: &[u8]) -> bool
+    requires { ⌜ length (now a) ≡ length (now b) ⌝ }
     ensures { λ r. ⌜ r ≡ same (now (a .entry)) (now (b .entry)) ⌝ }
 {
-    if a.len() != b.len() {
-        return false;
-    }
     let mut i = 0;
     while i < a.len() {
         if a[i] != b[i] {
@@ -79,6 +100,35 @@ pub fn same(a: &[u8], b: &[u8]) -> bool
         i += 1;
     }
     true
+}
+
+// Whether two texts of one length, at least eight bytes, are the same: eight bytes a turn, and then the last eight.
+fn same_words(a: &[u8], b: &[u8]) -> bool
+    requires { ⌜ (length (now a) ≡ length (now b)) × (8 ≤ length (now a)) ⌝ }
+    ensures { λ r. ⌜ r ≡ same (now (a .entry)) (now (b .entry)) ⌝ }
+{
+    let last = a.len() - 8;
+    let mut i = 0;
+    while i < last {
+        if eight(a, i) != eight(b, i) {
+            return false;
+        }
+        i += 8;
+    }
+    eight(a, last) == eight(b, last)
+}
+
+// Whether two texts are the same.
+pub fn same(a: &[u8], b: &[u8]) -> bool
+    ensures { λ r. ⌜ r ≡ same (now (a .entry)) (now (b .entry)) ⌝ }
+{
+    if a.len() != b.len() {
+        return false;
+    }
+    if a.len() < 8 {
+        return same_bytes(a, b);
+    }
+    same_words(a, b)
 }
 
 // Whether a text starts with p.
