@@ -21,8 +21,8 @@ pub enum Rendered {
 }
 
 // How many digits a number has.
-fn decimal_len(n: u32) -> usize
-    ensures { λ r. ⌜ (r ≡ length (decimal n)) × (r ≤ 10) ⌝ }
+pub fn decimal_len(n: u64) -> usize
+    ensures { λ r. ⌜ (r ≡ length (decimal n)) × (r ≤ 20) ⌝ }
 {
     let mut rest = n;
     let mut len: usize = 1;
@@ -34,7 +34,7 @@ fn decimal_len(n: u32) -> usize
 }
 
 // Writes a number in decimal into a buffer, from a place on, the last digit first.
-fn put_decimal(n: u32, out: &mut [u8], at: usize)
+pub fn put_decimal(n: u64, out: &mut [u8], at: usize)
     requires { ⌜ at + length (decimal n) ≤ length (now out) ⌝ }
     ensures { λ _. ⌜ now (out .exit) ≡ pasted (now (out .entry)) at (decimal n) ⌝ }
 {
@@ -52,11 +52,11 @@ fn put_decimal(n: u32, out: &mut [u8], at: usize)
 pub fn render_index(n: u32, out: &mut [u8]) -> Rendered
     ensures { λ r. ⌜ RenderedAnswer (decimal n) (now (out .entry)) (now (out .exit)) r ⌝ }
 {
-    let len = decimal_len(n);
+    let len = decimal_len(n as u64);
     if out.len() < len {
         return Rendered::Short;
     }
-    put_decimal(n, out, 0);
+    put_decimal(n as u64, out, 0);
     Rendered::Length(len)
 }
 
@@ -75,12 +75,12 @@ fn suffix_of(number: i32) -> Suffix
 
 // How many bytes that has.
 fn suffix_len(s: Suffix) -> usize
-    ensures { λ r. ⌜ (r ≡ length (suffixText s)) × (r ≤ 12) ⌝ }
+    ensures { λ r. ⌜ (r ≡ length (suffixText s)) × (r ≤ 22) ⌝ }
 {
     match s {
         Suffix::Empty => 0,
-        Suffix::Plain(n) => 1 + decimal_len(n),
-        Suffix::Minus(n) => 2 + decimal_len(n),
+        Suffix::Plain(n) => 1 + decimal_len(n as u64),
+        Suffix::Minus(n) => 2 + decimal_len(n as u64),
     }
 }
 
@@ -93,12 +93,12 @@ fn put_suffix(s: Suffix, out: &mut [u8], at: usize)
         Suffix::Empty => {}
         Suffix::Plain(n) => {
             out[at] = b'_';
-            put_decimal(n, out, at + 1);
+            put_decimal(n as u64, out, at + 1);
         }
         Suffix::Minus(n) => {
             out[at] = b'_';
             out[at + 1] = b'-';
-            put_decimal(n, out, at + 2);
+            put_decimal(n as u64, out, at + 2);
         }
     }
 }

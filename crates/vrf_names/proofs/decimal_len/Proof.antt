@@ -18,7 +18,7 @@ loop-holds : tie.Need-loop-holds Inv-loop μ-loop
 loop-holds c = (omega arith, omega arith)
 
 add-len : tie.Need-add-len Inv-loop μ-loop
-add-len c = omega (arith, decimal-length 9 (c .before .before .args .n) (omega arith), decimal-some (c .before .loop .rest))
+add-len c = omega (arith, decimal-length 19 (c .before .before .args .n) (omega arith), decimal-some (c .before .loop .rest))
 
 loop-less : tie.Need-loop-less Inv-loop μ-loop
 loop-less c = omega arith
@@ -29,7 +29,7 @@ loop-again c = (omega arith, omega (arith, more-length (c .before .loop .rest) (
 returns : tie.Need-returns Inv-loop μ-loop
 returns c =
     let one : length (decimal (c .before .loop .rest)) ≡ 1 = rw (decimal-one (c .before .loop .rest) (c .loop-test .left)) in
-    (omega arith, omega (arith, decimal-length 9 (c .before .before .args .n) (omega arith)))
+    (omega arith, omega (arith, decimal-length 19 (c .before .before .args .n) (omega arith)))
 
 pub decimal-len-spec : {M : Type 1} → statement M
 decimal-len-spec =

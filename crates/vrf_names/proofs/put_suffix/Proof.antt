@@ -17,6 +17,9 @@ enum-known-s c = search needs
 slice-write-out : tie.Need-slice-write-out
 slice-write-out c = omega (arith, plain-room (now (c .before .before .before .before .args .out)) (c .before .before .before .before .args .at) (c .before .before .before .before .pre) (c .before .s .given .1))
 
+cast-put-decimal : tie.Need-cast-put-decimal
+cast-put-decimal c = search needs
+
 add-put-decimal : tie.Need-add-put-decimal
 add-put-decimal c = search needs
 
@@ -34,6 +37,9 @@ add-out c = search needs
 
 slice-write-out-3 : tie.Need-slice-write-out-3
 slice-write-out-3 c = rw length-set (omega (arith, minus-room (now (c .before .before .before .before .args .out)) (c .before .before .before .before .args .at) (c .before .before .before .before .pre) (c .before .s2 .given .1)))
+
+cast-put-decimal-2 : tie.Need-cast-put-decimal-2
+cast-put-decimal-2 c = search needs
 
 add-put-decimal-2 : tie.Need-add-put-decimal-2
 add-put-decimal-2 c = search needs
@@ -63,12 +69,14 @@ put-suffix-spec =
     enum-told
     enum-known-s
     slice-write-out
+    cast-put-decimal
     add-put-decimal
     put-decimal-requires
     enum-known-s-2
     slice-write-out-2
     add-out
     slice-write-out-3
+    cast-put-decimal-2
     add-put-decimal-2
     put-decimal-requires-2
     returns

@@ -10,6 +10,9 @@ enum-told c = search needs
 enum-known-s : tie.Need-enum-known-s
 enum-known-s c = search needs
 
+cast-decimal-len : tie.Need-cast-decimal-len
+cast-decimal-len c = search needs
+
 decimal-len-requires : tie.Need-decimal-len-requires
 decimal-len-requires c κs = search needs
 
@@ -18,6 +21,9 @@ add-result c = search needs
 
 enum-known-s-2 : tie.Need-enum-known-s-2
 enum-known-s-2 c = search needs
+
+cast-decimal-len-2 : tie.Need-cast-decimal-len-2
+cast-decimal-len-2 c = search needs
 
 decimal-len-requires-2 : tie.Need-decimal-len-requires-2
 decimal-len-requires-2 c κs = search needs
@@ -40,9 +46,11 @@ suffix-len-spec =
     (tie.spec
     enum-told
     enum-known-s
+    cast-decimal-len
     decimal-len-requires
     add-result
     enum-known-s-2
+    cast-decimal-len-2
     decimal-len-requires-2
     add-result-2
     returns
