@@ -1,29 +1,39 @@
 -- What the hashes need: sums that fit 64 bits, and one word of a text after another.
-use mathlib.Core.Path.{_≡_, ap}
+use mathlib.Core.Path.{_≡_}
 use mathlib.Core.List.{List}
-use Prim.Native.Nat.{ℕ, _+_, _*_, _/_, _%_, _^_, _<_}
-use native.Mathlib.Numerals.{add-one}
+use Prim.Native.Nat.{ℕ, suc, _+_, _-_, _*_, _/_, _%_, _^_, _<_, _≤_}
 use native.Mathlib.Omega.{arith}
 use lib.ListN.{length}
-use Rattle.vrf_words.specs.Words.{word}
-use Rattle.vrf_table.specs.TextIndex.{hashUpTo, textHash}
+use Rattle.vrf_path.specs.Text.{four, eight}
+use Rattle.vrf_table.specs.TextIndex.{turn, hashUpTo, textHash}
 
 pub mixed-fits : (a b : ℕ) → a < 2 ^ 32 → b < 2 ^ 32 → a * 2654435761 + b * 40503 < 2 ^ 64
 mixed-fits a b h k = omega arith
 
-pub hash-start : (t : List ℕ) → length t < 2 ^ 32 → length t ≡ hashUpTo t 0
-unfolding hashUpTo
-hash-start t h = omega arith
+-- the hash of a short text is one turn, from its length
+pub hash-short : (t : List ℕ) (a b h : ℕ) → length t < 8 → a ≡ four t 0 → b ≡ four t 4 → h ≡ turn (length t) (a + 4294967296 * b) → h ≡ textHash t
+unfolding textHash hashUpTo eight
+hash-short t a b h short ea eb eh =
+    let none : (length t - 1) / 8 ≡ 0 = omega arith in
+    let first : length t - 8 ≡ 0 = omega arith in
+    let whole : length t % 2 ^ 32 ≡ length t = omega arith in
+    rw (none, first, whole, ← ea, ← eb) eh
 
-pub hash-next : (t : List ℕ) (i h w : ℕ) → h ≡ hashUpTo t i → w ≡ word t i → (h * 2654435761 + w) % 2 ^ 32 ≡ hashUpTo t (i + 1)
-unfolding hashUpTo
-hash-next t i h w eh ew = rw (add-one, eh, ew)
+-- the hash of a long one: where i bytes are done, i / 8 words are
+module _ (t : List ℕ) where
+  pub hash-start : length t < 2 ^ 32 → length t ≡ hashUpTo t 0
+  unfolding hashUpTo
+  hash-start h = omega arith
 
--- the last word, if some bytes are left for it
-pub hash-whole : (t : List ℕ) → length t % 4 ≡ 0 → hashUpTo t (length t / 4) ≡ textHash t
-unfolding textHash
-hash-whole t h = ap (hashUpTo t) (omega arith)
+  pub hash-next : (i h w n : ℕ) → i % 8 ≡ 0 → h ≡ hashUpTo t (i / 8) → w ≡ eight t i → n ≡ turn h w → n ≡ hashUpTo t ((i + 8) / 8)
+  unfolding hashUpTo
+  hash-next i h w n e eh ew en =
+      let next : (i + 8) / 8 ≡ suc (i / 8) = omega arith in
+      let here : 8 * (i / 8) ≡ i = omega arith in
+      rw (next, here, ← eh, ← ew) en
 
-pub hash-filled : (t : List ℕ) → (length t % 4 ≡ 0 → ⊥) → hashUpTo t (length t / 4 + 1) ≡ textHash t
-unfolding textHash
-hash-filled t h = ap (hashUpTo t) (omega (arith, h))
+  pub hash-end : (i h w n : ℕ) → 8 ≤ length t → i % 8 ≡ 0 → length t - 8 ≤ i → i < length t → h ≡ hashUpTo t (i / 8) → w ≡ eight t (length t - 8) → n ≡ turn h w → n ≡ textHash t
+  unfolding textHash
+  hash-end i h w n long e le lt eh ew en =
+      let all : (length t - 1) / 8 ≡ i / 8 = omega arith in
+      rw (all, ← eh, ← ew) en

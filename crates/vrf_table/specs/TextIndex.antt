@@ -3,26 +3,31 @@
 use mathlib.Core.Bool.{Bool}
 use mathlib.Core.List.{List, []}
 use mathlib.Core.Option.{Option, none, some}
-use Prim.Native.Nat.{ℕ, zero, suc, _+_, _*_, _/_, _%_, _^_}
+use Prim.Native.Nat.{ℕ, zero, suc, _+_, _-_, _*_, _/_, _%_, _^_}
 use lib.ListN.{length}
 use Rattle.vrf_words.specs.Words.{word}
 use Rattle.vrf_path.specs.Keys.{defaultAlias, coreAlias, isThe}
 use Rattle.vrf_path.specs.Leaf.{leaf}
+use Rattle.vrf_path.specs.Text.{eight}
 use Rattle.vrf_model.specs.Lookup.{Claim}
 use Rattle.vrf_table.specs.Chain.{walk}
 use Rattle.vrf_table.specs.Index.{claimWalk}
 use Rattle.vrf_table.specs.Table.{bucket, text}
 
--- ---- the hash of a text: by words of four bytes, the last filled up with zeros
+-- ---- the hash of a text: by words of eight bytes, and then by its last eight, filled up with zeros if it has fewer
+
+-- one word more, w: the middle bits of a sum, in which all bits of h and of w have a part
+unfoldable pub turn : ℕ → ℕ → ℕ
+turn h w = (h * 1481765933 + (w % 2 ^ 32 * 1284865837 + w / 2 ^ 32 * 1103515245)) / 2 ^ 16 % 2 ^ 32
 
 unfoldable pub hashUpTo : List ℕ → ℕ → ℕ
 hashUpTo t zero = length t % 2 ^ 32
-hashUpTo t (suc i) = (hashUpTo t i * 2654435761 + word t i) % 2 ^ 32
+hashUpTo t (suc i) = turn (hashUpTo t i) (eight t (8 * i))
 
 unfoldable pub textHash : List ℕ → ℕ
-textHash t = hashUpTo t ((length t + 3) / 4)
+textHash t = turn (hashUpTo t ((length t - 1) / 8)) (eight t (length t - 8))
 
--- a bucket goes by the high bits of a hash, which the last word has not reached yet
+-- a bucket goes by the high bits of a hash, which the low bits of the last word have not reached yet
 unfoldable pub mixed : ℕ → ℕ
 mixed hash = hash * 2654435761 % 2 ^ 32
 

@@ -2,6 +2,7 @@
 use vrf_path::Leaf;
 use vrf_path::core_alias;
 use vrf_path::default_object_alias;
+use vrf_path::eight;
 use vrf_path::is_key;
 use vrf_path::leaf_at;
 use vrf_path::same;
@@ -14,10 +15,12 @@ ghost use Prim.Native.Nat.{_+_, _*_, _/_, _^_, _<_, _≤_};
 ghost use lib.ListN.{length, getD};
 ghost use Rattle.vrf_path.specs.Keys.{isThe};
 ghost use Rattle.vrf_path.specs.Leaf.{leaf};
+ghost use Rattle.vrf_path.specs.Text.{four};
 ghost use Rattle.vrf_words.specs.Words.{word};
 ghost use Rattle.vrf_table.specs.Chain.{walk};
 ghost use Rattle.vrf_table.specs.Table.{at, len, bucket, keyBucket, findKey, setKey, setText};
 ghost use Rattle.vrf_table.specs.TextIndex.{
+  turn,
   textHash,
   mixed,
   textBucket,
@@ -103,25 +106,60 @@ pub fn put_text(rows: &mut [u8], e: u32, at: u32, len: u32, info: u32)
 }
 
 // The byte at i as a number, 0 past the end.
-fn byte_at(t: &[u8], i: usize) -> u32
+fn byte_at(t: &[u8], i: usize) -> u64
     ensures { λ r. ⌜ (r ≡ getD (now (t .entry)) i 0) × (r < 256) ⌝ }
 {
     if i < t.len() {
-        return t[i] as u32;
+        return t[i] as u64;
     }
     0
 }
 
-// Word i of a text, its last, filled up with zeros.
-fn last_word(t: &[u8], i: usize) -> u32
-    requires { ⌜ 4 * i < length (now t) ⌝ }
-    ensures { λ r. ⌜ r ≡ word (now (t .entry)) i ⌝ }
+// Four bytes of a text from i on as one number, zeros past the end.
+fn four_or_zeros(t: &[u8], i: usize) -> u64
+    requires { ⌜ i ≤ 4 ⌝ }
+    ensures { λ r. ⌜ (r ≡ four (now (t .entry)) i) × (r < 2 ^ 32) ⌝ }
 {
-    let at = 4 * i;
-    byte_at(t, at)
-        + 0x100 * byte_at(t, at + 1)
-        + 0x1_0000 * byte_at(t, at + 2)
-        + 0x100_0000 * byte_at(t, at + 3)
+    byte_at(t, i)
+        + 0x100 * byte_at(t, i + 1)
+        + 0x1_0000 * byte_at(t, i + 2)
+        + 0x100_0000 * byte_at(t, i + 3)
+}
+
+// Eight more bytes of a text go into its hash.
+fn turn(h: u64, w: u64) -> u64
+    requires { ⌜ h < 2 ^ 32 ⌝ }
+    ensures { λ r. ⌜ r ≡ turn h w ⌝ }
+{
+    let low = w % 0x1_0000_0000;
+    let high = w / 0x1_0000_0000;
+    (h * 1481765933 + (low * 1284865837 + high * 1103515245)) / 0x1_0000 % 0x1_0000_0000
+}
+
+// The hash of a text shorter than eight bytes.
+fn short_hash(t: &[u8]) -> u64
+    requires { ⌜ length (now t) < 8 ⌝ }
+    ensures { λ r. ⌜ r ≡ textHash (now (t .entry)) ⌝ }
+{
+    turn(
+        t.len() as u64,
+        four_or_zeros(t, 0) + 0x1_0000_0000 * four_or_zeros(t, 4),
+    )
+}
+
+// The hash of a text of eight bytes or more: eight bytes a turn, and then the last eight.
+fn long_hash(t: &[u8]) -> u64
+    requires { ⌜ (8 ≤ length (now t)) × (length (now t) < 2 ^ 32) ⌝ }
+    ensures { λ r. ⌜ r ≡ textHash (now (t .entry)) ⌝ }
+{
+    let last = t.len() - 8;
+    let mut h = t.len() as u64;
+    let mut i = 0;
+    while i < last {
+        h = turn(h, eight(t, i));
+        i += 8;
+    }
+    turn(h, eight(t, last))
 }
 
 // The hash of a text.
@@ -129,20 +167,13 @@ fn text_hash(t: &[u8]) -> u64
     requires { ⌜ length (now t) < 2 ^ 32 ⌝ }
     ensures { λ r. ⌜ r ≡ textHash (now (t .entry)) ⌝ }
 {
-    let words = t.len() / 4;
-    let mut h = t.len() as u64;
-    let mut i = 0;
-    while i < words {
-        h = (h * 2654435761 + (get32(t, i) as u64)) % 0x1_0000_0000;
-        i += 1;
+    if t.len() < 8 {
+        return short_hash(t);
     }
-    if t.len() % 4 == 0 {
-        return h;
-    }
-    (h * 2654435761 + (last_word(t, words) as u64)) % 0x1_0000_0000
+    long_hash(t)
 }
 
-// A hash whose high bits the last word reaches too.
+// A hash whose high bits all of the last word reaches.
 fn mix(hash: u64) -> u64
     requires { ⌜ hash < 2 ^ 32 ⌝ }
     ensures { λ r. ⌜ r ≡ mixed hash ⌝ }

@@ -1,12 +1,9 @@
--- `vrf_table::last_word` meets its contract: four bytes, put together.
+-- `vrf_table::four_or_zeros` meets its contract: four bytes, put together.
 use native.Mathlib.Omega.{arith}
-use Rattle.vrf_words.specs.Words.{word}
+use Rattle.vrf_path.specs.Text.{four}
 use borrow.Author.Needs.{needs}
-use Rattle.vrf_table.proofs.last_word.Statement.{statement}
-use Rattle.vrf_table.proofs.last_word.Tie as tie
-
-mul-at : tie.Need-mul-at
-mul-at c = search needs
+use Rattle.vrf_table.proofs.four_or_zeros.Statement.{statement}
+use Rattle.vrf_table.proofs.four_or_zeros.Tie as tie
 
 byte-at-requires : tie.Need-byte-at-requires
 byte-at-requires c κs = search needs
@@ -48,14 +45,13 @@ add-result-3 : tie.Need-add-result-3
 add-result-3 c = search needs
 
 returns : tie.Need-returns
-unfolding word
-returns c = omega arith
+unfolding four
+returns c = (omega arith, omega arith)
 
-pub last-word-spec : {M : Type 1} → statement M
-last-word-spec =
+pub four-or-zeros-spec : {M : Type 1} → statement M
+four-or-zeros-spec =
     tie.close
     (tie.spec
-    mul-at
     byte-at-requires
     add-byte-at
     byte-at-requires-2
