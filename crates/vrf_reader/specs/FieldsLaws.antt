@@ -32,7 +32,8 @@ use Rattle.vrf_reader.specs.Fields.{fieldRead, fieldThen, fieldOf}
 
 -- ---- a field behind its handle
 
-module _ (index handle : ℕ) {s : List ℕ} {c d : Cursor} {m : List ℕ} (good : Good m) {checksum : ℕ} (g : Gave s c (readAt s c word32) checksum d) where
+module _ (index handle : ℕ) {s : List ℕ} {c d : Cursor} {m : List ℕ} (good : Good m)
+    {checksum : ℕ} (g : Gave s c (readAt s c word32) checksum d) where
   pub no-name : {q : Refusal} → Refuses (readAt s d fname) q → Reads s (fieldRead index handle) c m m (no q)
   no-name {q} e = stops (read-on word32 _ good g) q (read-stops fname _ good e)
 
@@ -52,13 +53,14 @@ module _ (index handle : ℕ) {s : List ℕ} {c d : Cursor} {m : List ℕ} (good
 
 -- what follows a field in an export or a block goes on where the code's field ended
 module _ (index handle : ℕ) {A : Type 0} (k : Intake A) where
-  followed : (pos : ℕ) (l : List ℕ) (c : Content) (t : Tally) → (fieldRead index handle >>= λ u. k) pos l c t ≡ fieldThen index handle k pos l c t
+  followed : (pos : ℕ) (l : List ℕ) (c : Content) (t : Tally)
+      → (fieldRead index handle >>= λ u. k) pos l c t ≡ fieldThen index handle k pos l c t
   unfolding return _>>=_ handOn
   followed pos l c t =
       assoc _ (λ u. k) (read word32) pos l c t
       ∙ onward-same _ _ (λ checksum pos l c t.
       assoc _ (λ u. k) (read fname) pos l c t
-      ∙ onward-same _ _ (λ name. assoc (λ placed. return tt) (λ u. k) (step (setField index handle checksum name))) (read fname) pos l c t)
+      ∙ onward-same _ _ (λ name. assoc _ (λ u. k) (step (setField index handle checksum name))) (read fname) pos l c t)
       (read word32) pos l c t
 
   module _ {s : List ℕ} {c : Cursor} {m : List ℕ} (good : Good m) where
@@ -83,12 +85,14 @@ module _ (index : ℕ) {s : List ℕ} {c d : Cursor} {m : List ℕ} (good : Good
   pub field-absent : flag ≡ 0 → Goes s (fieldOf index) c m (return tt) d m
   field-absent z = rw z at to-field
 
-  pub field-present : flag ≢ 0 → (m′ : List ℕ) (o : Out (Unit {0})) → Reads s (exportedField index) d m m′ o → Reads s (fieldOf index) c m m′ o
+  pub field-present : flag ≢ 0 → (m′ : List ℕ) (o : Out (Unit {0}))
+      → Reads s (exportedField index) d m m′ o → Reads s (fieldOf index) c m m′ o
   field-present z = reads (rw (ne-eqb flag 0 z) at to-field)
 
 -- ---- a group declared
 
-module _ (index : ℕ) {s : List ℕ} {c d : Cursor} {m : List ℕ} (good : Good m) {room : List ℕ} {n : ℕ} (x : Texted s c (readAt s c fstring) room n d) where
+module _ (index : ℕ) {s : List ℕ} {c d : Cursor} {m : List ℕ} (good : Good m)
+    {room : List ℕ} {n : ℕ} (x : Texted s c (readAt s c fstring) room n d) where
   pub no-slots : {q : Refusal} → Refuses (readAt s d packed) q → Reads s (declaredGroup index) c m m (no q)
   unfolding declaredGroup
   no-slots {q} e = stops (read-on fstring _ good (room-gave x)) q (read-stops packed _ good e)

@@ -18,13 +18,13 @@ use Rattle.vrf_reader.specs.Goes.{intakeAt, Goes, Out, at, no, Reads}
 -- ---- at once
 
 -- the book as it is
-still : {A : Type 0} {s : List ℕ} {k k′ : Intake A} {c d : Cursor} {m : List ℕ} → Good m → ((t : Tally) → intakeAt s c m k t ≡ intakeAt s d m k′ t)
-    → d .first ≡ c .first → d .count ≡ c .count → Goes s k c m k′ d m
+still : {A : Type 0} {s : List ℕ} {k k′ : Intake A} {c d : Cursor} {m : List ℕ} → Good m
+    → ((t : Tally) → intakeAt s c m k t ≡ intakeAt s d m k′ t) → d .first ≡ c .first → d .count ≡ c .count → Goes s k c m k′ d m
 still good e f n = record { adds = λ t. t; goes = e; counters = λ b t h. h; good = good; long = refl; first = f; count = n }
 
 -- readers that are the same where the code stands
-pub alike : {A : Type 0} {s : List ℕ} {k k′ : Intake A} {c : Cursor} {m : List ℕ} → Good m → ((t : Tally) → intakeAt s c m k t ≡ intakeAt s c m k′ t)
-    → Goes s k c m k′ c m
+pub alike : {A : Type 0} {s : List ℕ} {k k′ : Intake A} {c : Cursor} {m : List ℕ} → Good m
+    → ((t : Tally) → intakeAt s c m k t ≡ intakeAt s c m k′ t) → Goes s k c m k′ c m
 alike good e = still good e refl refl
 
 pub stays : {A : Type 0} {s : List ℕ} {k : Intake A} {c : Cursor} {m : List ℕ} → Good m → Goes s k c m k c m
@@ -82,6 +82,7 @@ pub across : {A B : Type 0} {s : List ℕ} {k k′ : Intake A} {l l′ : Intake 
 across g e f n = record { adds = g .adds; goes = e; counters = g .counters; good = g .good; long = g .long; first = f; count = n }
 
 module _ {A B : Type 0} {s : List ℕ} {k : Intake A} (f : A → Intake B) {c d : Cursor} {m m′ : List ℕ} where
+  -- the first of two readers goes on
   under : {k′ : Intake A} → Goes s k c m k′ d m′ → Goes s (k >>= f) c m (k′ >>= f) d m′
   unfolding _>>=_
   under g = across g (λ t. ap (handOn f) (g .goes t)) (g .first) (g .count)

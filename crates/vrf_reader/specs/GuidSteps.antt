@@ -19,12 +19,13 @@ use Rattle.vrf_model.specs.Intake.{took, stopped, Intake, return, stop, _>>=_}
 use Rattle.vrf_model.specs.Runs.{objectAt, behind, payloadOf, guidEntry}
 use Rattle.vrf_store.specs.Good.{Good}
 use Rattle.vrf_store.specs.Stepped.{held}
-use Rattle.vrf_reader.specs.Goes.{Goes, no, Reads}
+use Rattle.vrf_reader.specs.Goes.{intakeAt, Goes, no, Reads}
 use Rattle.vrf_reader.specs.GoesLaws.{alike, stays, then, across, bind, bind-stop, read-on, stops}
 use Rattle.vrf_reader.specs.Within.{Within, Inside, sub-short}
 
 -- ---- a payload
 
+-- nothing is left of it, or 25
 module _ {A : Type 0} (pos : ℕ) (l : List ℕ) (a : A) (p : ℕ) (c : Content) (t : Tally) where
   behind-none : (left : List ℕ) → length left ≡ 0 → behind pos l (took a p left c t) ≡ took a pos l c t
   unfolding behind
@@ -37,50 +38,59 @@ module _ {A : Type 0} (pos : ℕ) (l : List ℕ) (a : A) (p : ℕ) (c : Content)
   behind-some (b ∷ left) h = refl
 
 module _ {A : Type 0} {s : List ℕ} (n : ℕ) (r : Intake A) {c : Cursor} where
-  pub payload-short : {m : List ℕ} {q : Refusal} → Within s c → Good m → Refuses (inner s (c .first) (c .count) (8 * n) (c .pos)) q → Reads s (payloadOf n r) c m m (no q)
+  pub payload-short : {m : List ℕ} {q : Refusal} → Within s c → Good m → Refuses (inner s (c .first) (c .count) (8 * n) (c .pos)) q
+      → Reads s (payloadOf n r) c m m (no q)
   unfolding payloadOf stop
-  payload-short within good e = let short = sub-short n within e in alike good (λ t. rw (lt-ltb (length (restOf s c)) n (short .0)) (cc (short .1)))
+  payload-short within good e =
+      let short = sub-short n within e in
+      alike good (λ t. rw (lt-ltb (length (restOf s c)) n (short .0)) (cc (short .1)))
 
   module _ {i d : Cursor} (w : Inside s c n i d) where
-    in-window : (x : Content) (t : Tally) → payloadOf n r (c .pos) (restOf s c) x t ≡ behind (d .pos) (restOf s d) (r (i .pos) (restOf s i) x t)
+    in-window : (m : List ℕ) (t : Tally) → intakeAt s c m (payloadOf n r) t ≡ behind (d .pos) (restOf s d) (intakeAt s i m r t)
     unfolding payloadOf
-    in-window x t = rw (le-ltb (length (restOf s c)) n (w .enough), w .bytes, w .left, w .start, w .next)
+    in-window m t = rw (le-ltb (length (restOf s c)) n (w .enough), w .bytes, w .left, w .start, w .next)
+
+    -- where its object comes to
+    from-object : {m m′ : List ℕ} {k : Intake A} {e : Cursor} (g : Goes s r i m k e m′) (t : Tally)
+        → intakeAt s c m (payloadOf n r) t ≡ behind (d .pos) (restOf s d) (intakeAt s e m′ k (g .adds t))
+    from-object {m} g t = in-window m t ∙ ap (behind (d .pos) (restOf s d)) (g .goes t)
 
     pub payload-refused : {m m′ : List ℕ} (q : Refusal) → Reads s r i m m′ (no q) → Reads s (payloadOf n r) c m m′ (no q)
     unfolding stop behind
-    payload-refused {m} q g = across g (λ t. in-window (held m) t ∙ ap (behind (d .pos) (restOf s d)) (g .goes t)) refl refl
+    payload-refused q g = across g (from-object g) refl refl
 
     module _ {m m′ : List ℕ} (v : A) {e : Cursor} (g : Goes s r i m (return v) e m′) {k : ℕ} (left : k ≡ (e .count - e .pos) / 8) where
       how-many : length (restOf s e) ≡ k
       how-many = rest-length s (e .first) (e .count) (e .pos) ∙ sym left
 
-      at-end : (t : Tally) → payloadOf n r (c .pos) (restOf s c) (held m) t ≡ behind (d .pos) (restOf s d) (took v (e .pos) (restOf s e) (held m′) (g .adds t))
-      unfolding return
-      at-end t = in-window (held m) t ∙ ap (behind (d .pos) (restOf s d)) (g .goes t)
-
       pub payload-whole : k ≡ 0 → Goes s (payloadOf n r) c m (return v) d m′
       unfolding return
-      payload-whole z = across g (λ t. at-end t ∙ behind-none (d .pos) (restOf s d) v (e .pos) (held m′) (g .adds t) (restOf s e) (how-many ∙ z)) (w .first) (w .count)
+      payload-whole z =
+          let none = how-many ∙ z in
+          across g (λ t. from-object g t ∙ behind-none _ _ v _ (held m′) (g .adds t) (restOf s e) none) (w .first) (w .count)
 
       pub payload-trailing : k ≢ 0 → Goes s (payloadOf n r) c m (stop 25 k 0) c m′
-      unfolding stop
+      unfolding return stop
       payload-trailing h =
           let some : length (restOf s e) ≢ 0 = λ z. h (sym how-many ∙ z) in
-          across g (λ t. at-end t ∙ behind-some (d .pos) (restOf s d) v (e .pos) (held m′) (g .adds t) (restOf s e) some ∙ rw how-many) refl refl
+          across g (λ t. from-object g t ∙ behind-some _ _ v _ (held m′) (g .adds t) (restOf s e) some ∙ rw how-many) refl refl
 
 -- ---- an entry
 
-module _ {s : List ℕ} {c : Cursor} {m : List ℕ} (good : Good m) {size : ℕ} {d : Cursor} (g : Gave s c (readAt s c word32) size d) where
-  to-size : Goes s guidEntry c m (cond (leb (2 ^ 31) size) (stop 24 size 0) (payloadOf size (objectAt 0 true)) >>= λ guid. return tt) d m
+module _ {s : List ℕ} {c d : Cursor} {m : List ℕ} (good : Good m) {size : ℕ} (g : Gave s c (readAt s c word32) size d) where
+  to-payload : Goes s guidEntry c m (cond (leb (2 ^ 31) size) (stop 24 size 0) (payloadOf size (objectAt 0 true)) >>= λ guid. return tt) d m
   unfolding guidEntry
-  to-size = read-on word32 _ good g
+  to-payload = read-on word32 _ good g
 
   pub entry-negative : 2 ^ 31 ≤ size → Goes s guidEntry c m (stop 24 size 0) c m
-  entry-negative h = let q : Refusal = record { number = 24; a = size; b = 0 } in stops to-size q (rw (le-leb (2 ^ 31) size h) (bind-stop _ q (stays good)))
+  entry-negative h =
+      let q : Refusal = record { number = 24; a = size; b = 0 } in
+      stops to-payload q (rw (le-leb (2 ^ 31) size h) (bind-stop _ q (stays good)))
 
   module _ (h : size < 2 ^ 31) {m′ : List ℕ} where
     pub entry-refused : (q : Refusal) → Reads s (payloadOf size (objectAt 0 true)) d m m′ (no q) → Reads s guidEntry c m m′ (no q)
-    entry-refused q p = stops to-size q (rw (lt-leb (2 ^ 31) size h) (bind-stop _ q p))
+    entry-refused q p = stops to-payload q (rw (lt-leb (2 ^ 31) size h) (bind-stop _ q p))
 
-    pub entry-read : (guid : ℕ) {e : Cursor} → Goes s (payloadOf size (objectAt 0 true)) d m (return guid) e m′ → Goes s guidEntry c m (return tt) e m′
-    entry-read guid p = then to-size (rw (lt-leb (2 ^ 31) size h) (bind _ p))
+    pub entry-read : (guid : ℕ) {e : Cursor} → Goes s (payloadOf size (objectAt 0 true)) d m (return guid) e m′
+        → Goes s guidEntry c m (return tt) e m′
+    entry-read guid p = then to-payload (rw (lt-leb (2 ^ 31) size h) (bind _ p))

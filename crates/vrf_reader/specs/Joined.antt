@@ -11,12 +11,14 @@ module _ {A B C : Type 0} (f : A → Intake B) (g : B → Intake C) where
   both (took a p l c t) = refl
   both (stopped n a b c t) = refl
 
-  pub assoc : (r : Intake A) (pos : ℕ) (l : List ℕ) (c : Content) (t : Tally) → ((r >>= f) >>= g) pos l c t ≡ (r >>= λ a. f a >>= g) pos l c t
+  pub assoc : (r : Intake A) (pos : ℕ) (l : List ℕ) (c : Content) (t : Tally)
+      → ((r >>= f) >>= g) pos l c t ≡ (r >>= λ a. f a >>= g) pos l c t
   unfolding _>>=_
   assoc r pos l c t = both (r pos l c t)
 
 -- readers that go on in the same way
-module _ {A B : Type 0} (f g : A → Intake B) (same : (a : A) (pos : ℕ) (l : List ℕ) (c : Content) (t : Tally) → f a pos l c t ≡ g a pos l c t) where
+module _ {A B : Type 0} (f g : A → Intake B)
+    (same : (a : A) (pos : ℕ) (l : List ℕ) (c : Content) (t : Tally) → f a pos l c t ≡ g a pos l c t) where
   each : (x : Took A) → handOn f x ≡ handOn g x
   unfolding handOn
   each (took a p l c t) = same a p l c t

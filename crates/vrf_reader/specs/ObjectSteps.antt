@@ -15,7 +15,6 @@ use Rattle.vrf_bitio.specs.declared.Refusal.{Refusal}
 use Rattle.vrf_bitio.specs.declared.Byte.{Byte}
 use Rattle.vrf_bitio.specs.declared.Byte.the-variants.{Value, Refused as NoByte}
 use Rattle.vrf_text.specs.Text.{fstring}
-use Rattle.vrf_model.specs.Setting.{setGuid}
 use Rattle.vrf_model.specs.Intake.{Intake, return, stop, _>>=_, step}
 use Rattle.vrf_model.specs.Runs.{flagsOf, skipChecksum, withPath, objectAfter, objectOver, object}
 use Rattle.vrf_store.specs.Good.{Good}
@@ -23,15 +22,17 @@ use Rattle.vrf_store.specs.Stepped.{held}
 use Rattle.vrf_cache.specs.Taken.{Taken, NotTaken}
 use Rattle.vrf_reader.specs.declared.objects.Head.the-variants.{Ends, Path, Refused as NoHead}
 use Rattle.vrf_reader.specs.Goes.{Goes, Out, at, no, Reads, ReadsOnly, byted}
-use Rattle.vrf_reader.specs.GoesLaws.{stays, gave, refused, taken, not-taken, then, bind, bind-stop, read-on, read-stops, stops, reads}
+use Rattle.vrf_reader.specs.GoesLaws.{stays, gave, refused, taken, not-taken, then, bind, bind-stop}
+use Rattle.vrf_reader.specs.GoesLaws.{read-on, read-stops, stops, reads}
 use Rattle.vrf_reader.specs.Texts.{Texted}
 use Rattle.vrf_reader.specs.TextsLaws.{room-gave}
-use Rattle.vrf_reader.specs.Objects.{HeadOf, recorded}
+use Rattle.vrf_reader.specs.Objects.{HeadOf, setObject, recorded}
 
 -- ---- flags
 
 module _ {s : List ℕ} {c : Cursor} (exporting : Bool) (guid : ℕ) where
-  pub flags-read : (exporting || eqb guid 1) ≡ true → (o : Byte) → ByteAnswer s c (readAt s c byte) o → ReadsOnly s (flagsOf exporting guid) c (byted o)
+  pub flags-read : (exporting || eqb guid 1) ≡ true → (o : Byte) → ByteAnswer s c (readAt s c byte) o
+      → ReadsOnly s (flagsOf exporting guid) c (byted o)
   unfolding flagsOf
   flags-read h (Value v d) g = record { reads = λ m good. rw h (gave byte good g) }
   flags-read h (NoByte r) e = record { reads = λ m good. rw h (refused byte good e) }
@@ -48,7 +49,8 @@ module _ {s : List ℕ} {c : Cursor} (exporting : Bool) where
   head-refused e = record { reads = λ outer m good. read-stops packed _ good e }
 
   module _ {guid : ℕ} {d : Cursor} (g : Gave s c (readAt s c packed) guid d) where
-    to-guid : (outer : Intake ℕ) {m : List ℕ} → Good m → Goes s (objectOver outer exporting) c m (cond (eqb guid 0) (return 0) (objectAfter outer exporting guid)) d m
+    to-guid : (outer : Intake ℕ) {m : List ℕ} → Good m
+        → Goes s (objectOver outer exporting) c m (cond (eqb guid 0) (return 0) (objectAfter outer exporting guid)) d m
     unfolding objectOver
     to-guid outer good = read-on packed _ good g
 
@@ -64,7 +66,8 @@ module _ {s : List ℕ} {c : Cursor} (exporting : Bool) where
       head-flagless q h = record { reads = λ outer m good. stops (to-flags outer good) q (bind-stop _ q (h .reads m good)) }
 
       module _ {flags : ℕ} {e : Cursor} (h : ReadsOnly s (flagsOf exporting guid) d (at flags e)) where
-        to-path : (outer : Intake ℕ) {m : List ℕ} → Good m → Goes s (objectOver outer exporting) c m (cond (eqb (flags % 2) 1) (withPath outer guid flags) (return guid)) e m
+        to-path : (outer : Intake ℕ) {m : List ℕ} → Good m
+            → Goes s (objectOver outer exporting) c m (cond (eqb (flags % 2) 1) (withPath outer guid flags) (return guid)) e m
         unfolding objectAfter
         to-path outer good = then (to-flags outer good) (bind _ (h .reads _ good))
 
@@ -92,31 +95,35 @@ module _ {s : List ℕ} {c : Cursor} (flags : ℕ) where
 
 -- ---- record
 
-module _ {s : List ℕ} {c : Cursor} (guid flags outer : ℕ) {m : List ℕ} (good : Good m) {room : List ℕ} {n : ℕ} {d : Cursor} (t : Texted s c (readAt s c fstring) room n d) where
-  to-checksum : Goes s (recorded guid flags outer) c m (skipChecksum flags >>= λ u. step (setGuid (record { guid = guid; path = take n room; outer = outer })) >>= λ v. return guid) d m
-  unfolding recorded
-  to-checksum = read-on fstring _ good (room-gave t)
-
+module _ {s : List ℕ} {c d : Cursor} (guid flags outer : ℕ) {m : List ℕ} (good : Good m)
+    {room : List ℕ} {n : ℕ} (t : Texted s c (readAt s c fstring) room n d) where
   pub record-sumless : (q : Refusal) → ReadsOnly s (skipChecksum flags) d (no q) → Reads s (recorded guid flags outer) c m m (no q)
-  record-sumless q h = stops to-checksum q (bind-stop _ q (h .reads m good))
+  unfolding recorded
+  record-sumless q h = stops (read-on fstring _ good (room-gave t)) q (bind-stop _ q (h .reads m good))
 
   module _ {e : Cursor} (h : ReadsOnly s (skipChecksum flags) d (at tt e)) where
-    to-setting : Goes s (recorded guid flags outer) c m (step (setGuid (record { guid = guid; path = take n room; outer = outer })) >>= λ v. return guid) e m
-    to-setting = then to-checksum (bind _ (h .reads m good))
+    to-setting : Goes s (recorded guid flags outer) c m (step (setObject guid (take n room) outer) >>= λ v. return guid) e m
+    unfolding recorded
+    to-setting = then (read-on fstring _ good (room-gave t)) (bind _ (h .reads m good))
 
     module _ {m′ : List ℕ} where
-      pub record-set : Taken (setGuid (record { guid = guid; path = take n room; outer = outer }) (held m)) tt m m′ → Goes s (recorded guid flags outer) c m (return guid) e m′
-      record-set k = then to-setting (bind _ (taken _ k))
-
-      pub record-refused : {q : Refusal} → NotTaken (setGuid (record { guid = guid; path = take n room; outer = outer }) (held m)) q m m′ → Reads s (recorded guid flags outer) c m m′ (no q)
+      pub record-refused : {q : Refusal} → NotTaken (setObject guid (take n room) outer (held m)) q m m′
+          → Reads s (recorded guid flags outer) c m m′ (no q)
       record-refused {q} k = stops to-setting q (bind-stop _ q (not-taken _ good k))
+
+      pub record-set : Taken (setObject guid (take n room) outer (held m)) tt m m′
+          → Goes s (recorded guid flags outer) c m (return guid) e m′
+      record-set k = then to-setting (bind _ (taken _ k))
 
 -- ---- one object over another
 
-pub too-deep : {s : List ℕ} {c : Cursor} (left : ℕ) (exporting : Bool) {m : List ℕ} → Good m → left ≡ 0 → Goes s (object left exporting) c m (stop 26 16 0) c m
+-- 26: no depth left
+pub too-deep : {s : List ℕ} {c : Cursor} (left : ℕ) (exporting : Bool) {m : List ℕ} → Good m → left ≡ 0
+    → Goes s (object left exporting) c m (stop 26 16 0) c m
 unfolding object
 too-deep left exporting good z = rw z (stays good)
 
+-- with depth left, an object is one over the object inside it
 over : (left : ℕ) (exporting : Bool) → left ≢ 0 → object left exporting ≡ objectOver (object (left - 1) exporting) exporting
 unfolding object
 over zero exporting h = absurd (h refl)
@@ -133,10 +140,12 @@ module _ {s : List ℕ} {c : Cursor} (left : ℕ) {exporting : Bool} (some : lef
     to-outer : Goes s (object left exporting) c m (withPath (object (left - 1) exporting) guid flags) d m
     to-outer = rw (over left exporting some) (h .reads (object (left - 1) exporting) m good)
 
-    pub outer-refused : {m′ : List ℕ} (q : Refusal) → Reads s (object (left - 1) exporting) d m m′ (no q) → Reads s (object left exporting) c m m′ (no q)
+    pub outer-refused : {m′ : List ℕ} (q : Refusal) → Reads s (object (left - 1) exporting) d m m′ (no q)
+        → Reads s (object left exporting) c m m′ (no q)
     unfolding withPath
     outer-refused q g = stops to-outer q (bind-stop _ q g)
 
-    pub outer-then : {m′ : List ℕ} (outer : ℕ) {e : Cursor} → Goes s (object (left - 1) exporting) d m (return outer) e m′ → (m″ : List ℕ) (o : Out ℕ) → Reads s (recorded guid flags outer) e m′ m″ o → Reads s (object left exporting) c m m″ o
+    pub outer-then : {m′ : List ℕ} (outer : ℕ) {e : Cursor} → Goes s (object (left - 1) exporting) d m (return outer) e m′
+        → (m″ : List ℕ) (o : Out ℕ) → Reads s (recorded guid flags outer) e m′ m″ o → Reads s (object left exporting) c m m″ o
     unfolding withPath recorded
     outer-then outer g = reads (then to-outer (bind (recorded guid flags) g))

@@ -4,7 +4,8 @@ use mathlib.Core.List.{List}
 use Prim.Native.Nat.{ℕ}
 use Rattle.vrf_bitio.specs.declared.Cursor.{Cursor}
 use Rattle.vrf_text.specs.Text.{fstring}
-use Rattle.vrf_model.specs.Setting.{setGuid}
+use Rattle.vrf_model.specs.Book.{Content}
+use Rattle.vrf_model.specs.Setting.{Step, setGuid}
 use Rattle.vrf_model.specs.Intake.{Intake, return, _>>=_, read, step}
 use Rattle.vrf_model.specs.Runs.{skipChecksum, withPath, objectOver}
 use Rattle.vrf_store.specs.Good.{Good}
@@ -22,10 +23,14 @@ HeadReads s outer exporting c m (NoHead r) = Reads s (objectOver outer exporting
 pub record HeadOf (s : List ℕ) (exporting : Bool) (c : Cursor) (h : Head) : Type 0 where
   pub reads : (outer : Intake ℕ) (m : List ℕ) → Good m → HeadReads s outer exporting c m h
 
+-- the setting of an object
+abbrev pub setObject : ℕ → List ℕ → ℕ → Content → Step (Unit {0})
+setObject guid path outer = setGuid (record { guid = guid; path = path; outer = outer })
+
 -- `withPath` behind the outer object
 unfoldable pub recorded : ℕ → ℕ → ℕ → Intake ℕ
 recorded guid flags outer = do
   path ← read fstring
   u ← skipChecksum flags
-  v ← step (setGuid (record { guid = guid; path = path; outer = outer }))
+  v ← step (setObject guid path outer)
   return guid

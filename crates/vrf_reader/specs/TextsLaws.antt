@@ -32,7 +32,8 @@ use Rattle.vrf_model.specs.ReadsLaws.{bytesOf-bytes, Gives, Reads, fstring-read
 use Rattle.vrf_reader.specs.Texts.{Texted, TextIn, numbered, Small, namedBy}
 
 -- a reading, and then a text
-onward : {A : Type 0} {s : List ℕ} (r : Reader A) (f : A → Reader (List ℕ)) {c d : Cursor} {v : A} → Gave s c (readAt s c r) v d → (room : List ℕ) (o : Text) → TextIn s d (readAt s d (f v)) room o → TextIn s c (readAt s c (r >>= f)) room o
+onward : {A : Type 0} {s : List ℕ} (r : Reader A) (f : A → Reader (List ℕ)) {c d : Cursor} {v : A} → Gave s c (readAt s c r) v d
+    → (room : List ℕ) (o : Text) → TextIn s d (readAt s d (f v)) room o → TextIn s c (readAt s c (r >>= f)) room o
 onward {s = s} r f {c} g room (Done n e) t = record { text = t .text; gave = gave-then s c r f g (t .gave); here = t .here; fits = t .fits }
 onward {s = s} r f {c} g room (NoText q) t = refused-then s c r f g t
 
@@ -69,7 +70,8 @@ into-all n h pos l b = go (fstring pos l) refl
     go (ok t p m) e = rw (le-ltb n (length t) (omega (arith, fstring-text pos l b e .short)))
     go (refused a x y) e = refl
 
-pub text-in : (s : List ℕ) (c : Cursor) (room after : List ℕ) → 4096 ≤ length room → (o : Text) → TextAnswer s c (readAt s c (fstringInto (length room))) room after o → TextIn s c (readAt s c fstring) after o
+pub text-in : (s : List ℕ) (c : Cursor) (room after : List ℕ) → 4096 ≤ length room → (o : Text)
+    → TextAnswer s c (readAt s c (fstringInto (length room))) room after o → TextIn s c (readAt s c fstring) after o
 text-in s c room after h (Done n d) a =
     let all = into-all (length room) h (c .pos) (restOf s c) (rest-bytes s c) in
     let g : Gave s c (readAt s c fstring) (a .0) d = subst (λ (x : Read (List ℕ)). Gave s c x (a .0) d) all (a .1 .0) in
@@ -79,13 +81,15 @@ text-in s c room after h (Done n d) a =
       text = a .0;
       gave = g;
       here = rw (front, a .1 .1 .0) (take-append-seam (a .0) _);
-      fits = omega (arith, short, h, a .1 .1 .0, ap (λ (x : List ℕ). length x) (a .1 .1 .1), pasted-length (a .0) room 0 (omega (arith, short, h)));
+      fits = omega (arith, a .1 .1 .0, ap (λ (x : List ℕ). length x) (a .1 .1 .1), pasted-length (a .0) room 0 (omega arith));
     }
 text-in s c room after h (NoText q) a = sym (into-all (length room) h (c .pos) (restOf s c) (rest-bytes s c)) ∙ a .0
 
 -- ---- names
 
-rendered-in : (s : List ℕ) (c : Cursor) (room after text : List ℕ) → 4096 ≤ length room → (o : Rendered) → RenderedAnswer text room after o → TextIn s c (limited text (c .pos) (restOf s c)) after (namedBy o c)
+-- a rendered text as the answer of its reading
+rendered-in : (s : List ℕ) (c : Cursor) (room after text : List ℕ) → 4096 ≤ length room → (o : Rendered) → RenderedAnswer text room after o
+    → TextIn s c (readAt s c (limited text)) after (namedBy o c)
 unfolding limited return
 rendered-in s c room after text h (Length n) a =
     record {
@@ -104,21 +108,27 @@ is-small text room after (TooLong n) a = tt
 is-small text room after Short a = tt
 
 module _ {s : List ℕ} {c d : Cursor} (room after : List ℕ) (h : 4096 ≤ length room) (o : Rendered) {t : Text} (e : t ≡ namedBy o d) where
-  -- a base text with its number, which is rendered as it was read
-  pub numbered-in : (base : List ℕ) {z y : ℤ} → Gave s c (readAt s c int32) z d → y ≡ z → RenderedAnswer (rendered base y) room after o → TextIn s c (readAt s c (numbered base)) after t
+  -- a base text with its number, which goes to the rendering as it was read
+  pub numbered-in : (base : List ℕ) {z y : ℤ} → Gave s c (readAt s c int32) z d → y ≡ z → RenderedAnswer (rendered base y) room after o
+      → TextIn s c (readAt s c (numbered base)) after t
   numbered-in base {z} g same a =
-      rw e (onward int32 (λ number. limited (rendered base number)) g after (namedBy o d) (rendered-in s d room after (rendered base z) h o (rw same at a)))
+      rw e
+      (onward int32 (λ number. limited (rendered base number)) g after (namedBy o d)
+      (rendered-in s d room after (rendered base z) h o (rw same at a)))
 
   -- an index in decimal, which is never too long
-  pub index-in : {index : ℕ} → index < 2 ^ 32 → Gave s c (readAt s c packed) index d → RenderedAnswer (decimal index) room after o → TextIn s c (readAt s c indexName) after t
+  pub index-in : {index : ℕ} → index < 2 ^ 32 → Gave s c (readAt s c packed) index d → RenderedAnswer (decimal index) room after o
+      → TextIn s c (readAt s c indexName) after t
   unfolding indexName limited
-  index-in {index} small g a = rw e (onward packed (λ n. return (decimal n)) g after (namedBy o d) (rw short at (rendered-in s d room after (decimal index) h o a)))
+  index-in {index} small g a =
+      rw e (onward packed (λ n. return (decimal n)) g after (namedBy o d) (rw short at (rendered-in s d room after (decimal index) h o a)))
     where
-      short : limited (decimal index) (d .pos) (restOf s d) ≡ return (decimal index) (d .pos) (restOf s d)
+      short : readAt s d (limited (decimal index)) ≡ readAt s d (return (decimal index))
       short = rw (le-ltb 4096 (length (decimal index)) (omega (arith, decimal-length 9 index (omega arith))))
 
 -- a text, and then its number
-pub name-after : {s : List ℕ} {c d : Cursor} {room : List ℕ} {n : ℕ} → Texted s c (readAt s c fstring) room n d → (after : List ℕ) (o : Text) → TextIn s d (readAt s d (numbered (take n room))) after o → TextIn s c (readAt s c textName) after o
+pub name-after : {s : List ℕ} {c d : Cursor} {room : List ℕ} {n : ℕ} → Texted s c (readAt s c fstring) room n d
+    → (after : List ℕ) (o : Text) → TextIn s d (readAt s d (numbered (take n room))) after o → TextIn s c (readAt s c textName) after o
 unfolding textName
 name-after t after o h = onward fstring numbered (room-gave t) after o h
 

@@ -15,7 +15,8 @@ use Rattle.vrf_reader.specs.GoesLaws.{stays, then, bind, bind-stop, read
 -- ---- the entries
 
 -- i of n entries are read: those left go on from here
-pub record Left (s : List ℕ) (entry : Intake (Unit {0})) (n : ℕ) (c₀ : Cursor) (m₀ : List ℕ) (i : ℕ) (c : Cursor) (m : List ℕ) : Type 0 where
+pub record Left (s : List ℕ) (entry : Intake (Unit {0})) (n : ℕ) (c₀ : Cursor) (m₀ : List ℕ) (i : ℕ) (c : Cursor) (m : List ℕ)
+    : Type 0 where
   pub goes : Goes s (times n entry) c₀ m₀ (times (n - i) entry) c m
 
 module _ {s : List ℕ} {entry : Intake (Unit {0})} {n : ℕ} {c₀ : Cursor} {m₀ : List ℕ} where
@@ -47,7 +48,8 @@ runOf entry = do
   u ← times n entry
   return n
 
-module _ (entry : Intake (Unit {0})) {s : List ℕ} {c d : Cursor} {m : List ℕ} (good : Good m) {n : ℕ} (g : Gave s c (readAt s c packed) n d) {m′ : List ℕ} where
+module _ (entry : Intake (Unit {0})) {s : List ℕ} {c d : Cursor} {m m′ : List ℕ} (good : Good m)
+    {n : ℕ} (g : Gave s c (readAt s c packed) n d) where
   pub run-refused : (q : Refusal) → Reads s (times n entry) d m m′ (no q) → Reads s (runOf entry) c m m′ (no q)
   run-refused q h = stops (read-on packed _ good g) q (bind-stop _ q h)
 

@@ -22,7 +22,8 @@ pub record Within (s : List ℕ) (c : Cursor) : Type 0 where
   pub small : length s ≤ 268435456
 
 -- a window that was opened
-pub opened-within : {s : List ℕ} (first count : ℕ) (c : Cursor) → window s first count ≡ ok (c .first, c .count) (c .pos) (restOf s c) → Within s c
+pub opened-within : {s : List ℕ} (first count : ℕ) (c : Cursor)
+    → window s first count ≡ ok (c .first, c .count) (c .pos) (restOf s c) → Within s c
 unfolding window
 opened-within {s} first count c =
     let P : Read (ℕ × ℕ) → Type 0 = λ r. r ≡ ok (c .first, c .count) (c .pos) (restOf s c) → Within s c in

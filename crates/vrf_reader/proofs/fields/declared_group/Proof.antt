@@ -90,7 +90,8 @@ returns-3 c =
     let c5 = c3 .before .before in
     let c9 = c5 .before .before .before .before in
     let c14 = c9 .before .before .before .before .before in
-    no-slots _ (c14 .pre .0) (rw (c5 .n .given .1) at (c9 .read-text .ensures)) (rw (c .before .r2 .given .1) at (c3 .read-int-packed .ensures))
+    let path = rw (c5 .n .given .1) at (c9 .read-text .ensures) in
+    no-slots _ (c14 .pre .0) path (rw (c .before .r2 .given .1) at (c3 .read-int-packed .ensures))
 
 same-length-4 : tie.Need-same-length-4
 same-length-4 c = search needs

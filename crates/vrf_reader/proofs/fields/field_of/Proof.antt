@@ -46,7 +46,8 @@ returns-3 c =
     let c9 = c7 .before .before in
     let c11 = c9 .before .before in
     let c15 = c11 .before .before .before .before in
-    field-present _ (c15 .pre .0) (rw (c9 .has-field .given .1) at (c11 .read-u8 .ensures)) (c7 .if1 .left) _ (moved (c4 .exported-field .result)) (c4 .exported-field .ensures)
+    let byte = rw (c9 .has-field .given .1) at (c11 .read-u8 .ensures) in
+    field-present _ (c15 .pre .0) byte (c7 .if1 .left) _ (moved (c4 .exported-field .result)) (c4 .exported-field .ensures)
 
 pub field-of-spec : {M : Type 1} → statement M
 field-of-spec =

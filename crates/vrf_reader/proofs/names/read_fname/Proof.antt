@@ -27,7 +27,8 @@ returns c =
     let c4 = c .before .before .before .before in
     let c6 = c4 .before .before in
     let c8 = c6 .before .before in
-    text-kind (rw (c6 .kind .given .1) at (c8 .read-u8 .ensures)) _ (c .before .before .read-text-name .result) (c4 .if1 .taken) (c .before .before .read-text-name .ensures)
+    let kind = rw (c6 .kind .given .1) at (c8 .read-u8 .ensures) in
+    text-kind kind _ (c .before .before .read-text-name .result) (c4 .if1 .taken) (c .before .before .read-text-name .ensures)
 
 read-index-name-requires : tie.Need-read-index-name-requires
 read-index-name-requires c κs = search needs
@@ -44,7 +45,8 @@ returns-3 c =
     let c4 = c .before .before .before .before in
     let c6 = c4 .before .before in
     let c8 = c6 .before .before in
-    index-kind (rw (c6 .kind .given .1) at (c8 .read-u8 .ensures)) _ (c .before .before .read-index-name .result) (c4 .if1 .left) (c .before .before .read-index-name .ensures)
+    let kind = rw (c6 .kind .given .1) at (c8 .read-u8 .ensures) in
+    index-kind kind _ (c .before .before .read-index-name .result) (c4 .if1 .left) (c .before .before .read-index-name .ensures)
 
 pub read-fname-spec : {M : Type 1} → statement M
 read-fname-spec =

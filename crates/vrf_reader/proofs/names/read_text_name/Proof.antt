@@ -36,7 +36,8 @@ returns-2 : tie.Need-returns-2
 returns-2 c =
     let c5 = c .before .before .before .before .before in
     let c9 = c5 .before .before .before .before in
-    name-after (rw (c5 .n .given .1) at (c9 .read-text .ensures)) _ (c .before .before .read-number .result) (c .before .before .read-number .ensures)
+    let base = rw (c5 .n .given .1) at (c9 .read-text .ensures) in
+    name-after base _ (c .before .before .read-number .result) (c .before .before .read-number .ensures)
 
 pub read-text-name-spec : {M : Type 1} → statement M
 read-text-name-spec =

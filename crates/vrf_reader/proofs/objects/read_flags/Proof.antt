@@ -10,7 +10,8 @@ read-u8-requires c κs = search needs
 
 returns : tie.Need-returns
 returns c =
-    flags-read _ _ (⊎-elim (λ w. rw (w .taken)) (λ w. rw (w .0 .left, w .1 .taken)) (c .before .if1 .came)) (c .read-u8 .result) (c .read-u8 .ensures)
+    flags-read _ _ (⊎-elim (λ w. rw (w .taken)) (λ w. rw (w .0 .left, w .1 .taken)) (c .before .if1 .came))
+    (c .read-u8 .result) (c .read-u8 .ensures)
 
 returns-2 : tie.Need-returns-2
 returns-2 c = flags-none _ _ (rw (c .before .if1 .left, c .if2 .left))

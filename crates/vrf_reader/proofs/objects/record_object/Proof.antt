@@ -74,7 +74,8 @@ returns-2 c =
     let c5 = c3 .before .before in
     let c9 = c5 .before .before .before .before in
     let c14 = c9 .before .before .before .before .before in
-    record-sumless _ _ _ (c14 .pre .0) (rw (c5 .n .given .1) at (c9 .read-text .ensures)) _ (rw (c .before .r2 .given .1) at (c3 .skip-checksum .ensures))
+    let path = rw (c5 .n .given .1) at (c9 .read-text .ensures) in
+    record-sumless _ _ _ (c14 .pre .0) path _ (rw (c .before .r2 .given .1) at (c3 .skip-checksum .ensures))
 
 same-length-3 : tie.Need-same-length-3
 same-length-3 c = search needs

@@ -14,10 +14,16 @@ enum-known-next : tie.Need-enum-known-next
 enum-known-next c = search needs
 
 returns : tie.Need-returns
-returns c = checksum-refused _ (c .before .before .before .before .if1 .taken) (rw (c .before .r .given .1) at (c .before .before .before .read-u32 .ensures))
+returns c =
+    let c3 = c .before .before .before in
+    let c4 = c3 .before in
+    checksum-refused _ (c4 .if1 .taken) (rw (c .before .r .given .1) at (c3 .read-u32 .ensures))
 
 returns-2 : tie.Need-returns-2
-returns-2 c = checksum-read _ (c .before .before .before .before .if1 .taken) (rw (c .before .next .given .1) at (c .before .before .before .read-u32 .ensures))
+returns-2 c =
+    let c3 = c .before .before .before in
+    let c4 = c3 .before in
+    checksum-read _ (c4 .if1 .taken) (rw (c .before .next .given .1) at (c3 .read-u32 .ensures))
 
 returns-3 : tie.Need-returns-3
 returns-3 c = checksum-none _ (c .if1 .left)
