@@ -1,0 +1,33 @@
+-- How the code comes by its answer: the book opens with these allowances, and the block reader reads into it.
+use mathlib.Core.Path.{_≡_, ap, _∙_}
+use mathlib.Core.List.{List}
+use Prim.Native.Nat.{ℕ, _≤_}
+use native.Mathlib.Omega.{arith}
+use borrow.Author.Tests.{le-ltb}
+use lib.ListN.{length}
+use Rattle.vrf_model.specs.Book.{Book, freshBook}
+use Rattle.vrf_model.specs.Calls.{Answer, whole, read-checkpoint-tables, run}
+use Rattle.vrf_model.specs.declared.Acted.the-variants.{Done, Refused}
+use Rattle.vrf_bitio.specs.declared.Refusal.{Refusal}
+use Rattle.vrf_store.specs.Opening.{aboveTop, opened, unlessShort, unlessAbove, opening}
+use Rattle.vrf_schema.specs.Begun.{Begun}
+use Rattle.vrf_schema.specs.Called.{Called}
+use Rattle.vrf_tally.specs.Tally.{allowances, answered}
+
+-- no allowance is above its top, and they need 25,876 bytes
+opens : {n : ℕ} → 25876 ≤ n → opening allowances n ≡ opened
+unfolding opening unlessAbove aboveTop unlessShort allowances
+opens {n} h = rw (le-ltb n 25876 h)
+
+module _ {lent m : List ℕ} where
+  pub never-refused : 25876 ≤ length lent → (r : Refusal) → Begun allowances lent m (Refused r) → ⊥
+  never-refused h r begun =
+      let z : _≡_ {A = ℕ} 0 1 = cc (opens h, begun .0) in
+      omega arith
+
+  pub answered-by : Begun allowances lent m Done → (input : List ℕ) {m′ : List ℕ} {r : Answer}
+      → Called (read-checkpoint-tables (whole input)) m m′ r → r ≡ answered input
+  unfolding answered freshBook
+  answered-by begun input called =
+      let answer : Book → Answer = λ b. run (read-checkpoint-tables (whole input)) (b .content) .answer in
+      called .ran (begun .accepted) .answer ∙ ap answer (begun .book)
