@@ -1,4 +1,4 @@
--- A text that was read stands in the room that was lent for it.
+-- A text or a name that was read stands in the room that was lent for it.
 use mathlib.Core.List.{List}
 use mathlib.Core.Path.{_≡_, subst}
 use Prim.Native.Nat.{ℕ, _≤_}
@@ -7,6 +7,7 @@ use lib.ListN.{length, length-append}
 use Rattle.vrf_bitio.specs.Pasted.{pasted}
 use Rattle.vrf_bitio.specs.Reading.{Read}
 use Rattle.vrf_bitio.specs.declared.Cursor.{Cursor}
+use Rattle.vrf_reader.specs.Texts.{TextIn}
 use Rattle.vrf_text.specs.Answers.{TextAnswer}
 use Rattle.vrf_text.specs.declared.Text.{Text}
 use Rattle.vrf_text.specs.declared.Text.the-variants.{Read as Done}
@@ -19,3 +20,6 @@ pub in-room : (s : List ℕ) (c : Cursor) (x : Read (List ℕ)) (before after : 
 in-room s c x before after n d e h =
     let done : TextAnswer s c x before after (Done n d) = subst (TextAnswer s c x before after) e h in
     within n (done .0) before after (done .1 .1 .0) (done .1 .1 .1)
+
+pub in-name-room : (s : List ℕ) (c : Cursor) (x : Read (List ℕ)) (room : List ℕ) (n : ℕ) (d : Cursor) {r : Text} → r ≡ Done n d → TextIn s c x room r → n ≤ length room
+in-name-room s c x room n d e h = (subst (TextIn s c x room) e h) .fits

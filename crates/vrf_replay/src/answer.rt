@@ -43,6 +43,14 @@ pub fn number(out: &mut [u8], to: usize, n: u64) -> usize
     byte(out, at, 48 + (n % 10) as u8)
 }
 
+// A number behind a word that says what it is.
+pub fn labelled(out: &mut [u8], to: usize, what: &[u8], n: u64) -> usize
+    ensures { λ r. ⌜ r ≤ length (now (out .entry)) ⌝ }
+{
+    let said = word(out, to, what);
+    number(out, said, n)
+}
+
 // In decimal, below 0 with a sign. The lowest number has no positive one, so the number after it is negated.
 pub fn signed(out: &mut [u8], to: usize, n: i32) -> usize
     ensures { λ r. ⌜ r ≤ length (now (out .entry)) ⌝ }
@@ -59,6 +67,19 @@ fn digit(n: u8) -> u8
     requires { ⌜ n ≤ 15 ⌝ }
 {
     if n < 10 { 48 + n } else { 87 + n }
+}
+
+// Sixteen hexadecimal digits, the highest first.
+pub fn hexadecimal(out: &mut [u8], to: usize, n: u64) -> usize
+    ensures { λ r. ⌜ r ≤ length (now (out .entry)) ⌝ }
+{
+    let mut to = clipped(out, to);
+    let mut left = n;
+    for _ in 0..16u32 {
+        to = byte(out, to, digit((left / 0x1000_0000_0000_0000) as u8));
+        left = left % 0x1000_0000_0000_0000 * 16;
+    }
+    to
 }
 
 // A byte of a text: as it is, or as `\xHH`.

@@ -107,14 +107,41 @@ fn text_in(s: &[u8], c: Cursor, room: &mut [u8], out: &mut [u8], to: usize) -> A
     match vrf_text::read_fstring(s, c, room) {
         Text::Refused(r) => refused(c, r, out, to),
         Text::Read(n, next) => {
-            let said = answer::word(out, to, b"text ");
             let k = n as usize;
-            After {
-                c: next,
-                to: answer::quoted(out, said, &room[0..k]),
-                fits: true,
-            }
+            said(next, &room[0..k], out, to)
         }
+    }
+}
+
+fn name(s: &[u8], c: Cursor, out: &mut [u8], to: usize) -> After
+    ensures { λ r. ⌜ r .to ≤ length (now (out .entry)) ⌝ }
+{
+    let mut room = [0u8; 4096];
+    name_in(s, c, &mut room, out, to)
+}
+
+fn name_in(s: &[u8], c: Cursor, room: &mut [u8], out: &mut [u8], to: usize) -> After
+    requires { ⌜ 4096 ≤ length (now room) ⌝ }
+    ensures { λ r. ⌜ r .to ≤ length (now (out .entry)) ⌝ }
+{
+    match vrf_reader::names::read_fname(s, c, room) {
+        Text::Refused(r) => refused(c, r, out, to),
+        Text::Read(n, next) => {
+            let k = n as usize;
+            said(next, &room[0..k], out, to)
+        }
+    }
+}
+
+// A text that was read, with the cursor behind it.
+fn said(next: Cursor, text: &[u8], out: &mut [u8], to: usize) -> After
+    ensures { λ r. ⌜ r .to ≤ length (now (out .entry)) ⌝ }
+{
+    let begun = answer::word(out, to, b"text ");
+    After {
+        c: next,
+        to: answer::quoted(out, begun, text),
+        fits: true,
     }
 }
 
@@ -172,6 +199,7 @@ fn read(s: &[u8], c: Cursor, what: Reading, out: &mut [u8], to: usize) -> After
         Reading::I32 => signed(c, c.read_i32(s), out, to),
         Reading::Packed => number(c, of_word(c.read_int_packed(s)), out, to),
         Reading::Text => text(s, c, out, to),
+        Reading::Name => name(s, c, out, to),
         Reading::Copy(room, n) => copy(s, c, room, n, out, to),
         _ => After {
             c,
@@ -380,32 +408,32 @@ fn over_part(script: &[u8], a: usize, e: usize, out: &mut [u8], run: Run) -> Run
     over(&script[a..e], script, out, run.behind(e))
 }
 
-// The call with a filled blob of n bytes, which is laid out in the memory.
-fn over_memory(
+// The call with a filled blob of n bytes, which is laid out in the room.
+fn over_room(
     script: &[u8],
     a: usize,
     e: usize,
     n: usize,
-    memory: &mut [u8],
+    room: &mut [u8],
     out: &mut [u8],
     run: Run,
 ) -> Run
     requires { ⌜ (a ≤ e) × (e < length (now script)) × (e ≤ a + n) ⌝ }
     ensures { λ r. ⌜ r .to ≤ length (now (out .entry)) ⌝ }
 {
-    if memory.len() < n {
+    if room.len() < n {
         return run.too_large(out);
     }
-    script::lay_out(&mut memory[0..n], &script[a..e], script[e]);
-    over(&memory[0..n], script, out, run.behind(e + 1))
+    script::lay_out(&mut room[0..n], &script[a..e], script[e]);
+    over(&room[0..n], script, out, run.behind(e + 1))
 }
 
-pub fn play(script: &[u8], memory: &mut [u8], out: &mut [u8], run: Run) -> Run
+pub fn play(script: &[u8], room: &mut [u8], out: &mut [u8], run: Run) -> Run
     ensures { λ r. ⌜ r .to ≤ length (now (out .entry)) ⌝ }
 {
     match script::take_blob(script, run.at) {
         Blob::Cut => run.cut(out),
         Blob::Here(a, e) => over_part(script, a, e, out, run),
-        Blob::Filled(a, e, n) => over_memory(script, a, e, n, memory, out, run),
+        Blob::Filled(a, e, n) => over_room(script, a, e, n, room, out, run),
     }
 }

@@ -83,14 +83,6 @@ impl Books {
         books_of(number % 4, self.a, self.b, self.c, self.d)
     }
 
-    // How many bytes the books have together.
-    pub fn used(self, memory: &[u8]) -> usize
-        requires { ⌜ total self ≤ length (now memory) ⌝ }
-        ensures { λ r. ⌜ r ≡ total self ⌝ }
-    {
-        self.a + self.b + self.c + self.d
-    }
-
     pub fn area(self, memory: &[u8]) -> Area
         requires { ⌜ total self ≤ length (now memory) ⌝ }
         ensures { λ r. ⌜ r .from + r .size + r .behind ≡ total self ⌝ }
@@ -119,7 +111,7 @@ impl Books {
 }
 
 // Moves n bytes towards the front. The first are moved first: those that they overwrite are already moved.
-fn move_down(memory: &mut [u8], from: usize, to: usize, n: usize)
+pub fn move_down(memory: &mut [u8], from: usize, to: usize, n: usize)
     requires { ⌜ (from + n ≤ length (now memory)) × (to ≤ from) ⌝ }
 {
     for k in 0..n {

@@ -13,10 +13,7 @@ ghost use lib.ListN.{length};
 ghost use Rattle.vrf_replay.specs.Areas.{total};
 ghost use Rattle.vrf_replay.specs.Places.{BlobIn};
 
-// The most bytes that a text is laid out to. The longest text that a book takes has 4,096.
-const ROOM: usize = 65_536;
-
-fn on_book(book: &mut [u8], call: Call, text: &[u8], out: &mut [u8], run: Run) -> Run
+fn on_book(book: &mut [u8], call: Call, blob: &[u8], out: &mut [u8], run: Run) -> Run
     requires { ⌜ run .to ≤ length (now out) ⌝ }
     ensures { λ r. ⌜ r .to ≤ length (now (out .entry)) ⌝ }
 {
@@ -24,11 +21,11 @@ fn on_book(book: &mut [u8], call: Call, text: &[u8], out: &mut [u8], run: Run) -
         return dump::play(book, groups, slots, guids, out, run);
     }
     let begun = answer::begin(out, run.to, run.call);
-    let said = changes::say(book, call, text, out, begun);
+    let said = changes::say(book, call, blob, out, begun);
     run.ended(out, said)
 }
 
-// A text that stands in the script is lent where it is.
+// A blob that stands in the script is lent where it is.
 fn on_part(
     book: &mut [u8],
     call: Call,
@@ -44,7 +41,7 @@ fn on_part(
     on_book(book, call, &script[a..e], out, run)
 }
 
-// A filled text is laid out in a room that is as long as it is.
+// A filled blob is laid out in a room that is as long as it is.
 fn on_room(
     book: &mut [u8],
     call: Call,
@@ -62,7 +59,6 @@ fn on_room(
     on_book(book, call, room, out, run)
 }
 
-// The room is none of the memory behind the books, which cannot be lent beside a book that may change.
 fn on_filled(
     book: &mut [u8],
     call: Call,
@@ -70,44 +66,54 @@ fn on_filled(
     a: usize,
     e: usize,
     n: usize,
+    room: &mut [u8],
     out: &mut [u8],
     run: Run,
 ) -> Run
     requires { ⌜ (a ≤ e) × (e < length (now script)) × (e ≤ a + n) × (run .to ≤ length (now out)) ⌝ }
     ensures { λ r. ⌜ r .to ≤ length (now (out .entry)) ⌝ }
 {
-    if ROOM < n {
+    if room.len() < n {
         return run.too_large(out);
     }
-    let mut room = [0u8; 65536];
     on_room(book, call, script, a, e, &mut room[0..n], out, run)
 }
 
-fn on_text(book: &mut [u8], call: Call, script: &[u8], text: Blob, out: &mut [u8], run: Run) -> Run
-    requires { ⌜ (BlobIn (length (now script)) text) × (run .to ≤ length (now out)) ⌝ }
+fn on_blob(
+    book: &mut [u8],
+    call: Call,
+    script: &[u8],
+    blob: Blob,
+    room: &mut [u8],
+    out: &mut [u8],
+    run: Run,
+) -> Run
+    requires { ⌜ (BlobIn (length (now script)) blob) × (run .to ≤ length (now out)) ⌝ }
     ensures { λ r. ⌜ r .to ≤ length (now (out .entry)) ⌝ }
 {
-    match text {
+    match blob {
         Blob::Cut => run.cut(out),
         Blob::Here(a, e) => on_part(book, call, script, a, e, out, run),
-        Blob::Filled(a, e, n) => on_filled(book, call, script, a, e, n, out, run),
+        Blob::Filled(a, e, n) => on_filled(book, call, script, a, e, n, room, out, run),
     }
 }
 
 // A call to an unopened book, whatever it is given: only that the script ends within it is told first.
-fn unopened(text: Blob, out: &mut [u8], run: Run) -> Run
+fn unopened(blob: Blob, out: &mut [u8], run: Run) -> Run
     ensures { λ r. ⌜ r .to ≤ length (now (out .entry)) ⌝ }
 {
-    match text {
+    match blob {
         Blob::Cut => run.cut(out),
         _ => run.line(out, b"no book"),
     }
 }
 
+// A call to the current book. Its filled blob is laid out in the room.
 pub fn play(
     script: &[u8],
     code: u8,
     memory: &mut [u8],
+    room: &mut [u8],
     out: &mut [u8],
     run: Run,
     books: Books,
@@ -117,13 +123,28 @@ pub fn play(
 {
     let given = given::take(script, code, run.at);
     let call = given.call;
-    let text = given.text;
+    let blob = given.blob;
     let behind = run.behind(given.next);
     let area = books.area(memory);
     let from = area.from;
     let to = from + area.size;
     if from == to {
-        return unopened(text, out, behind);
+        return unopened(blob, out, behind);
     }
-    on_text(&mut memory[from..to], call, script, text, out, behind)
+    on_blob(&mut memory[from..to], call, script, blob, room, out, behind)
+}
+
+// Reads the last written block into the current book.
+pub fn play_written(memory: &mut [u8], block: &[u8], out: &mut [u8], run: Run, books: Books) -> Run
+    requires { ⌜ (total books ≤ length (now memory)) × (run .to ≤ length (now out)) × (length (now block) ≤ 268435456) ⌝ }
+    ensures { λ r. ⌜ r .to ≤ length (now (out .entry)) ⌝ }
+{
+    let area = books.area(memory);
+    let from = area.from;
+    let to = from + area.size;
+    if from == to {
+        return run.line(out, b"no book");
+    }
+    let bits = 8 * block.len() as u64;
+    on_book(&mut memory[from..to], Call::Block(0, bits), block, out, run)
 }

@@ -14,27 +14,17 @@ fn found(answer: Found, what: &[u8], out: &mut [u8], to: usize) -> usize
     ensures { λ r. ⌜ r ≤ length (now (out .entry)) ⌝ }
 {
     match answer {
-        Found::At(n) => {
-            let said = answer::word(out, to, what);
-            answer::number(out, said, n as u64)
-        }
+        Found::At(n) => answer::labelled(out, to, what, n as u64),
         Found::Absent => answer::word(out, to, b"absent"),
         Found::Refused(r) => answer::refusal(out, to, r),
     }
-}
-
-fn labelled(what: &[u8], n: u64, out: &mut [u8], to: usize) -> usize
-    ensures { λ r. ⌜ r ≤ length (now (out .entry)) ⌝ }
-{
-    let said = answer::word(out, to, what);
-    answer::number(out, said, n)
 }
 
 fn number(what: &[u8], answer: Number, out: &mut [u8], to: usize) -> usize
     ensures { λ r. ⌜ r ≤ length (now (out .entry)) ⌝ }
 {
     match answer {
-        Number::Is(n) => labelled(what, n as u64, out, to),
+        Number::Is(n) => answer::labelled(out, to, what, n as u64),
         Number::Refused(r) => answer::refusal(out, to, r),
     }
 }
@@ -94,11 +84,11 @@ pub fn guid(book: &[u8], place: u32, out: &mut [u8], to: usize) -> usize
 fn all(n: Counters, out: &mut [u8], to: usize) -> usize
     ensures { λ r. ⌜ r ≤ length (now (out .entry)) ⌝ }
 {
-    let schema = labelled(b"counters schema ", n.schema, out, to);
-    let guid = labelled(b" guid ", n.guid, out, schema);
-    let dropped = labelled(b" dropped ", n.dropped, out, guid);
-    let replaced = labelled(b" replaced ", n.replaced, out, dropped);
-    labelled(b" renamed ", n.renamed, out, replaced)
+    let schema = answer::labelled(out, to, b"counters schema ", n.schema);
+    let guid = answer::labelled(out, schema, b" guid ", n.guid);
+    let dropped = answer::labelled(out, guid, b" dropped ", n.dropped);
+    let replaced = answer::labelled(out, dropped, b" replaced ", n.replaced);
+    answer::labelled(out, replaced, b" renamed ", n.renamed)
 }
 
 fn counters(answer: Counted, out: &mut [u8], to: usize) -> usize

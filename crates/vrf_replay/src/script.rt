@@ -27,6 +27,7 @@ pub enum Reading {
     I32,
     Packed,
     Text,
+    Name,
     Copy(u32, u64),
     Sub(u64),
     Up,
@@ -113,7 +114,8 @@ fn copy_in(dst: &mut [u8], src: &[u8])
     }
 }
 
-fn fill_from(dst: &mut [u8], from: usize, b: u8) {
+// Every byte from a place on.
+pub fn fill_from(dst: &mut [u8], from: usize, b: u8) {
     for k in from..dst.len() {
         dst[k] = b;
     }
@@ -157,6 +159,7 @@ fn reading_of(s: &[u8], kind: u8, at: usize) -> Reading
         4 => Reading::I32,
         5 => Reading::Packed,
         6 => Reading::Text,
+        7 => Reading::Name,
         8 => Reading::Copy(word_at(s, at), long_at(s, at + 4)),
         9 => Reading::Sub(long_at(s, at)),
         10 => Reading::Up,

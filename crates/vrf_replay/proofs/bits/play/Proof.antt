@@ -24,8 +24,8 @@ over-part-requires c κs = subst (BlobIn (length (now (c .before .before .before
 enum-known-a-2 : tie.Need-enum-known-a-2
 enum-known-a-2 c = search needs
 
-over-memory-requires : tie.Need-over-memory-requires
-over-memory-requires c κs = subst (BlobIn (length (now (c .before .before .before .before .before .before .before .before .before .args .script)))) (c .before .before .before .a2 .given .1) (c .before .before .before .before .before .take-blob .ensures)
+over-room-requires : tie.Need-over-room-requires
+over-room-requires c κs = subst (BlobIn (length (now (c .before .before .before .before .before .before .before .before .before .args .script)))) (c .before .before .before .a2 .given .1) (c .before .before .before .before .before .take-blob .ensures)
 
 same-length : tie.Need-same-length
 same-length c = search needs
@@ -58,7 +58,7 @@ play-spec =
     enum-known-a
     over-part-requires
     enum-known-a-2
-    over-memory-requires
+    over-room-requires
     same-length
     returns
     same-length-2

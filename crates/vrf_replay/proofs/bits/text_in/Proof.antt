@@ -15,26 +15,20 @@ refused-requires c κs = search needs
 enum-known-n : tie.Need-enum-known-n
 enum-known-n c = search needs
 
-slice-aggregate-word : tie.Need-slice-aggregate-word
-slice-aggregate-word c = search needs
-
-word-requires : tie.Need-word-requires
-word-requires c κs = search needs
-
 cast-k : tie.Need-cast-k
 cast-k c = search needs
 
-sub-quoted : tie.Need-sub-quoted
-sub-quoted c = search needs
+sub-said : tie.Need-sub-said
+sub-said c = search needs
 
-part-quoted-start : tie.Need-part-quoted-start
-part-quoted-start c = search needs
+part-said-start : tie.Need-part-said-start
+part-said-start c = search needs
 
-part-quoted-end : tie.Need-part-quoted-end
-part-quoted-end c = in-room _ _ _ _ _ _ _ (c .before .before .before .before .before .before .before .before .n .given .1) (c .before .before .before .before .before .before .before .before .before .before .before .before .read-fstring .ensures)
+part-said-end : tie.Need-part-said-end
+part-said-end c = in-room _ _ _ _ _ _ _ (c .before .before .n .given .1) (c .before .before .before .before .before .before .read-fstring .ensures)
 
-quoted-requires : tie.Need-quoted-requires
-quoted-requires c κs = search needs
+said-requires : tie.Need-said-requires
+said-requires c κs = search needs
 
 same-length : tie.Need-same-length
 same-length c = search needs
@@ -62,13 +56,11 @@ text-in-spec =
     enum-known-r
     refused-requires
     enum-known-n
-    slice-aggregate-word
-    word-requires
     cast-k
-    sub-quoted
-    part-quoted-start
-    part-quoted-end
-    quoted-requires
+    sub-said
+    part-said-start
+    part-said-end
+    said-requires
     same-length
     same-length-2
     returns

@@ -23,7 +23,8 @@ const CHUNK: usize = 100_000;
 /// what it answers too much.
 const SLACK: usize = 1 << 22;
 
-/// Memory lent to the ported side where nothing asks for more.
+/// Memory lent to the ported side for books where nothing asks for more, and as
+/// much again for windows and blocks.
 pub const MEMORY: usize = 1 << 26;
 
 /// The oracle and the ported code, side by side.
@@ -97,8 +98,6 @@ pub struct Session {
     sides: Sides,
     script: Script,
     calls: u64,
-    /// The ported code has no field names yet: their parts are read instead.
-    names_in_parts: bool,
 }
 
 impl Session {
@@ -107,16 +106,11 @@ impl Session {
             sides: Sides::open(memory)?,
             script: Script::new(),
             calls: 0,
-            names_in_parts: env::var_os("VRF_COMPARE_NO_NAMES").is_some(),
         })
     }
 
     pub fn bits(&mut self, win: &Win<'_>, readings: &[Reading]) -> Result<(), Trouble> {
-        if self.names_in_parts {
-            self.script.bits(win, &in_parts(readings));
-        } else {
-            self.script.bits(win, readings);
-        }
+        self.script.bits(win, readings);
         self.calls += 1;
         if self.script.len() < CHUNK {
             return Ok(());
@@ -141,15 +135,6 @@ impl Session {
         self.script.clear();
         Ok(())
     }
-}
-
-/// A field name read as what it most often consists of.
-fn in_parts(readings: &[Reading]) -> Vec<Reading> {
-    let parts = |reading: &Reading| match reading {
-        Reading::Name => vec![Reading::U8, Reading::Text, Reading::I32],
-        other => vec![*other],
-    };
-    readings.iter().flat_map(parts).collect()
 }
 
 fn count_calls(script: &Script) -> Result<u64, Trouble> {

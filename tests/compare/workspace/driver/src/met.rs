@@ -2,7 +2,7 @@
 //! says nothing about it.
 
 use std::collections::{BTreeMap, BTreeSet};
-use std::fmt;
+use std::fmt::{self, Debug, Write};
 
 use crate::script::{Call, Reading};
 
@@ -15,21 +15,21 @@ const BY_KIND: [u32; 3] = [1, 31, 42];
 #[derive(Default)]
 pub struct Met {
     pub refusals: BTreeMap<Kind, u64>,
-    pub calls: BTreeSet<String>,
+    /// How often each call was made.
+    pub calls: BTreeMap<String, u64>,
     pub readings: BTreeSet<String>,
 }
 
 impl Met {
     pub fn note_call(&mut self, call: &Call<'_>) {
-        self.calls.insert(variant(&format!("{call:?}")));
+        *self.calls.entry(variant(call)).or_default() += 1;
         if let Call::Bits { readings, .. } = call {
             self.note_readings(readings);
         }
     }
 
     fn note_readings(&mut self, readings: &[Reading]) {
-        let shown = readings.iter().map(|reading| format!("{reading:?}"));
-        self.readings.extend(shown.map(|shown| variant(&shown)));
+        self.readings.extend(readings.iter().map(variant));
     }
 
     pub fn note_answers(&mut self, answers: &[u8]) {
@@ -47,9 +47,25 @@ impl Met {
 }
 
 /// A variant's name without what belongs to one of its kind.
-fn variant(shown: &str) -> String {
-    let end = shown.find(['(', ' ']).unwrap_or(shown.len());
-    shown[..end].to_owned()
+fn variant(shown: &impl Debug) -> String {
+    let mut name = Name(String::new());
+    // Ends with an error where the name does: what is behind it may be long.
+    let _ = write!(name, "{shown:?}");
+    name.0
+}
+
+/// Takes what is written up to the first byte that is part of no name.
+struct Name(String);
+
+impl Write for Name {
+    fn write_str(&mut self, text: &str) -> fmt::Result {
+        let end = text.find(['(', ' ']);
+        self.0.push_str(&text[..end.unwrap_or(text.len())]);
+        match end {
+            None => Ok(()),
+            Some(_) => Err(fmt::Error),
+        }
+    }
 }
 
 /// `N refused NUMBER A B`, or `N tally refusal=NUMBER a=A b=B`.
@@ -70,7 +86,11 @@ fn refusal_of(line: &str) -> Option<Kind> {
 
 impl fmt::Display for Met {
     fn fmt(&self, f: &mut fmt::Formatter<'_>) -> fmt::Result {
-        f.write_str("refusals met:")?;
+        f.write_str("calls made:")?;
+        for (call, times) in &self.calls {
+            write!(f, " {call} {times}x")?;
+        }
+        f.write_str("\nrefusals met:")?;
         for ((number, kind), times) in &self.refusals {
             match kind {
                 Some(kind) => write!(f, " {number}({kind}) {times}x")?,

@@ -84,10 +84,11 @@ impl Oracle {
     }
 }
 
-/// Plays scripts with the ported code. The memory is not cleaned between two
-/// scripts: what an earlier one left there must not matter.
+/// Plays scripts with the ported code. Memory and room are not cleaned between
+/// two scripts: what an earlier one left there must not matter.
 pub struct Ported {
     memory: Lent,
+    room: Lent,
     out: Lent,
 }
 
@@ -98,6 +99,7 @@ impl Ported {
         }
         Ok(Ported {
             memory: Lent::new(memory),
+            room: Lent::new(memory),
             out: Lent::new(0),
         })
     }
@@ -106,8 +108,9 @@ impl Ported {
         if self.out.len() < room {
             self.out = Lent::new(room);
         }
-        let len = call_replay(script, &mut self.memory, &mut self.out);
-        if !self.memory.is_intact() || !self.out.is_intact() {
+        let len = call_replay(script, &mut self.memory, &mut self.room, &mut self.out);
+        let lent = [&self.memory, &self.room, &self.out];
+        if !lent.iter().all(|lent| lent.is_intact()) {
             return Err(Trouble::Ported("it wrote behind a lent buffer".into()));
         }
         match usize::try_from(len)
@@ -124,24 +127,28 @@ impl Ported {
 }
 
 #[cfg(has_replay)]
-fn call_replay(script: &[u8], memory: &mut Lent, out: &mut Lent) -> u64 {
+fn call_replay(script: &[u8], memory: &mut Lent, room: &mut Lent, out: &mut Lent) -> u64 {
     unsafe extern "C" {
         fn vrf_replay(
             script: *const u8,
             script_len: usize,
             memory: *mut u8,
             memory_len: usize,
+            room: *mut u8,
+            room_len: usize,
             out: *mut u8,
             out_len: usize,
         ) -> u64;
     }
-    // SAFETY: three separate buffers with their lengths, borrowed for the call.
+    // SAFETY: four separate buffers with their lengths, borrowed for the call.
     unsafe {
         vrf_replay(
             script.as_ptr(),
             script.len(),
             memory.bytes.as_mut_ptr(),
             memory.len(),
+            room.bytes.as_mut_ptr(),
+            room.len(),
             out.bytes.as_mut_ptr(),
             out.len(),
         )
@@ -149,7 +156,7 @@ fn call_replay(script: &[u8], memory: &mut Lent, out: &mut Lent) -> u64 {
 }
 
 #[cfg(not(has_replay))]
-fn call_replay(_: &[u8], _: &mut Lent, _: &mut Lent) -> u64 {
+fn call_replay(_: &[u8], _: &mut Lent, _: &mut Lent, _: &mut Lent) -> u64 {
     unreachable!("a player needs the library")
 }
 

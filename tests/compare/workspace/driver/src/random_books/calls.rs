@@ -6,17 +6,9 @@ use super::{allowances, allowances_beyond, look_at_all};
 use crate::laid::Laid;
 use crate::rng::Rng;
 use crate::script::{Blob, Call, Script};
-use std::env;
-use std::sync::OnceLock;
 
 /// A block without anything in it.
 const EMPTY_BLOCK: u64 = 24;
-
-/// Whether the ported code reads runs, objects and blocks and writes blocks.
-fn has_readers() -> bool {
-    static SAID: OnceLock<bool> = OnceLock::new();
-    *SAID.get_or_init(|| env::var_os("VRF_COMPARE_NO_READERS").is_none())
-}
 
 pub fn script(rng: &mut Rng) -> Script {
     let pool = Pool::new(rng);
@@ -31,7 +23,7 @@ pub fn script(rng: &mut Rng) -> Script {
         allowances,
     });
     // Once something was written, the last written block is no question.
-    let writes = rng.once_in(3) && has_readers();
+    let writes = rng.once_in(3);
     if writes {
         script.call(&Call::Write {
             buffer: EMPTY_BLOCK + rng.below(3),
@@ -144,7 +136,7 @@ pub fn book_call(rng: &mut Rng, pool: &Pool, script: &mut Script) -> bool {
         0..=23 => add(rng, pool, script),
         24..=41 => set_field(rng, pool, script),
         42..=52 => set_guid(rng, pool, script),
-        53..=65 if has_readers() => read(rng, pool, script),
+        53..=65 => read(rng, pool, script),
         66 => script.call(&Call::Clear),
         _ => {
             lookup(rng, pool, script);

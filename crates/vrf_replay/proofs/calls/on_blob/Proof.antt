@@ -4,8 +4,8 @@ use native.Mathlib.Omega.{arith}
 use lib.ListN.{length}
 use Rattle.vrf_replay.specs.Places.{BlobIn}
 use borrow.Author.Needs.{needs}
-use Rattle.vrf_replay.proofs.calls.on_text.Statement.{statement}
-use Rattle.vrf_replay.proofs.calls.on_text.Tie as tie
+use Rattle.vrf_replay.proofs.calls.on_blob.Statement.{statement}
+use Rattle.vrf_replay.proofs.calls.on_blob.Tie as tie
 
 enum-told : tie.Need-enum-told
 enum-told c = search needs
@@ -13,17 +13,17 @@ enum-told c = search needs
 cut-requires : tie.Need-cut-requires
 cut-requires c κs = search needs
 
-enum-known-text : tie.Need-enum-known-text
-enum-known-text c = search needs
+enum-known-blob : tie.Need-enum-known-blob
+enum-known-blob c = search needs
 
 on-part-requires : tie.Need-on-part-requires
-on-part-requires c κs = omega (arith, subst (BlobIn (length (now (c .before .before .before .before .before .before .before .before .args .script)))) (c .before .before .before .text .given .1) (c .before .before .before .before .before .before .before .before .pre .0))
+on-part-requires c κs = omega (arith, subst (BlobIn (length (now (c .before .before .before .before .before .before .before .before .before .args .script)))) (c .before .before .before .blob .given .1) (c .before .before .before .before .before .before .before .before .before .pre .0))
 
-enum-known-text-2 : tie.Need-enum-known-text-2
-enum-known-text-2 c = search needs
+enum-known-blob-2 : tie.Need-enum-known-blob-2
+enum-known-blob-2 c = search needs
 
 on-filled-requires : tie.Need-on-filled-requires
-on-filled-requires c κs = omega (arith, subst (BlobIn (length (now (c .before .before .before .before .before .before .before .before .args .script)))) (c .before .before .before .text2 .given .1) (c .before .before .before .before .before .before .before .before .pre .0))
+on-filled-requires c κs = omega (arith, subst (BlobIn (length (now (c .before .before .before .before .before .before .before .before .before .before .args .script)))) (c .before .before .before .before .blob2 .given .1) (c .before .before .before .before .before .before .before .before .before .before .pre .0))
 
 same-length : tie.Need-same-length
 same-length c = search needs
@@ -46,18 +46,21 @@ same-length-4 c = search needs
 same-length-5 : tie.Need-same-length-5
 same-length-5 c = search needs
 
+same-length-6 : tie.Need-same-length-6
+same-length-6 c = search needs
+
 returns-3 : tie.Need-returns-3
 returns-3 c = search needs
 
-pub on-text-spec : {M : Type 1} → statement M
-on-text-spec =
+pub on-blob-spec : {M : Type 1} → statement M
+on-blob-spec =
     tie.close
     (tie.spec
     enum-told
     cut-requires
-    enum-known-text
+    enum-known-blob
     on-part-requires
-    enum-known-text-2
+    enum-known-blob-2
     on-filled-requires
     same-length
     returns
@@ -66,4 +69,5 @@ on-text-spec =
     returns-2
     same-length-4
     same-length-5
+    same-length-6
     returns-3)
