@@ -1,5 +1,6 @@
 // What tests/compare times beside the Rust: readings in a loop, over a slice that the caller lends. The loops promise that they end
 // and stay in bounds; what each reading answers is promised by the crates below.
+pub mod blocks;
 pub mod book;
 
 use vrf_bitio::Bits;

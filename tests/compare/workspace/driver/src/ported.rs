@@ -204,6 +204,32 @@ pub mod loops {
                 texts: *const u8,
                 texts_len: usize,
             ) -> u64;
+            pub fn bench_read_block(
+                memory: *mut u8,
+                memory_len: usize,
+                guids: u64,
+                groups: u64,
+                fields: u64,
+                text: u64,
+                block: *const u8,
+                block_len: usize,
+                door: bool,
+            ) -> u64;
+            pub fn bench_read_runs(
+                memory: *mut u8,
+                memory_len: usize,
+                runs: *const u8,
+                runs_len: usize,
+                count: u32,
+                door: bool,
+            ) -> u64;
+            pub fn bench_write_block(
+                memory: *const u8,
+                memory_len: usize,
+                out: *mut u8,
+                out_len: usize,
+                door: bool,
+            ) -> u64;
         }
     }
 
@@ -261,6 +287,51 @@ pub mod loops {
                 sheet.len(),
                 texts.as_ptr(),
                 texts.len(),
+            )
+        }
+    }
+
+    /// Opens a book, with a literal for each GUID, and reads a block into it.
+    pub fn read_block(memory: &mut [u8], allowances: [u64; 4], block: &[u8], door: bool) -> u64 {
+        let [guids, groups, fields, text] = allowances;
+        unsafe {
+            c::bench_read_block(
+                memory.as_mut_ptr(),
+                memory.len(),
+                guids,
+                groups,
+                fields,
+                text,
+                block.as_ptr(),
+                block.len(),
+                door,
+            )
+        }
+    }
+
+    /// Reads fields runs, one behind another, into a book that passed its check.
+    pub fn read_runs(memory: &mut [u8], runs: &[u8], count: u32, door: bool) -> u64 {
+        unsafe {
+            c::bench_read_runs(
+                memory.as_mut_ptr(),
+                memory.len(),
+                runs.as_ptr(),
+                runs.len(),
+                count,
+                door,
+            )
+        }
+    }
+
+    /// Writes a book that passed its check.
+    pub fn write_block(memory: &[u8], out: &mut [u8], door: bool) -> u64 {
+        unsafe {
+            c::bench_write_block(
+                memory.as_ptr(),
+                memory.len(),
+                out.as_mut_ptr(),
+                out.len(),
+                door,
             )
         }
     }

@@ -8,6 +8,8 @@
 #[cfg(has_bench)]
 mod bits;
 #[cfg(has_bench)]
+mod blocks;
+#[cfg(has_bench)]
 mod book;
 #[cfg(has_bench)]
 mod race;
@@ -25,8 +27,11 @@ pub fn run(_: Option<&str>) -> Result<(), Trouble> {
 pub fn run(only: Option<&str>) -> Result<(), Trouble> {
     let mut races = bits::races()?;
     let (mut of_books, text) = book::races()?;
+    let (mut of_blocks, bytes) = blocks::races()?;
     races.append(&mut of_books);
+    races.append(&mut of_blocks);
     let races = race::run(races, only)?;
     book::report(&races, text);
+    blocks::report(&races, &bytes);
     Ok(())
 }

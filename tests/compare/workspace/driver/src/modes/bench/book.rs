@@ -11,9 +11,9 @@ use crate::rng::Rng;
 use crate::trouble::Trouble;
 
 /// What a recording's book holds at its end, about.
-const GUIDS: u32 = 12_000;
-const GROUPS: u32 = 543;
-const FIELDS: u32 = 2_900;
+pub const GUIDS: u32 = 12_000;
+pub const GROUPS: u32 = 543;
+pub const FIELDS: u32 = 2_900;
 
 const MANY_GUIDS: u32 = 200_000;
 
@@ -72,11 +72,11 @@ fn keep_the_heap() {
         fn mallopt(parameter: i32, value: i32) -> i32;
     }
     const TRIM_THRESHOLD: i32 = -1;
-    const MMAP_THRESHOLD: i32 = -3;
+    const MMAP_MAX: i32 = -4;
     // SAFETY: the C library's own settings, before any other thread runs.
     unsafe {
         mallopt(TRIM_THRESHOLD, i32::MAX);
-        mallopt(MMAP_THRESHOLD, 1 << 25);
+        mallopt(MMAP_MAX, 0);
     }
 }
 
@@ -115,7 +115,7 @@ fn fillings(rng: &mut Rng) -> Result<Vec<Race>, Trouble> {
         ),
         (
             format!("add_{GROUPS}_groups_{FIELDS}_fields"),
-            groups(rng).sheet,
+            groups(rng, GROUPS, FIELDS).sheet,
         ),
     ];
     cases
@@ -136,7 +136,7 @@ fn fillings(rng: &mut Rng) -> Result<Vec<Race>, Trouble> {
 }
 
 /// GUIDs as a server gives them: rising, with gaps.
-fn rising(rng: &mut Rng, last: u32) -> u32 {
+pub fn rising(rng: &mut Rng, last: u32) -> u32 {
     last + 1 + rng.below(3) as u32
 }
 
@@ -147,7 +147,7 @@ fn anything(rng: &mut Rng, last: u32) -> u32 {
 }
 
 /// Settings of distinct GUIDs. Every path is its own, and most have an outer.
-fn guids(rng: &mut Rng, count: u32, next: fn(&mut Rng, u32) -> u32) -> Sheet {
+pub fn guids(rng: &mut Rng, count: u32, next: fn(&mut Rng, u32) -> u32) -> Sheet {
     let mut sheet = Sheet::default();
     let mut seen = vec![0];
     for number in 0..count {
@@ -182,24 +182,25 @@ fn object_path(rng: &mut Rng, number: u32) -> String {
 }
 
 /// The groups of a recording, each followed by its fields.
-struct Groups {
-    sheet: Sheet,
+pub struct Groups {
+    pub sheet: Sheet,
     paths: Vec<String>,
     /// Bare names of classes, and of those whose ClassNetCache is a group.
     classes: Vec<String>,
     cached: Vec<String>,
 }
 
-fn groups(rng: &mut Rng) -> Groups {
+pub fn groups(rng: &mut Rng, count: u32, filled: u32) -> Groups {
     let mut made = Groups {
         sheet: Sheet::default(),
         paths: Vec::new(),
         classes: Vec::new(),
         cached: Vec::new(),
     };
-    for index in 0..GROUPS {
-        // Evenly, so that there are as many as asked for in the end.
-        let fields = FIELDS * (index + 1) / GROUPS - FIELDS * index / GROUPS;
+    // Evenly, so that there are as many as asked for in the end.
+    let before = |index: u32| (u64::from(filled) * u64::from(index) / u64::from(count)) as u32;
+    for index in 0..count {
+        let fields = before(index + 1) - before(index);
         let slots = fields + rng.below(3) as u32;
         let is_cache = index % 2 == 1;
         let name = class_name(rng, index);
@@ -221,7 +222,7 @@ fn groups(rng: &mut Rng) -> Groups {
     made
 }
 
-fn class_name(rng: &mut Rng, number: u32) -> String {
+pub fn class_name(rng: &mut Rng, number: u32) -> String {
     let words = [
         "Bomb",
         "Window",
@@ -239,7 +240,7 @@ fn class_name(rng: &mut Rng, number: u32) -> String {
 }
 
 /// A class or a ClassNetCache, in one of the spellings that classes have.
-fn group_path(rng: &mut Rng, name: &str, is_cache: bool) -> String {
+pub fn group_path(rng: &mut Rng, name: &str, is_cache: bool) -> String {
     let suffix = if is_cache { "_ClassNetCache" } else { "" };
     match rng.below(6) {
         0 | 1 => format!("/Script/ShooterGame.{name}Component{suffix}"),
@@ -250,7 +251,7 @@ fn group_path(rng: &mut Rng, name: &str, is_cache: bool) -> String {
     }
 }
 
-fn field_name(rng: &mut Rng) -> String {
+pub fn field_name(rng: &mut Rng) -> String {
     let words = [
         "Replicated",
         "Movement",
@@ -351,7 +352,7 @@ fn of_groups(rng: &mut Rng) -> Result<Vec<Race>, Trouble> {
         paths,
         classes,
         cached,
-    } = groups(rng);
+    } = groups(rng, GROUPS, FIELDS);
     let book = Book::of(&sheet)?;
     let any =
         |rng: &mut Rng, texts: &[String]| texts[rng.below(texts.len() as u64) as usize].clone();

@@ -10,6 +10,11 @@ use crate::trouble::Trouble;
 
 const ROUNDS: u32 = 100;
 
+/// A case that takes long has fewer turns: it stops when it has had this much
+/// time, but not before it had some turns.
+const SPENT: Duration = Duration::from_secs(8);
+const FEWEST: u32 = 7;
+
 /// A turn repeats its loop until it takes about this long: short, so that many
 /// turns are undisturbed.
 const TURN: Duration = Duration::from_millis(1);
@@ -45,7 +50,43 @@ impl From<u64> for Outcome {
     }
 }
 
-type Loop = Box<dyn FnMut() -> Outcome>;
+/// Runs a loop once: how long it took, and what it sums.
+type Loop = Box<dyn FnMut() -> (Duration, u64)>;
+
+/// How long this thread has run. A turn that other work interrupts is not
+/// charged for it.
+fn processor_time() -> Duration {
+    #[repr(C)]
+    struct Time {
+        seconds: i64,
+        nanoseconds: i64,
+    }
+    unsafe extern "C" {
+        fn clock_gettime(clock: i32, time: *mut Time) -> i32;
+    }
+    const OF_THIS_THREAD: i32 = 3;
+    let mut time = Time {
+        seconds: 0,
+        nanoseconds: 0,
+    };
+    // SAFETY: the C library's clock writes one time, laid out as above.
+    unsafe { clock_gettime(OF_THIS_THREAD, &mut time) };
+    Duration::new(time.seconds as u64, time.nanoseconds as u32)
+}
+
+/// A loop over something that is made anew for every turn, outside its time.
+fn timed<S: 'static, R: Into<Outcome>>(
+    mut ready: impl FnMut() -> S + 'static,
+    mut run: impl FnMut(&mut S) -> R + 'static,
+) -> Loop {
+    Box::new(move || {
+        let mut over = ready();
+        let start = processor_time();
+        let outcome = black_box(run(&mut over));
+        let took = processor_time() - start;
+        (took, outcome.into().sum)
+    })
+}
 
 /// The two loops of a case, and the best time of each so far.
 pub struct Race {
@@ -53,6 +94,8 @@ pub struct Race {
     rust: Loop,
     port: Loop,
     repeats: u32,
+    turns: u32,
+    spent: Duration,
     rust_best: Duration,
     port_best: Duration,
 }
@@ -63,11 +106,33 @@ impl Race {
         mut rust: impl FnMut() -> R + 'static,
         mut port: impl FnMut() -> u64 + 'static,
     ) -> Self {
+        let nothing = || ();
+        Self::over(
+            name,
+            (nothing, move |_: &mut ()| rust()),
+            (nothing, move |_: &mut ()| port()),
+        )
+    }
+
+    /// Each loop runs over something that is made before its time begins.
+    pub fn over<S: 'static, T: 'static, R: Into<Outcome>>(
+        name: impl Into<String>,
+        rust: (
+            impl FnMut() -> S + 'static,
+            impl FnMut(&mut S) -> R + 'static,
+        ),
+        port: (
+            impl FnMut() -> T + 'static,
+            impl FnMut(&mut T) -> u64 + 'static,
+        ),
+    ) -> Self {
         Race {
             name: name.into(),
-            rust: Box::new(move || rust().into()),
-            port: Box::new(move || port().into()),
+            rust: timed(rust.0, rust.1),
+            port: timed(port.0, port.1),
             repeats: 1,
+            turns: 0,
+            spent: Duration::ZERO,
             rust_best: Duration::MAX,
             port_best: Duration::MAX,
         }
@@ -75,7 +140,7 @@ impl Race {
 
     /// Times are worth nothing unless both sides sum the same.
     fn prepare(&mut self) -> Result<(), Trouble> {
-        let (due, got) = ((self.rust)().sum, (self.port)().sum);
+        let (due, got) = ((self.rust)().1, (self.port)().1);
         if due != got {
             let text = format!("{}: the original sums {due}, the port {got}", self.name);
             return Err(Trouble::Wrong(text));
@@ -87,8 +152,14 @@ impl Race {
     }
 
     fn turn(&mut self) {
+        if self.turns >= FEWEST && self.spent > SPENT {
+            return;
+        }
+        let start = Instant::now();
         self.rust_best = self.rust_best.min(time(self.repeats, &mut self.rust));
         self.port_best = self.port_best.min(time(self.repeats, &mut self.port));
+        self.spent += start.elapsed();
+        self.turns += 1;
     }
 
     fn ratio(&self) -> f64 {
@@ -103,14 +174,7 @@ impl Race {
 }
 
 fn time(repeats: u32, run: &mut Loop) -> Duration {
-    let mut total = Duration::ZERO;
-    for _ in 0..repeats {
-        let start = Instant::now();
-        let outcome = black_box(run());
-        total += start.elapsed();
-        drop(outcome);
-    }
-    total
+    (0..repeats).map(|_| run().0).sum()
 }
 
 /// The same value twice, for the two loops of a case.
