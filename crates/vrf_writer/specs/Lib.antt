@@ -2,6 +2,7 @@
 pub mod Puts
 pub mod PutsLaws
 -- numbers and texts
+pub mod Copies
 pub mod NumberPuts
 -- lists, one element after the other
 pub mod EachPuts
