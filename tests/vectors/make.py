@@ -1,7 +1,7 @@
 #!/usr/bin/env python3
-"""Builds a script (see docs/SCRIPTS.md) and the answers expected of it from a list of vectors that a person can read.
+"""Builds a script (see docs/SCRIPTS.md) and the answers expected of it from lists of vectors that a person can read.
 
-    make.py vectors.txt SCRIPT ANSWERS
+    make.py SCRIPT ANSWERS LIST...
 
 A vector is a window and the readings made in it, one below the other:
 
@@ -9,9 +9,17 @@ A vector is a window and the readings made in it, one below the other:
     window shifted : BYTES            eight calls, the bytes moved up by 0 to 7 bits, the window beginning at that bit
       READING ARGUMENTS = ANSWER      the answer as the document gives it, with the position after it
 
-In BYTES, `utf8 <..>` stands for a text's length word and bytes with no zero byte, `utf16 <..>` for the same with a negative length,
-`word N` for a 32-bit word, and `N x BB` for a byte repeated. Everything to the right of `=` is what the answers must be; nothing
-here computes it.
+or another call, with its numbers in the order of docs/SCRIPTS.md and its blob, if it has one, behind them:
+
+    CALL NUMBERS : BYTES = ANSWER     numbers of a window: none for the whole, `at K` for the bytes moved up by K bits, or first bit and
+                                      bit count
+      = ANSWER                        a further line of the same answer
+      holds BYTES                     what stands at the front of the buffer after a writing; the rest is as it was lent
+
+In BYTES, `"..."` stands for its characters, `utf8 <..>` for a text's length word and bytes with no zero byte, `utf16 <..>` for the same
+with a negative length, `text "..."` for a text as the writer sends it, `packed N` for a packed number in the fewest bytes, `word N` for a
+32-bit word, and `N x BB` for a byte repeated. Everything to the right of `=` is what the answers must be; nothing here computes it, but for
+the sum over a buffer, whose bytes are given.
 """
 import re
 import struct
@@ -21,10 +29,31 @@ READINGS = {
     "bit": 0, "bits": 1, "u8": 2, "u32": 3, "i32": 4, "packed": 5, "text": 6, "name": 7, "copy": 8, "sub": 9, "up": 10,
 }
 
+# The byte of each call, and what it is given: a number by its letter, a blob by `b`, a window by `w`.
+CALLS = {
+    "open": (0x01, "BQQQQQ"), "use": (0x02, "B"), "clear": (0x03, ""),
+    "add": (0x04, "bII"), "field": (0x05, "IIIb"), "guid": (0x06, "IbI"),
+    "fields": (0x10, "w"), "guids": (0x11, "w"), "object": (0x12, "wBI"), "block": (0x13, "w"),
+    "write": (0x14, "Q"), "written": (0x15, ""),
+    "by_index": (0x20, "I"), "by_path": (0x21, "b"), "by_guid": (0x22, "I"), "outer_guid": (0x23, "I"), "outer_path": (0x24, "I"),
+    "tag": (0x25, "I"), "checksum": (0x26, "II"), "group_at": (0x27, "I"), "name_at": (0x28, "II"), "path_at": (0x29, "I"),
+    "leaf": (0x2A, "b"), "instance": (0x2B, "b"), "class_net_cache": (0x2C, "b"),
+    "counters": (0x2D, ""), "dump": (0x2E, "III"), "tally": (0x31, "b"),
+}
+
+
+def packed(n):
+    out = bytearray()
+    while True:
+        out.append((n & 0x7F) << 1 | (n > 0x7F))
+        n >>= 7
+        if not n:
+            return bytes(out)
+
 
 def data_of(text):
     out = bytearray()
-    words = text.replace("<", " < ").replace(">", " > ").split()
+    words = re.findall(r'"[^"]*"|[<>]|[^\s<>"]+', text)
     k = 0
     while k < len(words):
         w = words[k]
@@ -34,12 +63,22 @@ def data_of(text):
             n = len(inner) if w == "utf8" else -(len(inner) // 2)
             out += struct.pack("<i", n) + inner
             k = end + 1
+        elif w == "text":
+            inner = data_of(words[k + 1])
+            out += struct.pack("<I", len(inner) + 1) + inner + b"\0" if inner else struct.pack("<I", 0)
+            k += 2
+        elif w == "packed":
+            out += packed(int(words[k + 1]))
+            k += 2
         elif w == "word":
             out += struct.pack("<I", int(words[k + 1]) % 2 ** 32)
             k += 2
         elif k + 2 < len(words) and words[k + 1] == "x":
             out += bytes([int(words[k + 2], 16)]) * int(w)
             k += 3
+        elif w.startswith('"'):
+            out += w[1:-1].encode("ascii")
+            k += 1
         else:
             out.append(int(w, 16))
             k += 1
@@ -59,10 +98,13 @@ def blob(data):
     return struct.pack("<II", 2 ** 31 + len(data), head) + data[:head] + data[-1:]
 
 
+def window(data, first, count):
+    return blob(data) + struct.pack("<QQ", first, count)
+
+
 def reading(line):
     name, *args = line.split()
-    kind = READINGS[name]
-    out = bytes([kind])
+    out = bytes([READINGS[name]])
     if name == "bits":
         out += struct.pack("<I", int(args[0]))
     elif name == "copy":
@@ -72,43 +114,110 @@ def reading(line):
     return out
 
 
+def windows_of(numbers, data):
+    """The windows of a call, as (bytes, first, count); the numbers that are not theirs are left in the list."""
+    if numbers[:1] == ["shifted"]:
+        del numbers[0]
+        return [(moved(data, k), k, len(data) * 8) for k in range(8)]
+    if numbers[:1] == ["at"]:
+        k = int(numbers[1])
+        del numbers[:2]
+        return [(moved(data, k), k, len(data) * 8)]
+    if numbers[1:2]:
+        first, count = int(numbers[0]), numbers[1]
+        del numbers[:2]
+        return [(data, first, len(data) * 8 - first if count == "all" else int(count))]
+    return [(data, 0, len(data) * 8)]
+
+
+def call(name, numbers, data):
+    """A call but `bits`. The numbers of a window come first in the list, whatever comes first in the script."""
+    code, given = CALLS[name]
+    out = bytes([code])
+    if "w" in given:
+        mine = len(given) - 1
+        own, numbers = (numbers[:-mine], numbers[-mine:]) if mine else (numbers, [])
+        ((data, first, count),) = windows_of(own, data)
+    for kind in given:
+        if kind == "w":
+            out += window(data, first, count)
+        elif kind == "b":
+            out += blob(data)
+        else:
+            out += struct.pack("<" + kind, int(numbers.pop(0)))
+    return out
+
+
+def fnv(data):
+    """FNV-1a of 64 bits."""
+    total = 0xCBF29CE484222325
+    for byte in data:
+        total = (total ^ byte) * 0x100000001B3 % 2 ** 64
+    return total
+
+
+class Vector:
+    """One of the list's calls: its lines, first the call's own, then what stands below it."""
+
+    def __init__(self, line):
+        head, _, self.answer = line.partition("=")
+        head, _, bytes_ = head.partition(":")
+        self.name, *self.numbers = head.split()
+        self.data = data_of(bytes_)
+        self.answer = self.answer.strip()
+        self.readings, self.further, self.holds = [], [], b""
+
+    def add(self, line):
+        if line.startswith("="):
+            self.further.append(line[1:].strip())
+        elif line.startswith("holds "):
+            self.holds = data_of(line[len("holds "):])
+        else:
+            made, _, answer = line.partition("=")
+            self.readings.append((reading(made.strip()), answer.strip()))
+
+    def calls(self):
+        """Yields each call as bytes, with the lines of its answer."""
+        if self.name == "window":
+            opened = self.answer or "window"
+            lines = [opened] + ([answer for _, answer in self.readings] if opened == "window" else [])
+            for data, first, count in windows_of(self.numbers, self.data):
+                made = b"".join(code for code, _ in self.readings)
+                yield b"\x30" + window(data, first, count) + struct.pack("<I", len(self.readings)) + made, lines
+            return
+        lines = ([self.answer] if self.answer else []) + self.further
+        if self.name == "write":
+            room = int(self.numbers[0])
+            if lines[0] != "no book":
+                lines[0] += f" fnv {fnv(self.holds.ljust(room, bytes([0xA5]))):016x}"
+        yield call(self.name, list(self.numbers), self.data), lines
+
+
 def vectors(lines):
-    """Yields (windows, readings): each window is (bytes, first, count), each reading (encoded, answer)."""
     current = None
     for line in lines:
         line = line.rstrip("\n")
         if not line.strip() or line.lstrip().startswith("#"):
             continue
-        if line.startswith("window"):
-            if current:
-                yield current
-            head, _, rest = line[len("window"):].partition(":")
-            data = data_of(rest.partition("=")[0])
-            answer = rest.partition("=")[2].strip() or "window"
-            if head.strip() == "shifted":
-                windows = [(moved(data, k), k, len(data) * 8) for k in range(8)]
-            else:
-                first, count = head.split()
-                windows = [(data, int(first), len(data) * 8 - int(first) if count == "all" else int(count))]
-            current = (windows, answer, [])
-        else:
-            call, _, answer = line.partition("=")
-            current[2].append((reading(call.strip()), answer.strip()))
+        if line.startswith(" "):
+            current.add(line.strip())
+            continue
+        if current:
+            yield current
+        current = Vector(line)
     if current:
         yield current
 
 
 def main():
-    source, script_path, answers_path = sys.argv[1:4]
+    script_path, answers_path, *sources = sys.argv[1:]
     script, answers, number = bytearray(b"VJS1"), [], 0
-    for windows, opened, readings in vectors(open(source, encoding="ascii")):
-        for data, first, count in windows:
-            script += b"\x30" + blob(data) + struct.pack("<QQ", first, count)
-            script += struct.pack("<I", len(readings)) + b"".join(code for code, _ in readings)
-            answers.append(f"{number} {opened}")
-            if opened == "window":
-                answers += [f"{number} {answer}" for _, answer in readings]
-            number += 1
+    for source in sources:
+        for vector in vectors(open(source, encoding="ascii")):
+            for made, lines in vector.calls():
+                script += made
+                answers += [f"{number} {line}" for line in lines]
+                number += 1
     open(script_path, "wb").write(script)
     open(answers_path, "w", encoding="ascii").write("".join(a + "\n" for a in answers))
 

@@ -11,6 +11,7 @@ pub mod given;
 pub mod lookups;
 pub mod run;
 pub mod script;
+pub mod tallies;
 pub mod windows;
 
 use blocks::Kept;
@@ -69,6 +70,7 @@ fn play_still(
         }
         0x15 => calls::play_written(memory, &room[0..kept], out, run, books),
         0x30 => bits::play(script, &mut room[kept..], out, run),
+        0x31 => tallies::play(script, &mut room[kept..], out, run),
         _ => run.last(out, b"no such call"),
     }
 }

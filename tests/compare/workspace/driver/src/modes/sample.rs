@@ -30,12 +30,18 @@ const RANDOM_ANSWERS: usize = 30_000;
 const TRIES: u64 = 30;
 
 pub fn run(seed: u64, folder: &str) -> Result<(), Trouble> {
+    let mut all = Script::new();
     for sample in samples(seed)? {
-        let answers = oracle::play(sample.script.as_bytes(), Vec::new())?;
-        write(folder, &sample.name, "vjs", sample.script.as_bytes())?;
-        write(folder, &sample.name, "txt", &answers)?;
+        all.append(&sample.script);
+        store(folder, &sample.name, &sample.script)?;
     }
-    Ok(())
+    store(folder, "all", &all)
+}
+
+fn store(folder: &str, name: &str, script: &Script) -> Result<(), Trouble> {
+    let answers = oracle::play(script.as_bytes(), Vec::new())?;
+    write(folder, name, "vjs", script.as_bytes())?;
+    write(folder, name, "txt", &answers)
 }
 
 fn write(folder: &str, name: &str, ending: &str, bytes: &[u8]) -> Result<(), Trouble> {
@@ -48,7 +54,7 @@ fn write(folder: &str, name: &str, ending: &str, bytes: &[u8]) -> Result<(), Tro
 pub fn samples(seed: u64) -> Result<Vec<Sample>, Trouble> {
     let mut samples = bits_samples(seed);
     samples.extend(scenes::themes().iter().map(of_theme));
-    for nth in 1..=3 {
+    for nth in 1..=5 {
         let seed = seed.wrapping_add(nth);
         samples.push(random_books(
             format!("calls-random-{nth}"),
