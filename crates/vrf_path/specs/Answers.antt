@@ -5,6 +5,7 @@ use mathlib.Core.List.{List, [], _∷_, _++_}
 use mathlib.Core.Option.{Option, none, some, Option·getD}
 use Prim.Native.Nat.{ℕ, _+_, _<_, _≤_}
 use lib.ListN.{length, take, drop}
+use Rattle.vrf_path.specs.Text.{same}
 use Rattle.vrf_path.specs.Keys.{defaultPrefix, charactersCore}
 use Rattle.vrf_path.specs.Leaf.{leaf}
 use Rattle.vrf_path.specs.Toggle.{classNetCache, toggle}
@@ -26,6 +27,11 @@ use Rattle.vrf_path.specs.declared.Stem.the-variants.{At as StemAt, End}
 abbrev pub place : Found → Option ℕ
 place (FoundAt i) = some i
 place Nowhere = none
+
+-- what a comparison of parts of two texts tells: that the texts differ, or else P, which says that these parts agree
+abbrev pub Differ : List ℕ → List ℕ → Type 0 → Bool → Type 0
+Differ s t P true = same s t ≡ false
+Differ s t P false = P
 
 -- the key of the path t that is spelled so
 abbrev pub spelled : List ℕ → Key → Option (List ℕ)

@@ -1,8 +1,9 @@
 -- Document 01, The book: a leaf is the non-empty text after a path's last dot.
+use mathlib.Core.Path.{_≡_}
 use mathlib.Core.List.{List}
 use mathlib.Core.Option.{Option, none, some}
 use Prim.Native.Nat.{ℕ, _+_}
-use lib.ListN.{length, drop}
+use lib.ListN.{length, getD, drop}
 use Rattle.vrf_path.specs.Text.{lastBelow, nonEmpty}
 
 -- what stands behind the dot at place i
@@ -13,3 +14,7 @@ leafAfter t (some i) = nonEmpty (drop (i + 1) t)
 -- `.` is 46
 unfoldable pub leaf : List ℕ → Option (List ℕ)
 leaf t = leafAfter t (lastBelow 46 t (length t))
+
+-- no byte is a dot; of a leaf none is
+abbrev pub Dotless : List ℕ → Type 0
+Dotless t = (i : ℕ) → getD t i 0 ≡ 46 → ⊥

@@ -6,7 +6,7 @@ use mathlib.Core.Option.{none, some}
 use Prim.Native.Nat.{ℕ, zero, suc, _+_, _-_, _*_, _^_, _<_, _≤_}
 use native.Mathlib.Numerals.{add-one}
 use native.Mathlib.Omega.{arith}
-use borrow.Author.Tests.{eq-eqb, ne-eqb, eqb-true, eqb-false}
+use borrow.Author.Tests.{eq-eqb, ne-eqb, eqb-true}
 use lib.Dec.{eqb}
 use lib.ListN.{length, getD, take, drop, length-take, length-drop, drop-of-length-le}
 use lib.Seq.{drop-cons, drop-drop}
@@ -54,6 +54,15 @@ pub same-ended : (s t : List ℕ) (i : ℕ) → length s ≤ i → length t ≤ 
 unfolding same
 same-ended s t i hs ht = rw (drop-of-length-le s hs, drop-of-length-le t ht)
 
+-- texts that agree from one place on agree from any later one on
+pub agree-later : (s t : List ℕ) (p i : ℕ) → p ≤ i → same (drop p s) (drop p t) ≡ true → same (drop i s) (drop i t) ≡ true
+agree-later s t p i h e =
+    let tails : drop p s ≡ drop p t = same-true (drop p s) (drop p t) e in
+    let behind : p + (i - p) ≡ i = omega arith in
+    let from : (u : List ℕ) → drop (i - p) (drop p u) ≡ drop i u = λ u. drop-drop (i - p) p u ∙ ap (λ (k : ℕ). drop k u) behind in
+    let all : drop i s ≡ drop i t = sym (from s) ∙ ap (drop (i - p)) tails ∙ from t in
+    ap (λ (u : List ℕ). same u (drop i t)) all ∙ same-refl (drop i t)
+
 -- numbers are the same only if their low bytes are, and what is above these
 low-byte : (a b x y : ℕ) → a < 256 → b < 256 → a + 256 * x ≡ b + 256 * y → (a ≡ b) × (x ≡ y)
 low-byte a b x y ha hb e = (omega arith, omega arith)
@@ -94,22 +103,25 @@ module _ (s t : List ℕ) (bs : (i : ℕ) → getD s i 0 < 256) (bt : (i : ℕ) 
       let e8 : i + 4 + 4 ≡ i + 8 = omega arith in
       agree-four i (omega arith) (omega arith) (omega arith) ∙ rw e8 at (agree-four (i + 4) (omega arith) (omega arith) (omega arith))
 
-  -- from a place among the last eight bytes on, if these agree
-  agree-last : (i last : ℕ) → last + 8 ≡ length s → last + 8 ≡ length t → last ≤ i → eight s last ≡ eight t last → same (drop i s) (drop i t) ≡ true
-  agree-last i last hs ht h e =
-      let tails : drop last s ≡ drop last t = same-true (drop last s) (drop last t) (agree-eight last (omega arith) (omega arith) e ∙ same-ended s t (last + 8) (omega arith) (omega arith)) in
-      let behind : last + (i - last) ≡ i = omega arith in
-      let from : (u : List ℕ) → drop (i - last) (drop last u) ≡ drop i u = λ u. drop-drop (i - last) last u ∙ ap (λ (k : ℕ). drop k u) behind in
-      let all : drop i s ≡ drop i t = sym (from s) ∙ ap (drop (i - last)) tails ∙ from t in
-      ap (λ (u : List ℕ). same u (drop i t)) all ∙ same-refl (drop i t)
+  -- 32 bytes
+  pub agree-words : (i : ℕ) → i + 32 ≤ length s → i + 32 ≤ length t → eight s i ≡ eight t i → eight s (i + 8) ≡ eight t (i + 8) → eight s (i + 16) ≡ eight t (i + 16) → eight s (i + 24) ≡ eight t (i + 24)
+      → same (drop i s) (drop i t) ≡ same (drop (i + 32) s) (drop (i + 32) t)
+  agree-words i hs ht e0 e1 e2 e3 =
+      let w2 : i + 8 + 8 ≡ i + 16 = omega arith in
+      let w3 : i + 16 + 8 ≡ i + 24 = omega arith in
+      let w4 : i + 24 + 8 ≡ i + 32 = omega arith in
+      agree-eight i (omega arith) (omega arith) e0
+      ∙ rw w2 at (agree-eight (i + 8) (omega arith) (omega arith) e1)
+      ∙ rw w3 at (agree-eight (i + 16) (omega arith) (omega arith) e2)
+      ∙ rw w4 at (agree-eight (i + 24) (omega arith) (omega arith) e3)
 
-  -- the last eight bytes decide where all before such a place agree
-  pub last-decides : (i last : ℕ) → last + 8 ≡ length s → last + 8 ≡ length t → last ≤ i → same s t ≡ same (drop i s) (drop i t) → eqb (eight s last) (eight t last) ≡ same s t
-  last-decides i last hs ht h before = by (eqb (eight s last) (eight t last)) refl
-    where
-      by : (x : Bool) → eqb (eight s last) (eight t last) ≡ x → x ≡ same s t
-      by true e = sym (before ∙ agree-last i last hs ht h (eqb-true (eight s last) (eight t last) e))
-      by false e = sym (differ-eight s t last (eqb-false (eight s last) (eight t last) e))
+  -- eight bytes at q that agree, where all from p on do, and p is not behind them
+  pub agree-before : (p q : ℕ) → p ≤ q + 8 → q + 8 ≤ length s → q + 8 ≤ length t → eight s q ≡ eight t q → same (drop p s) (drop p t) ≡ true → same (drop q s) (drop q t) ≡ true
+  agree-before p q h hs ht e tail = agree-eight q hs ht e ∙ agree-later s t p (q + 8) h tail
+
+-- the end of two texts decides where all before a place in it agree
+pub end-decides : (s t : List ℕ) (p i : ℕ) → p ≤ i → same s t ≡ same (drop i s) (drop i t) → same (drop p s) (drop p t) ≡ true → same s t ≡ true
+end-decides s t p i h before e = before ∙ agree-later s t p i h e
 
 -- a text shorter than p neither starts nor ends with it
 pub starts-short : (p t : List ℕ) → length t < length p → startsWith p t ≡ false
@@ -123,6 +135,12 @@ ends-short p t h = same-lengths (drop (length t - length p) t) p (rw length-drop
 pub starts-length : (p t : List ℕ) → startsWith p t ≡ true → length p ≤ length t
 unfolding startsWith
 starts-length p t e = omega (arith, rw length-take at (ap length (same-true (take (length p) t) p e)))
+
+-- nor does one whose first byte is another
+pub starts-other : (p t : List ℕ) (i : ℕ) → 0 < length p → i < length t → (getD t i 0 ≡ getD p 0 0 → ⊥) → startsWith p (drop i t) ≡ false
+unfolding startsWith same
+starts-other [] t i h k ne = absurd (omega arith)
+starts-other (q ∷ p) t i h k ne = rw (drop-cons t i 0 k, ne-eqb (getD t i 0) q ne)
 
 -- the search for p, from a place on
 module _ (p t : List ℕ) (i : ℕ) where

@@ -1,12 +1,14 @@
 // Path keys, leaves and stems of document 01. Names follow path.rs and resolve.rs.
 ghost use mathlib.Core.Path.{_≡_};
+ghost use mathlib.Core.Bool.{true};
 ghost use Prim.Native.Nat.{_+_, _-_, _^_, _<_, _≤_};
-ghost use lib.ListN.{length, getD};
+ghost use lib.ListN.{length, getD, drop};
 ghost use Rattle.vrf_path.specs.Text.{same, four, eight, startsWith, endsWith, firstFrom, lastBelow};
 ghost use Rattle.vrf_path.specs.Keys.{isSeparator, hasSeparator, defaultAlias, coreAlias, hasKey, isThe};
 ghost use Rattle.vrf_path.specs.Stems.{isDigit, isCapital, digitsFrom, digitStems, capitalStems, stems};
 ghost use Rattle.vrf_path.specs.Answers.{
   place,
+  Differ,
   spelled,
   keyBytes,
   absent,
@@ -102,20 +104,66 @@ fn same_bytes(a: &[u8], b: &[u8]) -> bool
     true
 }
 
-// Whether two texts of one length, at least eight bytes, are the same: eight bytes a turn, and then the last eight.
+// Whether eight bytes of two texts, from i on, differ.
+fn eight_differ(a: &[u8], b: &[u8], i: usize) -> bool
+    requires { ⌜ (i + 8 ≤ length (now a)) × (i + 8 ≤ length (now b)) ⌝ }
+    ensures { λ r. ⌜ Differ (now (a .entry)) (now (b .entry)) (eight (now (a .entry)) i ≡ eight (now (b .entry)) i) r ⌝ }
+{
+    eight(a, i) != eight(b, i)
+}
+
+// Whether 32 bytes of two texts, from i on, differ.
+fn four_differ(a: &[u8], b: &[u8], i: usize) -> bool
+    requires { ⌜ (i + 32 ≤ length (now a)) × (i + 32 ≤ length (now b)) ⌝ }
+    ensures { λ r. ⌜ Differ (now (a .entry)) (now (b .entry)) (same (drop i (now (a .entry))) (drop i (now (b .entry))) ≡ same (drop (i + 32) (now (a .entry))) (drop (i + 32) (now (b .entry)))) r ⌝ }
+{
+    if eight_differ(a, b, i) {
+        return true;
+    }
+    if eight_differ(a, b, i + 8) {
+        return true;
+    }
+    if eight_differ(a, b, i + 16) {
+        return true;
+    }
+    eight_differ(a, b, i + 24)
+}
+
+// Whether the last 32 bytes of two texts of one length differ, or all if there are fewer: four words, which then overlap.
+fn last_differ(a: &[u8], b: &[u8]) -> bool
+    requires { ⌜ (length (now a) ≡ length (now b)) × (8 ≤ length (now a)) ⌝ }
+    ensures { λ r. ⌜ Differ (now (a .entry)) (now (b .entry)) (same (drop (length (now (a .entry)) - 32) (now (a .entry))) (drop (length (now (a .entry)) - 32) (now (b .entry))) ≡ true) r ⌝ }
+{
+    let n = a.len();
+    if eight_differ(a, b, n - 8) {
+        return true;
+    }
+    if eight_differ(a, b, left(n, 16)) {
+        return true;
+    }
+    if eight_differ(a, b, left(n, 24)) {
+        return true;
+    }
+    eight_differ(a, b, left(n, 32))
+}
+
+// Whether two texts of one length, at least eight bytes, are the same: 32 bytes a turn, and then the last 32.
 fn same_words(a: &[u8], b: &[u8]) -> bool
     requires { ⌜ (length (now a) ≡ length (now b)) × (8 ≤ length (now a)) ⌝ }
     ensures { λ r. ⌜ r ≡ same (now (a .entry)) (now (b .entry)) ⌝ }
 {
-    let last = a.len() - 8;
+    let n = a.len();
     let mut i = 0;
-    while i < last {
-        if eight(a, i) != eight(b, i) {
+    while 32 < n - i {
+        if four_differ(a, b, i) {
             return false;
         }
-        i += 8;
+        i += 32;
     }
-    eight(a, last) == eight(b, last)
+    if last_differ(a, b) {
+        return false;
+    }
+    true
 }
 
 // Whether two texts are the same.
@@ -153,14 +201,18 @@ fn ends_with(text: &[u8], p: &[u8]) -> bool
     same(&text[from..], p)
 }
 
-// The first place at which a text has p.
+// The first place at which a text has p, of at least a byte: only where its first byte stands are the others looked at.
 fn find(text: &[u8], p: &[u8]) -> Found
+    requires { ⌜ 0 < length (now p) ⌝ }
     ensures { λ r. ⌜ place r ≡ firstFrom (now (p .entry)) 0 (now (text .entry)) ⌝ }
 {
+    let first = p[0];
     let mut i = 0;
     while i < text.len() {
-        if starts_with(&text[i..], p) {
-            return Found::At(i);
+        if text[i] == first {
+            if starts_with(&text[i..], p) {
+                return Found::At(i);
+            }
         }
         i += 1;
     }
@@ -252,7 +304,7 @@ pub fn is_absent(key: Key) -> bool
 }
 
 // n less k, and 0 where k is more.
-fn left(n: usize, k: usize) -> usize
+pub fn left(n: usize, k: usize) -> usize
     ensures { λ r. ⌜ r ≡ n - k ⌝ }
 {
     if k <= n { n - k } else { 0 }

@@ -1,6 +1,6 @@
 // A lent memory as words of 32 bits, low byte first, and parts of it.
 ghost use mathlib.Core.Path.{_≡_};
-ghost use Prim.Native.Nat.{_+_, _*_, _/_, _%_, _^_, _<_, _≤_};
+ghost use Prim.Native.Nat.{_+_, _*_, _/_, _%_, _^_, _<_, _≤_, min};
 ghost use lib.ListN.{length, replicate};
 ghost use Rattle.vrf_bitio.specs.Pasted.{pasted};
 ghost use Rattle.vrf_words.specs.Words.{part, word, setWord, Apart};
@@ -60,8 +60,8 @@ pub fn put64(s: &mut [u8], i: usize, v: u64)
     put32(s, i + 1, (v / 0x1_0000_0000) as u32);
 }
 
-// Writes t into m, from byte at on.
-pub fn put_part(m: &mut [u8], at: usize, t: &[u8])
+// Writes a few bytes, one after another.
+fn put_few(m: &mut [u8], at: usize, t: &[u8])
     requires { ⌜ at + length (now t) ≤ length (now m) ⌝ }
     ensures { λ _. ⌜ now (m .exit) ≡ pasted (now (m .entry)) at (now (t .entry)) ⌝ }
 {
@@ -70,6 +70,105 @@ pub fn put_part(m: &mut [u8], at: usize, t: &[u8])
         m[at + k] = t[k];
         k += 1;
     }
+}
+
+// Eight bytes of t, from byte k on. All are read before one is written, so that they are one load and one store.
+fn put_eight(m: &mut [u8], at: usize, t: &[u8], k: usize)
+    requires { ⌜ (k + 8 ≤ length (now t)) × (at + length (now t) ≤ length (now m)) ⌝ }
+    ensures { λ _. ⌜ now (m .exit) ≡ pasted (now (m .entry)) (at + k) (part (now (t .entry)) k 8) ⌝ }
+{
+    let b0 = t[k];
+    let b1 = t[k + 1];
+    let b2 = t[k + 2];
+    let b3 = t[k + 3];
+    let b4 = t[k + 4];
+    let b5 = t[k + 5];
+    let b6 = t[k + 6];
+    let b7 = t[k + 7];
+    let to = at + k;
+    m[to] = b0;
+    m[to + 1] = b1;
+    m[to + 2] = b2;
+    m[to + 3] = b3;
+    m[to + 4] = b4;
+    m[to + 5] = b5;
+    m[to + 6] = b6;
+    m[to + 7] = b7;
+}
+
+// 32 bytes of t, from byte k on.
+fn put_many(m: &mut [u8], at: usize, t: &[u8], k: usize)
+    requires { ⌜ (k + 32 ≤ length (now t)) × (at + length (now t) ≤ length (now m)) ⌝ }
+    ensures { λ _. ⌜ now (m .exit) ≡ pasted (now (m .entry)) (at + k) (part (now (t .entry)) k 32) ⌝ }
+{
+    put_eight(m, at, t, k);
+    put_eight(m, at, t, k + 8);
+    put_eight(m, at, t, k + 16);
+    put_eight(m, at, t, k + 24);
+}
+
+fn lower(a: usize, b: usize) -> usize
+    ensures { λ r. ⌜ r ≡ min a b ⌝ }
+{
+    if a < b {
+        return a;
+    }
+    b
+}
+
+// A text of 8 to 32 bytes: four parts of eight.
+fn put_short(m: &mut [u8], at: usize, t: &[u8])
+    requires { ⌜ (8 ≤ length (now t)) × (length (now t) ≤ 32) × (at + length (now t) ≤ length (now m)) ⌝ }
+    ensures { λ _. ⌜ now (m .exit) ≡ pasted (now (m .entry)) at (now (t .entry)) ⌝ }
+{
+    let last = t.len() - 8;
+    put_eight(m, at, t, 0);
+    put_eight(m, at, t, lower(8, last));
+    put_eight(m, at, t, lower(16, last));
+    put_eight(m, at, t, last);
+}
+
+// A text of 32 to 96 bytes: three parts of 32.
+fn put_long(m: &mut [u8], at: usize, t: &[u8])
+    requires { ⌜ (32 ≤ length (now t)) × (length (now t) ≤ 96) × (at + length (now t) ≤ length (now m)) ⌝ }
+    ensures { λ _. ⌜ now (m .exit) ≡ pasted (now (m .entry)) at (now (t .entry)) ⌝ }
+{
+    let last = t.len() - 32;
+    put_many(m, at, t, 0);
+    put_many(m, at, t, lower(32, last));
+    put_many(m, at, t, last);
+}
+
+// A text of 32 bytes or more: 32 bytes a turn, and then the last.
+fn put_longest(m: &mut [u8], at: usize, t: &[u8])
+    requires { ⌜ (32 ≤ length (now t)) × (at + length (now t) ≤ length (now m)) ⌝ }
+    ensures { λ _. ⌜ now (m .exit) ≡ pasted (now (m .entry)) at (now (t .entry)) ⌝ }
+{
+    let last = t.len() - 32;
+    let mut k = 0;
+    while k < last {
+        put_many(m, at, t, k);
+        k += 32;
+    }
+    put_many(m, at, t, last);
+}
+
+// Writes t into m, from byte at on. The last part of a text ends where the text does, and lies over what already stands of it; so may others
+// of a text that is shorter than its parts together: then they are as many for any text of about its length, and no branch goes by the length.
+pub fn put_part(m: &mut [u8], at: usize, t: &[u8])
+    requires { ⌜ at + length (now t) ≤ length (now m) ⌝ }
+    ensures { λ _. ⌜ now (m .exit) ≡ pasted (now (m .entry)) at (now (t .entry)) ⌝ }
+{
+    if t.len() < 8 {
+        return put_few(m, at, t);
+    }
+    if t.len() < 32 {
+        return put_short(m, at, t);
+    }
+    if t.len() <= 96 {
+        return put_long(m, at, t);
+    }
+    put_longest(m, at, t)
 }
 
 // Copies n bytes of m to a place apart from them.

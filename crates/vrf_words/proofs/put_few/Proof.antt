@@ -1,4 +1,4 @@
--- `vrf_words::put_part` meets its contract: the copy of k bytes grows by one in a turn.
+-- `vrf_words::put_few` meets its contract: the copy of k bytes grows by one in a turn.
 use native.Mathlib.Omega.{arith}
 use Prim.Native.Nat.{_-_}
 use mathlib.Core.Path.{ap, _∙_}
@@ -8,8 +8,8 @@ use lib.ListN.{length, getD}
 use Rattle.vrf_bitio.specs.Pasted.{pasted}
 use Rattle.vrf_words.specs.WordsLaws.{whole-part}
 use Rattle.vrf_words.proofs.Writes.{Copied, copy-start, copy-step, copy-end}
-use Rattle.vrf_words.proofs.put_part.Statement.{statement}
-use Rattle.vrf_words.proofs.put_part.Tie as tie
+use Rattle.vrf_words.proofs.put_few.Statement.{statement}
+use Rattle.vrf_words.proofs.put_few.Tie as tie
 
 abbrev Inv-loop : tie.InvT-loop
 Inv-loop m₀ at t k₀ m k = Copied m₀ m t at 0 (length t) k
@@ -52,8 +52,8 @@ returns c =
     let t = now (x .t) in
     copy-end (now (x .m)) (l .m) t (x .at) 0 (length t) (l .k) (l .inv) (omega arith) ∙ ap (pasted (now (x .m)) (x .at)) (whole-part t)
 
-pub put-part-spec : {M : Type 1} → statement M
-put-part-spec =
+pub put-few-spec : {M : Type 1} → statement M
+put-few-spec =
     tie.close
     (tie.spec
     Inv-loop
