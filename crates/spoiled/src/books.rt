@@ -1,4 +1,4 @@
-// The books that are spoiled. Each needs 676 bytes.
+// The books that are spoiled. Each needs 784 bytes.
 use vrf_schema::calls;
 
 // Three GUID records, the third with an outer that has one; a text is given up again, so that there is garbage.

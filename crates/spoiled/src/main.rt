@@ -68,14 +68,14 @@ fn run(book: &mut [u8], s: &mut [u8], work: &mut [u8]) {
 }
 
 // Whole arrays are lent as arrays first: their lengths then need no proof in `main`.
-fn lend(book: &mut [u8; 676], s: &mut [u8; 676], work: &mut [u8; 676]) {
+fn lend(book: &mut [u8; 784], s: &mut [u8; 784], work: &mut [u8; 784]) {
     run(book, s, work);
 }
 
 // As many bytes as the books need.
 fn main() {
-    let mut book = [0u8; 676];
-    let mut s = [0u8; 676];
-    let mut work = [0u8; 676];
+    let mut book = [0u8; 784];
+    let mut s = [0u8; 784];
+    let mut work = [0u8; 784];
     lend(&mut book, &mut s, &mut work);
 }

@@ -118,7 +118,7 @@ fn pointer_byte(k: usize, own: u8, seed: u32) -> u8 {
 // Some of the heads and links of groups are others. They stand together, from the heads by index to the heads by leaf.
 fn scatter_pointers(s: &mut [u8], seed: u32) -> u32 {
     let mut x = seed;
-    for k in 288..384 {
+    for k in 324..456 {
         if s.len() <= k {
             return x;
         }

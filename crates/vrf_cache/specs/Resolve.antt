@@ -3,12 +3,15 @@ use mathlib.Core.Path.{_≡_}
 use mathlib.Core.Bool.{Bool, true, false}
 use mathlib.Core.List.{List, [], _∷_, Option·toList}
 use mathlib.Core.Option.{Option}
-use Prim.Native.Nat.{ℕ, _≤_}
-use lib.ListN.{length, take}
-use Rattle.vrf_path.specs.Keys.{defaultAlias, coreAlias}
+use Prim.Native.Nat.{ℕ}
+use Rattle.vrf_path.specs.Keys.{hasSeparator, defaultAlias, coreAlias}
 use Rattle.vrf_path.specs.Toggle.{withToggles}
 use Rattle.vrf_model.specs.Book.{Group}
 use Rattle.vrf_model.specs.Lookup.{Claim, absent, ambiguous, claimed, leafClaim, orElse, firstPath}
+
+-- a bare name, or what is put behind one: it has none of `/ . :`, and so is no path
+abbrev pub Bare : List ℕ → Type 0
+Bare t = hasSeparator t ≡ false
 
 -- whether a claim ends the search
 unfoldable pub decides : Claim → Bool
@@ -34,15 +37,3 @@ withToggle groups k = firstPath groups (withToggles (Option·toList k))
 -- the same of a path's two aliases
 unfoldable pub byAlias : List Group → List ℕ → Option ℕ
 byAlias groups path = orElse (withToggle groups (defaultAlias path)) (withToggle groups (coreAlias path))
-
--- a room, after the n bytes of a text were written at its front
-pub record Written (text before after : List ℕ) (n : ℕ) : Type 0 where
-  pub bytes : take n after ≡ text
-  pub count : n ≡ length text
-  pub long : length after ≡ length before
-
--- a room with the first i bytes of a text at its front
-pub record Filled (text before after : List ℕ) (i : ℕ) : Type 0 where
-  pub front : take i after ≡ take i text
-  pub within : i ≤ length text
-  pub long : length after ≡ length before

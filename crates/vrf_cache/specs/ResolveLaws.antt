@@ -1,16 +1,14 @@
 -- Laws of the resolutions' parts.
 use mathlib.Core.Path.{_≡_, refl, sym, ap, _∙_}
-use mathlib.Core.Bool.{true, false, cond}
+use mathlib.Core.Bool.{true, false, cond, not}
 use mathlib.Core.Logic.{⊎-elim}
 use mathlib.Core.List.{List, [], _∷_, _++_, append-assoc, append-nil, Option·toList}
 use mathlib.Core.Option.{Option, none, some, Option·getD}
-use Prim.Native.Nat.{ℕ, _+_, _<_, _≤_}
-use native.Mathlib.Numerals.{add-one}
+use Prim.Native.Nat.{ℕ, zero, suc, _+_, _<_, _≤_}
 use native.Mathlib.Omega.{arith}
-use lib.ListN.{length, getD, take, drop, set, length-append, length-set, length-take}
-use lib.Seq.{take-at, take-all, take-suc, take-suc-set}
-use Rattle.vrf_bitio.specs.Pasted.{pasted}
-use Rattle.vrf_bitio.specs.PastedLaws.{pasted-append, pasted-front, pasted-length}
+use lib.ListN.{length}
+use borrow.Author.Tests.{ne-eqb}
+use lib.Dec.{eqb}
 use Rattle.vrf_path.specs.Keys.{hasSeparator, keys, defaultAlias, coreAlias}
 use Rattle.vrf_path.specs.KeysLaws.{default-length, core-length}
 use Rattle.vrf_path.specs.Toggle.{classNetCache, toggle, withToggles, classNetCacheKeys}
@@ -23,7 +21,22 @@ use Rattle.vrf_path.specs.declared.Stem.{Stem}
 use Rattle.vrf_path.specs.declared.Stem.the-variants.{At as StemAt}
 use Rattle.vrf_model.specs.Book.{Group}
 use Rattle.vrf_model.specs.Lookup.{Claim, absent as noClaim, ambiguous, claimed, leafClaim, orNext, firstClaim, stemsLeaves, uniqueLeafMatch, resolveCnc, orElse, pathPlace, firstPath, findClassNetCacheKey}
-use Rattle.vrf_cache.specs.Resolve.{decides, orLater, firstOf, withToggle, byAlias, Written, Filled}
+use Rattle.vrf_table.specs.Answers.{claim}
+use Rattle.vrf_cache.specs.Resolve.{decides, orLater, firstOf, withToggle, byAlias}
+
+-- ---- claims by their numbers
+
+pub later-found : (r : ℕ) (next : Claim) → (r ≡ 0 → ⊥) → claim r ≡ orLater (claim r) next
+unfolding orLater
+later-found zero next h = absurd (h refl)
+later-found (suc zero) next h = refl
+later-found (suc (suc e)) next h = refl
+
+pub decides-found : (r : ℕ) → not (eqb r 0) ≡ decides (claim r)
+unfolding decides
+decides-found zero = refl
+decides-found (suc zero) = refl
+decides-found (suc (suc e)) = rw (ne-eqb (suc (suc e)) 0 (λ q. omega (arith, q)))
 
 -- ---- claims
 
@@ -201,42 +214,3 @@ module _ (t : List ℕ) where
 
   pub core-fits : (k : Key) → spelled t k ≡ coreAlias t → length (keyBytes t k) ≤ length t + 9
   core-fits k e = shorter (spelled t k) (λ l h. ⊎-elim (λ a. omega arith) (λ a. omega arith) (core-length t (sym e ∙ h)))
-
--- ---- rooms
-
--- two texts, one behind the other
-pub joined : {l x y : List ℕ} {n : ℕ} (a b : List ℕ) → x ≡ pasted l 0 a → y ≡ pasted x (length a) b → n ≡ length a + length b → length a + length b ≤ length l → Written (a ++ b) l y n
-joined {l} {x} {y} {n} a b ex ey en h =
-    let whole : y ≡ pasted l 0 (a ++ b) = rw (ey, ex) (pasted-append a b l 0 (length a) (omega arith) (omega arith)) in
-    let count : n ≡ length (a ++ b) = rw length-append en in
-    record {
-      bytes = rw (whole, pasted-front) (take-at (a ++ b) (drop (length (a ++ b)) l) n (sym count));
-      count = count;
-      long = rw whole (pasted-length (a ++ b) l 0 (rw length-append (omega arith)));
-    }
-
-module _ {text before after : List ℕ} {n : ℕ} (w : Written text before after n) where
-  pub written-part : n ≡ length (take n after)
-  written-part = cc
-
-  pub written-within : n ≤ length after
-  written-within = omega (arith, simp length-take at written-part)
-
--- a text byte by byte
-pub fill-start : (text room : List ℕ) → Filled text room room 0
-fill-start text room = record { front = refl; within = omega arith; long = refl }
-
-module _ {text before after : List ℕ} {i : ℕ} (f : Filled text before after i) where
-  pub fill-step : {b : ℕ} → b ≡ getD text i 0 → i < length text → length text ≤ length before → Filled text before (set after i b) (i + 1)
-  fill-step {b} e h fits =
-      let inside : i < length after = omega arith in
-      record {
-        front = rw (add-one i, take-suc-set after i b inside, take-suc text i 0 h, e, f .front);
-        within = omega arith;
-        long = rw length-set (f .long);
-      }
-
-  pub fill-end : {n : ℕ} → n ≡ length text → n ≤ i → Written text before after n
-  fill-end {n} e h =
-      let all : i ≡ n = omega arith in
-      record { bytes = rw (← all, f .front) (take-all i text (omega arith)); count = e; long = f .long }

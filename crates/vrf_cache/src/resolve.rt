@@ -7,15 +7,17 @@ use vrf_path::default_object_alias;
 use vrf_path::first_stem;
 use vrf_path::has_path_separator;
 use vrf_path::is_absent;
-use vrf_path::key_byte;
 use vrf_path::key_len;
 use vrf_path::next_stem;
 use vrf_path::strip_class_net_cache;
 use vrf_store::look::claim_of;
 use vrf_store::look::find_path_place;
+use vrf_table::ABSENT;
+use vrf_table::AMBIGUOUS;
 use vrf_table::Claim;
 use vrf_table::Entry;
-use vrf_words::put_part;
+use vrf_table::spell::join;
+use vrf_table::spell::spell;
 ghost use mathlib.Core.Path.{_≡_};
 ghost use mathlib.Core.List.{_++_, Option·toList};
 ghost use mathlib.Core.Option.{none, some};
@@ -28,21 +30,11 @@ ghost use Rattle.vrf_model.specs.Lookup.{leafClaim, orNext, pathPlace, firstPat
 ghost use Rattle.vrf_table.specs.Answers.{entry, claim};
 ghost use Rattle.vrf_store.specs.Good.{Good};
 ghost use Rattle.vrf_store.specs.Stepped.{held};
-ghost use Rattle.vrf_cache.specs.Resolve.{decides, orLater, firstOf, withToggle, byAlias, Written};
-
-// Writes a and then b at the front of a room, and answers how many bytes that are.
-fn join(room: &mut [u8], a: &[u8], b: &[u8]) -> usize
-    requires { ⌜ length (now a) + length (now b) ≤ length (now room) ⌝ }
-    ensures { λ r. ⌜ Written (now (a .entry) ++ now (b .entry)) (now (room .entry)) (now (room .exit)) r ⌝ }
-{
-    put_part(room, 0, a);
-    put_part(room, a.len(), b);
-    a.len() + b.len()
-}
+ghost use Rattle.vrf_cache.specs.Resolve.{Bare, decides, orLater, firstOf, withToggle, byAlias};
 
 // The claim of a leaf that two texts make, joined in a room.
 fn claim_in(room: &mut [u8], m: &[u8], a: &[u8], b: &[u8]) -> Claim
-    requires { ⌜ Good (now m) × (length (now a) + length (now b) ≤ length (now room)) × (length (now a) + length (now b) ≤ 4119) ⌝ }
+    requires { ⌜ Good (now m) × Bare (now a) × Bare (now b) × (length (now a) + length (now b) ≤ length (now room)) × (length (now a) + length (now b) ≤ 4119) ⌝ }
     ensures { λ r. ⌜ claim r ≡ leafClaim (now (a .entry) ++ now (b .entry)) (held (now (m .entry)) .groups) ⌝ }
 {
     let n = join(room, a, b);
@@ -51,7 +43,7 @@ fn claim_in(room: &mut [u8], m: &[u8], a: &[u8], b: &[u8]) -> Claim
 
 // In a room that most leaves fit.
 fn claim_short(m: &[u8], a: &[u8], b: &[u8]) -> Claim
-    requires { ⌜ Good (now m) × (length (now a) + length (now b) ≤ 128) ⌝ }
+    requires { ⌜ Good (now m) × Bare (now a) × Bare (now b) × (length (now a) + length (now b) ≤ 128) ⌝ }
     ensures { λ r. ⌜ claim r ≡ leafClaim (now (a .entry) ++ now (b .entry)) (held (now (m .entry)) .groups) ⌝ }
 {
     let mut room = [0u8; 128];
@@ -60,7 +52,7 @@ fn claim_short(m: &[u8], a: &[u8], b: &[u8]) -> Claim
 
 // In a room that all leaves fit: a name's 4096 bytes and the 23 of `Component_ClassNetCache`.
 fn claim_long(m: &[u8], a: &[u8], b: &[u8]) -> Claim
-    requires { ⌜ Good (now m) × (length (now a) + length (now b) ≤ 4119) ⌝ }
+    requires { ⌜ Good (now m) × Bare (now a) × Bare (now b) × (length (now a) + length (now b) ≤ 4119) ⌝ }
     ensures { λ r. ⌜ claim r ≡ leafClaim (now (a .entry) ++ now (b .entry)) (held (now (m .entry)) .groups) ⌝ }
 {
     let mut room = [0u8; 4119];
@@ -69,7 +61,7 @@ fn claim_long(m: &[u8], a: &[u8], b: &[u8]) -> Claim
 
 // The claim of a leaf that two texts make. A room is cleared before it is written, so a short leaf has a small one.
 fn claim_joined(m: &[u8], a: &[u8], b: &[u8]) -> Claim
-    requires { ⌜ Good (now m) × (length (now a) + length (now b) ≤ 4119) ⌝ }
+    requires { ⌜ Good (now m) × Bare (now a) × Bare (now b) × (length (now a) + length (now b) ≤ 4119) ⌝ }
     ensures { λ r. ⌜ claim r ≡ leafClaim (now (a .entry) ++ now (b .entry)) (held (now (m .entry)) .groups) ⌝ }
 {
     if a.len() + b.len() <= 128 {
@@ -80,36 +72,33 @@ fn claim_joined(m: &[u8], a: &[u8], b: &[u8]) -> Claim
 
 // An earlier candidate's claim, or where that is absent the one of this stem and suffix.
 fn or_joined(m: &[u8], earlier: Claim, stem: &[u8], suffix: &[u8]) -> Claim
-    requires { ⌜ Good (now m) × (length (now stem) + length (now suffix) ≤ 4119) ⌝ }
+    requires { ⌜ Good (now m) × Bare (now stem) × Bare (now suffix) × (length (now stem) + length (now suffix) ≤ 4119) ⌝ }
     ensures { λ r. ⌜ claim r ≡ orLater (claim earlier) (leafClaim (now (stem .entry) ++ now (suffix .entry)) (held (now (m .entry)) .groups)) ⌝ }
 {
-    match earlier {
-        Claim::Absent => claim_joined(m, stem, suffix),
-        Claim::Ambiguous => Claim::Ambiguous,
-        Claim::Of(e) => Claim::Of(e),
+    if earlier == ABSENT {
+        return claim_joined(m, stem, suffix);
     }
+    earlier
 }
 
 // The group that a claim names, if it names one.
 fn claimed(c: Claim) -> Entry
     ensures { λ r. ⌜ entry r ≡ orNext (claim c) none ⌝ }
 {
-    match c {
-        Claim::Absent => Entry::Nowhere,
-        Claim::Ambiguous => Entry::Nowhere,
-        Claim::Of(e) => Entry::At(e),
+    if c == ABSENT {
+        return Entry::Nowhere;
     }
+    if c == AMBIGUOUS {
+        return Entry::Nowhere;
+    }
+    Entry::At(c - 2)
 }
 
 // Whether a claim ends the search. An ambiguous one does: the next candidate would name another class.
 fn decides(c: Claim) -> bool
     ensures { λ r. ⌜ r ≡ decides (claim c) ⌝ }
 {
-    match c {
-        Claim::Absent => false,
-        Claim::Ambiguous => true,
-        Claim::Of(_) => true,
-    }
+    c != ABSENT
 }
 
 // The group whose path ends in a bare name, or else in the name with `Component` or with `_C` behind it.
@@ -120,14 +109,14 @@ pub fn unique_leaf_match(m: &[u8], name: &[u8]) -> Entry
     if has_path_separator(name) {
         return Entry::Nowhere;
     }
-    let itself = claim_of(m, name);
+    let itself = claim_of(m, &name[..]);
     let component = or_joined(m, itself, name, b"Component");
     claimed(or_joined(m, component, name, b"_C"))
 }
 
 // The first claim among a stem's three leaves.
 fn try_cnc_leaf_candidates(m: &[u8], stem: &[u8]) -> Claim
-    requires { ⌜ Good (now m) × (length (now stem) ≤ 4096) ⌝ }
+    requires { ⌜ Good (now m) × Bare (now stem) × (length (now stem) ≤ 4096) ⌝ }
     ensures { λ r. ⌜ claim r ≡ firstOf (held (now (m .entry)) .groups) (stemLeaves (now (stem .entry))) ⌝ }
 {
     let plain = claim_joined(m, stem, b"_ClassNetCache");
@@ -219,26 +208,12 @@ fn find_or_toggled(m: &[u8], key: &[u8]) -> Entry
     }
 }
 
-// Writes the bytes of a path's key at the front of a room, and answers how many they are.
-fn put_key(room: &mut [u8], path: &[u8], key: Key) -> usize
-    requires { ⌜ length (keyBytes (now path) key) ≤ length (now room) ⌝ }
-    ensures { λ r. ⌜ Written (keyBytes (now (path .entry)) key) (now (room .entry)) (now (room .exit)) r ⌝ }
-{
-    let n = key_len(path, key);
-    let mut i = 0;
-    while i < n {
-        room[i] = key_byte(path, key, i);
-        i += 1;
-    }
-    n
-}
-
 // The group of the bytes of a path's key, written in a room, or else of their toggle.
 fn find_alias_in(room: &mut [u8], m: &[u8], path: &[u8], key: Key) -> Entry
     requires { ⌜ Good (now m) × (length (keyBytes (now path) key) ≤ length (now room)) × (length (keyBytes (now path) key) ≤ 4105) ⌝ }
     ensures { λ r. ⌜ entry r ≡ withToggle (held (now (m .entry)) .groups) (some (keyBytes (now (path .entry)) key)) ⌝ }
 {
-    let n = put_key(room, path, key);
+    let n = spell(room, path, key);
     find_or_toggled(m, &room[..n])
 }
 

@@ -61,7 +61,7 @@ reachOk find e none = true
 reachOk find e (some k) = notBefore e (find k)
 
 unfoldable pub keyOk : Store → ℕ → Bool
-keyOk s e = reachOk (findPath (s .groupRows) (s .texts) (s .pathLinks) (s .pathHeads) (Layout.groupBuckets (s .header .allowed)) (s .header .groups)) e (numbered (text (s .groupRows) (s .texts) (e / 3)) (e % 3))
+keyOk s e = reachOk (findPath (s .groupRows) (s .texts) (s .pathLinks) (s .pathHeads) (Layout.pathBuckets (s .header .allowed)) (s .header .groups)) e (numbered (text (s .groupRows) (s .texts) (e / 3)) (e % 3))
 
 -- a leaf is claimed by its group, or ambiguous
 unfoldable pub isSettled : ℕ → Claim → Bool
@@ -74,7 +74,7 @@ settledOk claim e none = true
 settledOk claim e (some l) = isSettled e (claim l)
 
 unfoldable pub leafOk : Store → ℕ → Bool
-leafOk s e = settledOk (claimOf (s .groupRows) (s .texts) (s .leafLinks) (s .leafHeads) (Layout.groupBuckets (s .header .allowed)) (s .header .groups)) e (leaf (text (s .groupRows) (s .texts) e))
+leafOk s e = settledOk (claimOf (s .groupRows) (s .texts) (s .leafLinks) (s .leafHeads) (Layout.leafBuckets (s .header .allowed)) (s .header .groups)) e (leaf (text (s .groupRows) (s .texts) e))
 
 unfoldable pub groupOk : Store → ℕ → Bool
 groupOk s e =

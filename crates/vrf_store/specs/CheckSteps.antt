@@ -2,24 +2,24 @@
 -- texts, then its rows, then the keys and the leaves of the groups, whose walks read texts of any group.
 use mathlib.Core.Path.{_≡_, refl, sym, ap, _∙_}
 use mathlib.Core.Bool.{Bool, true, false, not, _&&_}
-use mathlib.Core.List.{List, _∷_}
+use mathlib.Core.List.{List}
 use mathlib.Core.Option.{Option, none, some}
 use Prim.Native.Nat.{ℕ, _+_, _-_, _*_, _/_, _%_, _^_, _<_, _≤_}
 use native.Mathlib.Numerals.{add-one}
 use native.Mathlib.Omega.{arith}
 use borrow.Author.Tests.{lt-ltb, le-ltb, not-true, not-false}
 use lib.Dec.{eqb, ltb, leb}
-use lib.ListN.{length, getD, set, take, drop, length-append, length-take, length-drop}
-use lib.Seq.{take-all, take-suc, take-suc-set}
+use lib.ListN.{length, take, drop, length-take, length-drop}
+use lib.Seq.{take-all}
 use Rattle.vrf_bitio.specs.BitsLaws.{Bytes}
 use Rattle.vrf_words.specs.WordsLaws.{word-bound}
 use Rattle.vrf_text.specs.Cases.{clash}
-use Rattle.vrf_path.specs.Keys.{defaultPrefix, charactersCore, defaultAlias, coreAlias}
-use Rattle.vrf_path.specs.Leaf.{leaf}
+use Rattle.vrf_path.specs.Keys.{defaultAlias, coreAlias}
+use Rattle.vrf_path.specs.Leaf.{leaf, Dotless}
+use Rattle.vrf_path.specs.LeafLaws.{leaf-is}
 use Rattle.vrf_path.specs.Answers.{spelled, keyBytes, absent}
 use Rattle.vrf_path.specs.AnswersLaws.{spelled-bytes, spelled-absent}
 use Rattle.vrf_path.specs.declared.Key.{Key}
-use Rattle.vrf_path.specs.declared.Key.the-variants.{Itself, Stripped, Prefixed, Cut, Inserted, Absent}
 use Rattle.vrf_model.specs.Lookup.{Claim}
 use Rattle.vrf_table.specs.Table.{key, at, len, info, text}
 use Rattle.vrf_table.specs.TextIndex.{numbered, findPath, claimOf}
@@ -87,10 +87,10 @@ unfoldable pub fieldsOk : Store → Bool
 fieldsOk s = allBelow (fieldRow (s .groupRows) (s .header .groups) (s .fieldRows) (s .fieldHeads) (Layout.fieldBuckets (s .header .allowed)) (s .header .fields)) (s .header .fields)
 
 unfoldable pub pathsOk : Store → Bool
-pathsOk s = allBelow (keysReach (s .groupRows) (s .texts) (s .pathLinks) (s .pathHeads) (Layout.groupBuckets (s .header .allowed)) (s .header .groups)) (s .header .groups)
+pathsOk s = allBelow (keysReach (s .groupRows) (s .texts) (s .pathLinks) (s .pathHeads) (Layout.pathBuckets (s .header .allowed)) (s .header .groups)) (s .header .groups)
 
 unfoldable pub leavesOk : Store → Bool
-leavesOk s = allBelow (leafSettled (s .groupRows) (s .texts) (s .leafLinks) (s .leafHeads) (Layout.groupBuckets (s .header .allowed)) (s .header .groups)) (s .header .groups)
+leavesOk s = allBelow (leafSettled (s .groupRows) (s .texts) (s .leafLinks) (s .leafHeads) (Layout.leafBuckets (s .header .allowed)) (s .header .groups)) (s .header .groups)
 
 unfoldable pub stepsOk : Store → Bool
 stepsOk s = sumOk s && (textsOk s && (guidsOk s && (groupsOk s && (fieldsOk s && (pathsOk s && leavesOk s)))))
@@ -103,14 +103,14 @@ same-tests false true f g = g refl
 same-tests false false f g = refl
 
 module _ (s : Store) where
-  key-reach : (g j : ℕ) → j < 3 → keyOk s (3 * g + j) ≡ keyReach (s .groupRows) (s .texts) (s .pathLinks) (s .pathHeads) (Layout.groupBuckets (s .header .allowed)) (s .header .groups) g j
+  key-reach : (g j : ℕ) → j < 3 → keyOk s (3 * g + j) ≡ keyReach (s .groupRows) (s .texts) (s .pathLinks) (s .pathHeads) (Layout.pathBuckets (s .header .allowed)) (s .header .groups) g j
   unfolding keyOk keyReach
   key-reach g j h =
       let group : (3 * g + j) / 3 ≡ g = omega arith in
       let number : (3 * g + j) % 3 ≡ j = omega arith in
       rw (group, number)
 
-  key-first : (g : ℕ) → keyOk s (3 * g) ≡ keyReach (s .groupRows) (s .texts) (s .pathLinks) (s .pathHeads) (Layout.groupBuckets (s .header .allowed)) (s .header .groups) g 0
+  key-first : (g : ℕ) → keyOk s (3 * g) ≡ keyReach (s .groupRows) (s .texts) (s .pathLinks) (s .pathHeads) (Layout.pathBuckets (s .header .allowed)) (s .header .groups) g 0
   key-first g = let none : 3 * g ≡ 3 * g + 0 = omega arith in ap (keyOk s) none ∙ key-reach g 0 (omega arith)
 
   pub store-steps : storeOk s ≡ stepsOk s
@@ -179,7 +179,7 @@ module _ (m : List ℕ) (l : Laid m) (h : groupTexts (storeOf m) ≡ true) where
   unfolding groupTexts textOk
   each-text e k = let f = (simp told at h) e k in (f .0, f .1 .0)
 
-  pub paths-walked : Walked (storeOf m .groupRows) (storeOf m .texts) (storeOf m .pathLinks) (storeOf m .pathHeads) 12 (Layout.groupBuckets (headerOf m .allowed)) (headerOf m .groups)
+  pub paths-walked : Walked (storeOf m .groupRows) (storeOf m .texts) (storeOf m .pathLinks) (storeOf m .pathHeads) 12 (Layout.pathBuckets (headerOf m .allowed)) (headerOf m .groups)
   paths-walked = record {
     rows = omega (arith, l .shaped, l .header);
     links = omega (arith, l .shaped, l .header);
@@ -190,7 +190,7 @@ module _ (m : List ℕ) (l : Laid m) (h : groupTexts (storeOf m) ≡ true) where
     short = λ e k. each-text e k .1;
   }
 
-  pub leaves-walked : Walked (storeOf m .groupRows) (storeOf m .texts) (storeOf m .leafLinks) (storeOf m .leafHeads) 4 (Layout.groupBuckets (headerOf m .allowed)) (headerOf m .groups)
+  pub leaves-walked : Walked (storeOf m .groupRows) (storeOf m .texts) (storeOf m .leafLinks) (storeOf m .leafHeads) 4 (Layout.leafBuckets (headerOf m .allowed)) (headerOf m .groups)
   leaves-walked = record {
     rows = paths-walked .rows;
     links = omega (arith, l .shaped, l .header);
@@ -267,6 +267,12 @@ module _ {r x l h : List ℕ} {per b n : ℕ} (w : Walked r x l h per b n) {g : 
   pub leaf-short : (i : ℕ) → length (take (length path - i) (drop i path)) < 2 ^ 31
   leaf-short i = omega (arith, path-short, length-take (length path - i) (drop i path), length-drop i path)
 
+-- the part `&t[i..]` that is a leaf has no dot
+pub leaf-dotless : (t : List ℕ) (i : ℕ) → leaf t ≡ some (drop i t) → Dotless (take (length t - i) (drop i t))
+leaf-dotless t i e =
+    let all : take (length t - i) (drop i t) ≡ drop i t = take-all (length t - i) (drop i t) (rw length-drop (omega arith)) in
+    rw all (leaf-is t (drop i t) e .dotless)
+
 module _ (find : List ℕ → Option ℕ) {path t : List ℕ} (e : path ≡ t) (g : ℕ) where
   -- the path itself
   pub itself : {r : Bool} → r ≡ notBefore (3 * g) (find path) → r ≡ reachOk find (3 * g + 0) (numbered t 0)
@@ -302,21 +308,3 @@ module _ (claim : List ℕ → Claim) {path t : List ℕ} (e : path ≡ t) (g : 
   pub leaf-none : leaf path ≡ none → true ≡ settledOk claim g (leaf t)
   unfolding settledOk
   leaf-none el = rw (← e, el)
-
--- ---- a key that is spelled out, byte by byte: l becomes k
-
-pub key-room : (t : List ℕ) (k : Key) → length (keyBytes t k) ≤ length t + 23
-unfolding defaultPrefix charactersCore
-key-room t Itself = omega arith
-key-room t Stripped = omega (arith, length-drop 9 t)
-key-room t Prefixed = omega arith
-key-room t (Cut i) = omega (arith, length-append (take i t) (47 ∷ drop (i + 7) t), length-take i t, length-drop (i + 7) t)
-key-room t Inserted = omega (arith, length-drop 17 t)
-key-room t Absent = omega arith
-
-module _ (l k : List ℕ) (i : ℕ) (h : take i l ≡ take i k) where
-  pub spell-next : (b : ℕ) → i < length l → i < length k → b ≡ getD k i 0 → take (i + 1) (set l i b) ≡ take (i + 1) k
-  spell-next b hl hk e = rw (add-one, take-suc-set l i b hl, take-suc k i 0 hk, h, e)
-
-  pub spell-last : (n : ℕ) → i ≤ n → n ≤ i → n ≡ length k → take n l ≡ k
-  spell-last n a b e = let q : n ≡ i = omega arith in rw q (h ∙ take-all i k (omega arith))

@@ -38,15 +38,15 @@ thirds ok n h i k =
 module _ (s : Store) where
   -- the test of the keys says that each finds the last entry having it
   keys-iff : ((e : ℕ) → e < 3 * s .header .groups → keyOk s e ≡ true)
-      ↔ Latest (pathHit (s .groupRows) (s .texts)) (word (s .pathLinks)) (textStart (s .pathHeads) (Layout.groupBuckets (s .header .allowed))) (3 * s .header .groups)
+      ↔ Latest (pathHit (s .groupRows) (s .texts)) (word (s .pathLinks)) (textStart (s .pathHeads) (Layout.pathBuckets (s .header .allowed))) (3 * s .header .groups)
   unfolding keyOk findPath pathHit
-  keys-iff = reach-iff (λ e. numbered (text (s .groupRows) (s .texts) (e / 3)) (e % 3)) (word (s .pathLinks)) (textStart (s .pathHeads) (Layout.groupBuckets (s .header .allowed))) (3 * s .header .groups)
+  keys-iff = reach-iff (λ e. numbered (text (s .groupRows) (s .texts) (e / 3)) (e % 3)) (word (s .pathLinks)) (textStart (s .pathHeads) (Layout.pathBuckets (s .header .allowed))) (3 * s .header .groups)
 
   -- the test of the leaves says that each is claimed rightly
   leaves-iff : ((e : ℕ) → e < s .header .groups → leafOk s e ≡ true)
-      ↔ Claims (leafHit (s .groupRows) (s .texts)) (word (s .leafLinks)) (textStart (s .leafHeads) (Layout.groupBuckets (s .header .allowed))) (s .header .groups)
+      ↔ Claims (leafHit (s .groupRows) (s .texts)) (word (s .leafLinks)) (textStart (s .leafHeads) (Layout.leafBuckets (s .header .allowed))) (s .header .groups)
   unfolding leafOk claimOf leafHit
-  leaves-iff = settle-iff (λ e. leaf (text (s .groupRows) (s .texts) e)) (word (s .leafLinks)) (textStart (s .leafHeads) (Layout.groupBuckets (s .header .allowed))) (s .header .groups)
+  leaves-iff = settle-iff (λ e. leaf (text (s .groupRows) (s .texts) e)) (word (s .leafLinks)) (textStart (s .leafHeads) (Layout.leafBuckets (s .header .allowed))) (s .header .groups)
 
   pub ok-valid : Shaped s → GoodHeader (s .header) → storeOk s ≡ true → Valid s
   unfolding storeOk guidOk is32 groupOk fieldOk slotOk

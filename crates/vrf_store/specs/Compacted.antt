@@ -208,9 +208,9 @@ module _ (m : List ℕ) (good : Good m) where
               outside (Layout.guidHeadsAt a) (Layout.guidBuckets a) (above (omega (arith, good .valid .header .guids))) (below (omega arith)) (below (omega arith)) (omega arith),
               middle (Layout.groupHeadsAt a) (Layout.groupBuckets a) (omega (arith, good .valid .header .groups)) (omega arith),
               middle (Layout.pathLinksAt a) (3 * a .groups) (omega (arith, good .valid .header .groups)) (omega arith),
-              middle (Layout.pathHeadsAt a) (Layout.groupBuckets a) (omega (arith, good .valid .header .groups)) (omega arith),
+              middle (Layout.pathHeadsAt a) (Layout.pathBuckets a) (omega (arith, good .valid .header .groups)) (omega arith),
               middle (Layout.leafLinksAt a) (a .groups) (omega (arith, good .valid .header .groups)) (omega arith),
-              middle (Layout.leafHeadsAt a) (Layout.groupBuckets a) (omega (arith, good .valid .header .groups)) (omega arith),
+              middle (Layout.leafHeadsAt a) (Layout.leafBuckets a) (omega (arith, good .valid .header .groups)) (omega arith),
               outside (Layout.fieldHeadsAt a) (Layout.fieldBuckets a) (above (omega (arith, good .valid .header .guids))) (above (omega (arith, good .valid .header .groups))) (above (omega (arith, good .valid .header .fields))) (omega arith),
               outside (Layout.literalsAt a) (a .literals) (above (omega (arith, good .valid .header .guids))) (above (omega (arith, good .valid .header .groups))) (above (omega (arith, good .valid .header .fields))) (omega arith),
             )

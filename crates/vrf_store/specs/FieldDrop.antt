@@ -21,7 +21,7 @@ use Rattle.vrf_table.specs.Chain.{walk, lastBelow}
 use Rattle.vrf_table.specs.ChainLaws.{by-equal}
 use Rattle.vrf_table.specs.Table.{key, at, len, info, text, keyBucket, keyStart, findKey}
 use Rattle.vrf_table.specs.TableLaws.{keyBucket-lt}
-use Rattle.vrf_store.specs.UpTo.{upTo, sumBelow}
+use Rattle.vrf_store.specs.UpTo.{sumBelow}
 use Rattle.vrf_store.specs.UpToLaws.{length-upTo, upTo-replicate}
 use Rattle.vrf_store.specs.Store.{Store, fieldAt, orEmpty, slotKey, slotBy, groupBy, contentOf}
 use Rattle.vrf_store.specs.Check.{textSum}
@@ -48,14 +48,14 @@ abbrev pub goes : ℕ → Pass → Pass
 goes e p = record { table = p .table; kept = p .kept; gone = p .gone + len (p .table) e }
 
 abbrev pub stays : ℕ → ℕ → Pass → Pass
-stays cap e p = record { table = pushed (p .table) cap (p .kept) (key (p .table) e) (at (p .table) e) (len (p .table) e) (info (p .table) e); kept = suc (p .kept); gone = p .gone }
+stays cap e p = record { table = pushed (p .table) cap (4 * cap + 1) (p .kept) (key (p .table) e) (at (p .table) e) (len (p .table) e) (info (p .table) e); kept = suc (p .kept); gone = p .gone }
 
 unfoldable pub passRow : ℕ → ℕ → ℕ → Pass → Pass
 passRow cap place e p = cond (eqb (key (p .table) e / 65536) place) (goes e p) (stays cap e p)
 
 -- the memory of a table with no heads
 abbrev pub headless : ℕ → List ℕ → List ℕ
-headless cap t = pasted t (4 * (6 * cap)) (replicate (4 * (cap + 1)) 0)
+headless cap t = pasted t (4 * (6 * cap)) (replicate (4 * (4 * cap + 1)) 0)
 
 -- the first e rows, of the group at a place
 unfoldable pub passRows : ℕ → ℕ → List ℕ → ℕ → Pass
@@ -69,7 +69,7 @@ module _ (t : List ℕ) (cap place e kept gone : ℕ) {k l : ℕ} (ek : k ≡ ke
   unfolding passRow
   goes-row z = rw (← ek, ← el, eq-eqb (k / 65536) place z)
 
-  pub stays-row : {a i : ℕ} {t′ : List ℕ} → k / 65536 ≢ place → a ≡ at t e → i ≡ info t e → t′ ≡ pushed t cap kept k a l i → passOf t′ (kept + 1) gone ≡ passRow cap place e (passOf t kept gone)
+  pub stays-row : {a i : ℕ} {t′ : List ℕ} → k / 65536 ≢ place → a ≡ at t e → i ≡ info t e → t′ ≡ pushed t cap (4 * cap + 1) kept k a l i → passOf t′ (kept + 1) gone ≡ passRow cap place e (passOf t kept gone)
   unfolding passRow
   stays-row z ea ei et = rw (← ek, ← el, ← ea, ← ei, ne-eqb (k / 65536) place z, et, add-one kept)
 
@@ -101,22 +101,22 @@ module _ (cap : ℕ) where
   rowsOf t = part t 0 (24 * cap)
 
   abbrev pub headsOf : List ℕ → List ℕ
-  headsOf t = part t (24 * cap) (4 * (cap + 1))
+  headsOf t = part t (24 * cap) (4 * (4 * cap + 1))
 
   module _ (r heads : List ℕ) (lr : length r ≡ 24 * cap) where
     rows-of : rowsOf (r ++ heads) ≡ r
     unfolding part
     rows-of = take-at r heads (24 * cap) lr
 
-    heads-of : length heads ≡ 4 * (cap + 1) → headsOf (r ++ heads) ≡ heads
+    heads-of : length heads ≡ 4 * (4 * cap + 1) → headsOf (r ++ heads) ≡ heads
     unfolding part
-    heads-of lh = ap (take (4 * (cap + 1))) (drop-at r heads (24 * cap) lr) ∙ take-all (4 * (cap + 1)) heads (omega (arith, lh))
+    heads-of lh = ap (take (4 * (4 * cap + 1))) (drop-at r heads (24 * cap) lr) ∙ take-all (4 * (4 * cap + 1)) heads (omega (arith, lh))
 
-  pub headless-is : (t : List ℕ) → length t ≡ 24 * cap + 4 * (cap + 1) → headless cap t ≡ rowsOf t ++ replicate (4 * (cap + 1)) 0
+  pub headless-is : (t : List ℕ) → length t ≡ 24 * cap + 4 * (4 * cap + 1) → headless cap t ≡ rowsOf t ++ replicate (4 * (4 * cap + 1)) 0
   unfolding pasted part
   headless-is t long =
       let i : 4 * (6 * cap) ≡ 24 * cap = omega arith in
-      let all : 24 * cap + length {A = ℕ} (replicate (4 * (cap + 1)) 0) ≡ length t = omega (arith, long, length-replicate {A = ℕ} (4 * (cap + 1)) 0) in
+      let all : 24 * cap + length {A = ℕ} (replicate (4 * (4 * cap + 1)) 0) ≡ length t = omega (arith, long, length-replicate {A = ℕ} (4 * (4 * cap + 1)) 0) in
       rw (i, all, drop-length t, append-nil)
 
   -- a row of the table is one of its rows
@@ -162,18 +162,18 @@ pub record Kept (s : Store) (place e : ℕ) (p : Pass) : Type 0 where
   pub total : ℕ
   pub sum : total + p .gone ≡ otherText s + sumBelow (len (s .fieldRows)) e
   pub valid : Valid (passStore s p total)
-  pub heads : (j : ℕ) → j < cap s + 1 → word (headsOf (cap s) (p .table)) j ≤ p .kept
+  pub heads : (j : ℕ) → j < 4 * cap s + 1 → word (headsOf (cap s) (p .table)) j ≤ p .kept
   pub rest : (j : ℕ) → e ≤ j → SameRow (s .fieldRows) (rowsOf (cap s) (p .table)) j
   pub others : (g q : ℕ) → g < s .header .groups → q < info (s .groupRows) g → g ≢ place → slotBy s e g q ≡ slotBy (passStore s p total) (p .kept) g q
   pub own : (q : ℕ) → q < info (s .groupRows) place → slotBy (passStore s p total) (p .kept) place q ≡ empty
 
 -- the memory of the fields before the pass: the rows, and no heads
 abbrev cleared : Store → List ℕ
-cleared s = s .fieldRows ++ replicate (4 * (cap s + 1)) 0
+cleared s = s .fieldRows ++ replicate (4 * (4 * cap s + 1)) 0
 
 module _ {s : Store} (v : Valid s) (place : ℕ) where
-  zeros-long : length {A = ℕ} (replicate (4 * (cap s + 1)) 0) ≡ length (s .fieldHeads)
-  zeros-long = length-replicate (4 * (cap s + 1)) 0 ∙ sym (v .shaped .fieldHeads)
+  zeros-long : length {A = ℕ} (replicate (4 * (4 * cap s + 1)) 0) ≡ length (s .fieldHeads)
+  zeros-long = length-replicate (4 * (4 * cap s + 1)) 0 ∙ sym (v .shaped .fieldHeads)
 
   start-valid : (heads : List ℕ) → length heads ≡ length (s .fieldHeads) → Valid (withFields s (s .fieldRows) heads 0 (otherText s))
   unfolding walk lastBelow sumBelow textSum
@@ -190,13 +190,13 @@ module _ {s : Store} (v : Valid s) (place : ℕ) where
   start : Kept s place 0 (passRows (cap s) place (cleared s) 0)
   unfolding passRows slotBy lastBelow orEmpty sumBelow
   start =
-      let rows = rows-of (cap s) (s .fieldRows) (replicate (4 * (cap s + 1)) 0) (v .shaped .fieldRows) in
-      let heads = heads-of (cap s) (s .fieldRows) (replicate (4 * (cap s + 1)) 0) (v .shaped .fieldRows) (length-replicate (4 * (cap s + 1)) 0) in
+      let rows = rows-of (cap s) (s .fieldRows) (replicate (4 * (4 * cap s + 1)) 0) (v .shaped .fieldRows) in
+      let heads = heads-of (cap s) (s .fieldRows) (replicate (4 * (4 * cap s + 1)) 0) (v .shaped .fieldRows) (length-replicate (4 * (4 * cap s + 1)) 0) in
       record {
         few = omega arith;
         total = otherText s;
         sum = omega arith;
-        valid = rw (rows, heads) (start-valid (replicate (4 * (cap s + 1)) 0) zeros-long);
+        valid = rw (rows, heads) (start-valid (replicate (4 * (4 * cap s + 1)) 0) zeros-long);
         heads = λ j h. rw (heads, word-zeros) (omega arith);
         rest = λ j h. rw rows (record { key = refl; at = refl; len = refl; info = refl });
         others = λ g q hg hq ne. refl;
@@ -259,7 +259,7 @@ module _ {s : Store} (v : Valid s) (place e : ℕ) (h : e < s .header .fields) (
     q = key r₀ e % 65536
 
     abbrev b : ℕ
-    b = cap s + 1
+    b = 4 * cap s + 1
 
     abbrev rows : List ℕ
     rows = rowsOf (cap s) (p .table)

@@ -29,7 +29,7 @@ pub record Renamed (m m′ : List ℕ) (e : ℕ) (w : Slot) : Type 0 where
 
 -- the rows of the fields and, behind them, the heads
 abbrev fieldTable : List ℕ → List ℕ
-fieldTable m = part m (4 * Layout.fieldRowsAt (allowancesOf m)) (24 * allowancesOf m .fields + 4 * (allowancesOf m .fields + 1))
+fieldTable m = part m (4 * Layout.fieldRowsAt (allowancesOf m)) (24 * allowancesOf m .fields + 4 * Layout.fieldBuckets (allowancesOf m))
 
 module _ {m : List ℕ} (g : Good m) where
   room : 128 ≤ length m
@@ -47,13 +47,13 @@ module _ {m : List ℕ} (g : Good m) where
   unfolding keyStart words
   head-small bytes k = word-bound _ _ (bytes-part m _ _ bytes)
 
-  table-fits : 4 * Layout.fieldRowsAt (allowancesOf m) + 24 * allowancesOf m .fields + 4 * (allowancesOf m .fields + 1) ≤ length m
+  table-fits : 4 * Layout.fieldRowsAt (allowancesOf m) + 24 * allowancesOf m .fields + 4 * Layout.fieldBuckets (allowancesOf m) ≤ length m
   table-fits = omega (arith, g .enough)
 
-  pushed-stepped : Bytes m → (place slot a l i : ℕ) → NewField (storeOf m) place slot a l → Is32 i → Stepped m (setWord (setWord (pasted m (4 * Layout.fieldRowsAt (allowancesOf m)) (pushed (fieldTable m) (allowancesOf m .fields) (headerOf m .fields) (slotKey place slot) a l i)) 7 (suc (headerOf m .fields))) 8 (headerOf m .held + l)) (withField (held m) place slot (filled i (part (storeOf m .texts) a l)))
+  pushed-stepped : Bytes m → (place slot a l i : ℕ) → NewField (storeOf m) place slot a l → Is32 i → Stepped m (setWord (setWord (pasted m (4 * Layout.fieldRowsAt (allowancesOf m)) (pushed (fieldTable m) (allowancesOf m .fields) (Layout.fieldBuckets (allowancesOf m)) (headerOf m .fields) (slotKey place slot) a l i)) 7 (suc (headerOf m .fields))) 8 (headerOf m .held + l)) (withField (held m) place slot (filled i (part (storeOf m .texts) a l)))
   pushed-stepped bytes place slot a l i w small =
       let head = head-small bytes (slotKey place slot) in
-      table-stepped _ _ _ _ _ _ (pushed-words m (Layout.fieldRowsAt (allowancesOf m)) (allowancesOf m .fields) table-fits (headerOf m .fields) (slotKey place slot) a l i)
+      table-stepped _ _ _ _ _ _ (pushed-words m (Layout.fieldRowsAt (allowancesOf m)) (allowancesOf m .fields) (Layout.fieldBuckets (allowancesOf m)) table-fits (headerOf m .fields) (slotKey place slot) a l i)
       (push-valid (g .valid) place slot a l i w small head) (push-content (g .valid) place slot a l i w small head)
 
   renamed-stepped : (e a l i : ℕ) → NewName (storeOf m) e a l → Is32 i → Renamed m (setWord (pasted m (4 * Layout.fieldRowsAt (allowancesOf m)) (setText (fieldTable m) e a l i)) 8 (headerOf m .held - len (storeOf m .fieldRows) e + l)) e (filled i (part (storeOf m .texts) a l))
@@ -62,23 +62,23 @@ module _ {m : List ℕ} (g : Good m) where
       let v = rename-valid (g .valid) e a l i w small in
       let table = wrote-fieldTable (unwritten m) (g .enough) (setText (storeOf m .fieldRows) e a l i) (storeOf m .fieldHeads) (v .shaped .fieldRows) (v .shaped .fieldHeads) in
       let all = wrote-held table (renamed-held (g .valid) e a l i w small) (omega (arith, v .header .held, v .header .tops .text)) room in
-      rw (text-words m (Layout.fieldRowsAt (allowancesOf m)) (allowancesOf m .fields) table-fits e few a l i) (record {
+      rw (text-words m (Layout.fieldRowsAt (allowancesOf m)) (allowancesOf m .fields) (Layout.fieldBuckets (allowancesOf m)) table-fits e few a l i) (record {
         stepped = stepped (g .enough) all v (rename-content (g .valid) e a l i w small) refl;
         keys = λ j h. ap (λ (s : Store). key (s .fieldRows) j) (all .store) ∙ sym (same-key (g .valid) e a l i w small j);
       })
 
 -- ---- the table as it is lent
 
-module _ {m : List ℕ} (g : Good m) {cap from : ℕ} {f : List ℕ → List ℕ} {t : List ℕ} (ec : cap ≡ allowancesOf m .fields) (ef : from ≡ 4 * Layout.fieldRowsAt (allowancesOf m)) (table : Lent m from (tableEnd from cap) f t) where
+module _ {m : List ℕ} (g : Good m) {cap from : ℕ} {f : List ℕ → List ℕ} {t : List ℕ} (ec : cap ≡ allowancesOf m .fields) (ef : from ≡ 4 * Layout.fieldRowsAt (allowancesOf m)) (table : Lent m from (tableEnd from cap (4 * cap + 1)) f t) where
   -- the table comes back
-  came-back : lentTo m from (tableEnd from cap) t ≡ pasted m (4 * Layout.fieldRowsAt (allowancesOf m)) (f (fieldTable m))
-  came-back = lent (24 * cap + 4 * (cap + 1)) table (omega arith) (omega (arith, g .enough, ec, ef)) ∙ rw (ec, ef)
+  came-back : lentTo m from (tableEnd from cap (4 * cap + 1)) t ≡ pasted m (4 * Layout.fieldRowsAt (allowancesOf m)) (f (fieldTable m))
+  came-back = lent (24 * cap + 4 * (4 * cap + 1)) table (omega arith) (omega (arith, g .enough, ec, ef)) ∙ rw (ec, ef)
 
 -- ---- a field more
 
 module _ {m : List ℕ} (g : Good m) (bytes : Bytes m) (place slot a l i : ℕ) (w : NewField (storeOf m) place slot a l) (small : Is32 i) where
   pub push-field : {cap from n total : ℕ} {t m₁ m′ : List ℕ} → cap ≡ allowancesOf m .fields → from ≡ 4 * Layout.fieldRowsAt (allowancesOf m) → n ≡ headerOf m .fields → total ≡ headerOf m .held
-      → Lent m from (tableEnd from cap) (λ x. pushed x cap n (65536 * place + slot) a l i) t → m₁ ≡ setWord (lentTo m from (tableEnd from cap) t) 7 (n + 1) → m′ ≡ setWord m₁ 8 (total + l)
+      → Lent m from (tableEnd from cap (4 * cap + 1)) (λ x. pushed x cap (4 * cap + 1) n (65536 * place + slot) a l i) t → m₁ ≡ setWord (lentTo m from (tableEnd from cap (4 * cap + 1)) t) 7 (n + 1) → m′ ≡ setWord m₁ 8 (total + l)
       → Stepped m m′ (withField (held m) place slot (filled i (part (storeOf m .texts) a l)))
   unfolding slotKey
   push-field {n = n} ec ef en et table e₁ e₂ = rw (e₂, e₁, add-one n, came-back g ec ef table, ec, en, et) (pushed-stepped g bytes place slot a l i w small)
@@ -87,30 +87,30 @@ module _ {m : List ℕ} (g : Good m) (bytes : Bytes m) (place slot a l i : ℕ) 
 
 module _ {m : List ℕ} (g : Good m) (e a l i : ℕ) (w : NewName (storeOf m) e a l) (small : Is32 i) where
   pub set-field-row : {cap from total : ℕ} {t m′ : List ℕ} → cap ≡ allowancesOf m .fields → from ≡ 4 * Layout.fieldRowsAt (allowancesOf m) → total ≡ headerOf m .held - len (storeOf m .fieldRows) e + l
-      → Lent m from (tableEnd from cap) (λ x. setText x e a l i) t → m′ ≡ setWord (lentTo m from (tableEnd from cap) t) 8 total
+      → Lent m from (tableEnd from cap (4 * cap + 1)) (λ x. setText x e a l i) t → m′ ≡ setWord (lentTo m from (tableEnd from cap (4 * cap + 1)) t) 8 total
       → Renamed m m′ e (filled i (part (storeOf m .texts) a l))
   set-field-row ec ef et table e₁ = rw (e₁, came-back g ec ef table, et) (renamed-stepped g e a l i w small)
 
 -- ---- all fields of a group go
 
-module _ {m : List ℕ} (g : Good m) (place : ℕ) (in-groups : place < headerOf m .groups) {cap from n rows gone : ℕ} {t : List ℕ} (ec : cap ≡ allowancesOf m .fields) (ef : from ≡ 4 * Layout.fieldRowsAt (allowancesOf m)) (en : n ≡ headerOf m .fields) (long : length t ≡ length (lentPart m from (tableEnd from cap))) (ep : passOf t rows gone ≡ passRows cap place (headless cap (lentPart m from (tableEnd from cap))) n) where
-  lent-is : lentPart m from (tableEnd from cap) ≡ fieldTable m
+module _ {m : List ℕ} (g : Good m) (place : ℕ) (in-groups : place < headerOf m .groups) {cap from n rows gone : ℕ} {t : List ℕ} (ec : cap ≡ allowancesOf m .fields) (ef : from ≡ 4 * Layout.fieldRowsAt (allowancesOf m)) (en : n ≡ headerOf m .fields) (long : length t ≡ length (lentPart m from (tableEnd from cap (4 * cap + 1)))) (ep : passOf t rows gone ≡ passRows cap place (headless cap (lentPart m from (tableEnd from cap (4 * cap + 1)))) n) where
+  lent-is : lentPart m from (tableEnd from cap (4 * cap + 1)) ≡ fieldTable m
   unfolding part
-  lent-is = let size : tableEnd from cap - from ≡ 24 * cap + 4 * (cap + 1) = omega arith in rw (size, ec, ef)
+  lent-is = let size : tableEnd from cap (4 * cap + 1) - from ≡ 24 * cap + 4 * (4 * cap + 1) = omega arith in rw (size, ec, ef)
 
-  table-long : length (fieldTable m) ≡ 24 * allowancesOf m .fields + 4 * (allowancesOf m .fields + 1)
+  table-long : length (fieldTable m) ≡ 24 * allowancesOf m .fields + 4 * Layout.fieldBuckets (allowancesOf m)
   table-long = length-part m _ _ (omega (arith, table-fits g))
 
   end-is : passOf t rows gone ≡ dropped (storeOf m) place
-  end-is = ep ∙ rw (lent-is, ec, en, headless-is (allowancesOf m .fields) (fieldTable m) table-long, rows-words m (Layout.fieldRowsAt (allowancesOf m)) (allowancesOf m .fields) (table-fits g))
+  end-is = ep ∙ rw (lent-is, ec, en, headless-is (allowancesOf m .fields) (fieldTable m) table-long, rows-words m (Layout.fieldRowsAt (allowancesOf m)) (allowancesOf m .fields) (Layout.fieldBuckets (allowancesOf m)) (table-fits g))
 
   pub dropped-held : gone ≤ headerOf m .held
   dropped-held = rw (ap (λ (p : Pass). p .gone) end-is) (gone-held (g .valid) place in-groups)
 
-  pub drop-fields : {total : ℕ} {m₁ m′ : List ℕ} → total ≡ headerOf m .held → m₁ ≡ setWord (lentTo m from (tableEnd from cap) t) 7 rows → m′ ≡ setWord m₁ 8 (total - gone) → Stepped m m′ (withGroup (held m) place emptied)
+  pub drop-fields : {total : ℕ} {m₁ m′ : List ℕ} → total ≡ headerOf m .held → m₁ ≡ setWord (lentTo m from (tableEnd from cap (4 * cap + 1)) t) 7 rows → m′ ≡ setWord m₁ 8 (total - gone) → Stepped m m′ (withGroup (held m) place emptied)
   drop-fields et e₁ e₂ =
       let back = came-back g {f = λ _. t} ec ef (record { long = long; made = refl }) in
       let is-t = ap (λ (p : Pass). p .table) end-is in
-      let whole = halves (dropped (storeOf m) place .table) (allowancesOf m .fields) (ap length (sym is-t) ∙ long ∙ ap length lent-is ∙ table-long) in
+      let whole = halves (dropped (storeOf m) place .table) (allowancesOf m .fields) (Layout.fieldBuckets (allowancesOf m)) (ap length (sym is-t) ∙ long ∙ ap length lent-is ∙ table-long) in
       rw (e₂, e₁, back, et, is-t, ap (λ (p : Pass). p .kept) end-is, ap (λ (p : Pass). p .gone) end-is)
       (table-stepped g _ _ _ _ _ _ whole (drop-valid (g .valid) place in-groups) (drop-content (g .valid) place in-groups))

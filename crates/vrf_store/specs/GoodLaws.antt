@@ -4,6 +4,7 @@ use mathlib.Core.List.{List}
 use Prim.Native.Nat.{ℕ, _+_, _*_, _^_, _<_, _≤_}
 use native.Mathlib.Omega.{arith}
 use lib.ListN.{length}
+use Rattle.vrf_path.specs.Leaf.{Dotless}
 use Rattle.vrf_table.specs.Table.{at, len}
 use Rattle.vrf_table.specs.Answers.{Texts}
 use Rattle.vrf_store.specs.Layout
@@ -48,12 +49,12 @@ module _ {s : Store} (v : Valid s) where
 
   -- ---- the indices of the groups
 
-  module _ {r x : List ℕ} {b n : ℕ} (er : r ≡ s .groupRows) (ex : x ≡ s .texts) (eb : b ≡ Layout.groupBuckets (s .header .allowed)) (en : n ≡ s .header .groups) where
+  module _ {r x : List ℕ} {n : ℕ} (er : r ≡ s .groupRows) (ex : x ≡ s .texts) (en : n ≡ s .header .groups) where
     group-texts : Texts r x n
     group-texts i h = group-text er ex (omega arith)
 
-    pub path-walk : {links heads : List ℕ} {k : ℕ} → links ≡ s .pathLinks → heads ≡ s .pathHeads → k < 2 ^ 31 → (24 * n ≤ length r) × (12 * n ≤ length links) × (4 * b ≤ length heads) × (0 < b) × (n ≤ 100000) × Texts r x n × (k < 2 ^ 31)
-    path-walk el eh h = let lr = ap length er in let ll = ap length el in let lh = ap length eh in (omega arith, omega arith, omega arith, omega arith, omega arith, group-texts, h)
+    pub path-walk : {b : ℕ} → b ≡ Layout.pathBuckets (s .header .allowed) → {links heads : List ℕ} {k : ℕ} → links ≡ s .pathLinks → heads ≡ s .pathHeads → k < 2 ^ 31 → (24 * n ≤ length r) × (12 * n ≤ length links) × (4 * b ≤ length heads) × (0 < b) × (n ≤ 100000) × Texts r x n × (k < 2 ^ 31)
+    path-walk eb el eh h = let lr = ap length er in let ll = ap length el in let lh = ap length eh in (omega arith, omega arith, omega arith, omega arith, omega arith, group-texts, h)
 
-    pub leaf-walk : {links heads : List ℕ} {k : ℕ} → links ≡ s .leafLinks → heads ≡ s .leafHeads → k < 2 ^ 31 → (24 * n ≤ length r) × (4 * n ≤ length links) × (4 * b ≤ length heads) × (0 < b) × Texts r x n × (k < 2 ^ 31)
-    leaf-walk el eh h = let lr = ap length er in let ll = ap length el in let lh = ap length eh in (omega arith, omega arith, omega arith, omega arith, group-texts, h)
+    pub leaf-walk : (l : List ℕ) {b : ℕ} → b ≡ Layout.leafBuckets (s .header .allowed) → {links heads : List ℕ} → Dotless l → links ≡ s .leafLinks → heads ≡ s .leafHeads → length l < 2 ^ 31 → Dotless l × (24 * n ≤ length r) × (4 * n ≤ length links) × (4 * b ≤ length heads) × (0 < b) × (n ≤ 100000) × Texts r x n × (length l < 2 ^ 31)
+    leaf-walk l eb d el eh h = let lr = ap length er in let ll = ap length el in let lh = ap length eh in (d, omega arith, omega arith, omega arith, omega arith, omega arith, group-texts, h)

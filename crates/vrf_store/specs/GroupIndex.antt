@@ -23,8 +23,8 @@ use Rattle.vrf_store.specs.TextMoves.{bucketOf, linked, headed, Below}
 -- the three indexes are right for the first n groups
 pub record Indexed (s : Store) (n : ℕ) : Type 0 where
   pub keys : Latest (keyHit (s .groupRows)) (link (s .groupRows)) (keyStart (s .groupHeads) (Layout.groupBuckets (s .header .allowed))) n
-  pub paths : Latest (pathHit (s .groupRows) (s .texts)) (word (s .pathLinks)) (textStart (s .pathHeads) (Layout.groupBuckets (s .header .allowed))) (3 * n)
-  pub leaves : Claims (leafHit (s .groupRows) (s .texts)) (word (s .leafLinks)) (textStart (s .leafHeads) (Layout.groupBuckets (s .header .allowed))) n
+  pub paths : Latest (pathHit (s .groupRows) (s .texts)) (word (s .pathLinks)) (textStart (s .pathHeads) (Layout.pathBuckets (s .header .allowed))) (3 * n)
+  pub leaves : Claims (leafHit (s .groupRows) (s .texts)) (word (s .leafLinks)) (textStart (s .leafHeads) (Layout.leafBuckets (s .header .allowed))) n
 
 -- all is valid but for these indexes, of which nothing is said
 pub record Unindexed (s : Store) : Type 0 where
@@ -56,10 +56,10 @@ abbrev pub keyOf : Store → ℕ → Option ℕ
 keyOf s g = some (keyBucket (Layout.groupBuckets (s .header .allowed)) (key (s .groupRows) g))
 
 abbrev pub pathOf : Store → ℕ → ℕ → Option ℕ
-pathOf s g j = bucketOf (Layout.groupBuckets (s .header .allowed)) (numbered (text (s .groupRows) (s .texts) g) j)
+pathOf s g j = bucketOf (Layout.pathBuckets (s .header .allowed)) (numbered (text (s .groupRows) (s .texts) g) j)
 
 abbrev pub leafOf : Store → ℕ → Option ℕ
-leafOf s g = bucketOf (Layout.groupBuckets (s .header .allowed)) (leaf (text (s .groupRows) (s .texts) g))
+leafOf s g = bucketOf (Layout.leafBuckets (s .header .allowed)) (leaf (text (s .groupRows) (s .texts) g))
 
 unfoldable pub indexGroup : Store → ℕ → Store
 indexGroup s g = pushLeaf (pushPath (pushPath (pushPath (pushKey s g (keyOf s g)) (3 * g) (pathOf s g 0)) (3 * g + 1) (pathOf s g 1)) (3 * g + 2) (pathOf s g 2)) g (leafOf s g)
@@ -94,12 +94,12 @@ pub record Indexable (m : List ℕ) (g : ℕ) : Type 0 where
   pub within : at (storeOf m .groupRows) g + len (storeOf m .groupRows) g ≤ allowancesOf m .text
   pub short : len (storeOf m .groupRows) g ≤ 4096
 
--- entry e, of n for each group, can be put at the front of the chain of a bucket
-pub record Pushable (m : List ℕ) (n e : ℕ) (o : Option ℕ) : Type 0 where
+-- entry e, of n for each group, can be put at the front of the chain of a bucket, of which there are b
+pub record Pushable (m : List ℕ) (n b e : ℕ) (o : Option ℕ) : Type 0 where
   pub enough : Enough m
   pub few : allowancesOf m .groups ≤ 100000
   pub low : e < n * allowancesOf m .groups
-  pub below : Below (allowancesOf m .groups + 1) o
+  pub below : Below b o
 
 -- what a change of links and heads leaves of a memory, with more groups indexed than there were
 pub record Joined (m m′ : List ℕ) (n n′ : ℕ) : Type 0 where

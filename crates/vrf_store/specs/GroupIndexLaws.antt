@@ -12,6 +12,7 @@ use Rattle.vrf_words.specs.Words.{word, setWord}
 use Rattle.vrf_words.specs.WordsLaws.{length-setWord, word-setWord-same, word-setWord-other, word-bound}
 use Rattle.vrf_path.specs.Keys.{isThe}
 use Rattle.vrf_path.specs.Leaf.{leaf}
+use Rattle.vrf_model.specs.Book.{Allowances}
 use Rattle.vrf_table.specs.Chain.{walk, lastBelow}
 use Rattle.vrf_table.specs.ChainLaws.{by-equal}
 use Rattle.vrf_table.specs.Index.{Latest, Claims, claimBelow, claimWalk, claimFrom}
@@ -192,15 +193,15 @@ pub record Heads (s : Store) : Type 0 where
   pub leaves : Bytes (s .leafHeads)
 
 module _ (s : Store) (g : ℕ) (shaped : Shaped s) (few : s .header .allowed .groups ≤ 100000) (low : g < s .header .allowed .groups) where
-  abbrev b : ℕ
-  b = Layout.groupBuckets (s .header .allowed)
+  abbrev a : Allowances
+  a = s .header .allowed
 
   pub index-indexed : Heads s → Indexed s g → Indexed (indexGroup s g) (suc g)
   unfolding indexGroup pushLeaf pushPath pushKey linked headed
   index-indexed y i =
-      let same = link-rows (s .groupRows) g (word (s .groupHeads) (keyBucket b (key (s .groupRows) g))) (omega (arith, shaped .groupRows)) in
+      let same = link-rows (s .groupRows) g (word (s .groupHeads) (keyBucket (Layout.groupBuckets a) (key (s .groupRows) g))) (omega (arith, shaped .groupRows)) in
       record {
-        keys = latest-key (s .groupRows) (s .groupHeads) b g (omega (arith, shaped .groupRows)) (omega (arith, shaped .groupHeads)) (omega arith) (omega arith) (y .groups) (i .keys);
-        paths = same-paths (s .groupRows) (s .texts) _ (s .texts) (suc g) (λ e _. same-text same (s .texts) e) _ _ b (latest-paths (s .groupRows) (s .texts) (s .pathLinks) (s .pathHeads) b g (omega (arith, shaped .pathLinks)) (omega (arith, shaped .pathHeads)) (omega arith) (omega arith) (y .paths) (i .paths));
-        leaves = same-leaves (s .groupRows) (s .texts) _ (s .texts) (suc g) (λ e _. same-text same (s .texts) e) _ _ b (claims-leaf (s .groupRows) (s .texts) (s .leafLinks) (s .leafHeads) b g (omega (arith, shaped .leafLinks)) (omega (arith, shaped .leafHeads)) (omega arith) (omega arith) (y .leaves) (i .leaves));
+        keys = latest-key (s .groupRows) (s .groupHeads) (Layout.groupBuckets a) g (omega (arith, shaped .groupRows)) (omega (arith, shaped .groupHeads)) (omega arith) (omega arith) (y .groups) (i .keys);
+        paths = same-paths (s .groupRows) (s .texts) _ (s .texts) (suc g) (λ e _. same-text same (s .texts) e) _ _ (Layout.pathBuckets a) (latest-paths (s .groupRows) (s .texts) (s .pathLinks) (s .pathHeads) (Layout.pathBuckets a) g (omega (arith, shaped .pathLinks)) (omega (arith, shaped .pathHeads)) (omega arith) (omega arith) (y .paths) (i .paths));
+        leaves = same-leaves (s .groupRows) (s .texts) _ (s .texts) (suc g) (λ e _. same-text same (s .texts) e) _ _ (Layout.leafBuckets a) (claims-leaf (s .groupRows) (s .texts) (s .leafLinks) (s .leafHeads) (Layout.leafBuckets a) g (omega (arith, shaped .leafLinks)) (omega (arith, shaped .leafHeads)) (omega arith) (omega arith) (y .leaves) (i .leaves));
       }

@@ -7,7 +7,7 @@ use native.Mathlib.Omega.{arith}
 use lib.ListN.{length}
 use Rattle.vrf_words.specs.Words.{word}
 use Rattle.vrf_path.specs.Leaf.{leaf}
-use Rattle.vrf_model.specs.Book.{Group}
+use Rattle.vrf_model.specs.Book.{Group, Allowances}
 use Rattle.vrf_table.specs.Table.{key, len, text}
 use Rattle.vrf_table.specs.TableLaws.{keyBucket-lt}
 use Rattle.vrf_table.specs.TextIndex.{numbered}
@@ -151,25 +151,25 @@ module _ (s : Store) (e b : ℕ) where
 
 -- the buckets of a group are among those that there are
 module _ (s : Store) (g : ℕ) where
-  abbrev buckets : ℕ
-  buckets = Layout.groupBuckets (s .header .allowed)
+  abbrev a : Allowances
+  a = s .header .allowed
 
-  pub key-below : Below buckets (keyOf s g)
-  key-below = keyBucket-lt buckets (key (s .groupRows) g) (omega arith)
+  pub key-below : Below (Layout.groupBuckets a) (keyOf s g)
+  key-below = keyBucket-lt (Layout.groupBuckets a) (key (s .groupRows) g) (omega arith)
 
-  pub path-below : (j : ℕ) → Below buckets (pathOf s g j)
-  path-below j = bucketOf-below buckets (numbered (text (s .groupRows) (s .texts) g) j) (omega arith)
+  pub path-below : (j : ℕ) → Below (Layout.pathBuckets a) (pathOf s g j)
+  path-below j = bucketOf-below (Layout.pathBuckets a) (numbered (text (s .groupRows) (s .texts) g) j) (omega arith)
 
-  pub leaf-below : Below buckets (leafOf s g)
-  leaf-below = bucketOf-below buckets (leaf (text (s .groupRows) (s .texts) g)) (omega arith)
+  pub leaf-below : Below (Layout.leafBuckets a) (leafOf s g)
+  leaf-below = bucketOf-below (Layout.leafBuckets a) (leaf (text (s .groupRows) (s .texts) g)) (omega arith)
 
 module _ (s : Store) (g : ℕ) (shaped : Shaped s) (low : g < s .header .allowed .groups) where
   pub index-relinked : Relinked s (indexGroup s g)
   unfolding indexGroup
   index-relinked =
-      let b = Layout.groupBuckets (s .header .allowed) in
-      let k = key-relinked s g b (keyOf s g) (omega (arith, shaped .groupRows)) (omega (arith, shaped .groupHeads)) (key-below s g) in
+      let b = Layout.pathBuckets (s .header .allowed) in
+      let k = key-relinked s g (Layout.groupBuckets (s .header .allowed)) (keyOf s g) (omega (arith, shaped .groupRows)) (omega (arith, shaped .groupHeads)) (key-below s g) in
       let p0 = relinked-trans k (path-relinked (pushKey s g (keyOf s g)) (3 * g) b (pathOf s g 0) (omega (arith, shaped .pathLinks, k .pathLinks)) (omega (arith, shaped .pathHeads, k .pathHeads)) (path-below s g 0)) in
       let p1 = relinked-trans p0 (path-relinked _ (3 * g + 1) b (pathOf s g 1) (omega (arith, shaped .pathLinks, p0 .pathLinks)) (omega (arith, shaped .pathHeads, p0 .pathHeads)) (path-below s g 1)) in
       let p2 = relinked-trans p1 (path-relinked _ (3 * g + 2) b (pathOf s g 2) (omega (arith, shaped .pathLinks, p1 .pathLinks)) (omega (arith, shaped .pathHeads, p1 .pathHeads)) (path-below s g 2)) in
-      relinked-trans p2 (leaf-relinked _ g b (leafOf s g) (omega (arith, shaped .leafLinks, p2 .leafLinks)) (omega (arith, shaped .leafHeads, p2 .leafHeads)) (leaf-below s g))
+      relinked-trans p2 (leaf-relinked _ g (Layout.leafBuckets (s .header .allowed)) (leafOf s g) (omega (arith, shaped .leafLinks, p2 .leafLinks)) (omega (arith, shaped .leafHeads, p2 .leafHeads)) (leaf-below s g))

@@ -35,27 +35,27 @@ module _ (m m′ : List ℕ) (g r e : ℕ) (o : Option ℕ) (guids : g ≡ allow
   shaped : Enough m → Shaped (storeOf m)
   shaped = need-shaped (headerOf m) m
 
-  pub key-written : Pushable m 1 e o → m′ ≡ pasted m (4 * (33 + 7 * g)) (chained m (33 + 7 * g) (6 * r) (r + 1) (6 * e + 2) (e + 1) o) → Written m m′ (pushKey (storeOf m) e o)
+  pub key-written : Pushable m 1 (Layout.groupBuckets (allowancesOf m)) e o → m′ ≡ pasted m (4 * (33 + 10 * g)) (chained m (33 + 10 * g) (6 * r) (r + 1) (6 * e + 2) (e + 1) o) → Written m m′ (pushKey (storeOf m) e o)
   unfolding pushKey
   key-written h w = rw (w, guids, groups) (wrote-groupTable (unwritten m) (h .enough) _ _
       (length-linked (storeOf m .groupRows) (storeOf m .groupHeads) (6 * e + 2) (omega (arith, h .low, shaped (h .enough) .groupRows)) o ∙ shaped (h .enough) .groupRows)
-      (length-headed (storeOf m .groupHeads) (allowancesOf m .groups + 1) (e + 1) (omega (arith, shaped (h .enough) .groupHeads)) o (h .below) ∙ shaped (h .enough) .groupHeads))
+      (length-headed (storeOf m .groupHeads) (Layout.groupBuckets (allowancesOf m)) (e + 1) (omega (arith, shaped (h .enough) .groupHeads)) o (h .below) ∙ shaped (h .enough) .groupHeads))
 
-  pub path-written : Pushable m 3 e o → m′ ≡ pasted m (4 * (34 + 7 * g + 7 * r)) (chained m (34 + 7 * g + 7 * r) (3 * r) (r + 1) e (e + 1) o) → Written m m′ (pushPath (storeOf m) e o)
+  pub path-written : Pushable m 3 (Layout.pathBuckets (allowancesOf m)) e o → m′ ≡ pasted m (4 * (34 + 10 * g + 7 * r)) (chained m (34 + 10 * g + 7 * r) (3 * r) (3 * r + 1) e (e + 1) o) → Written m m′ (pushPath (storeOf m) e o)
   unfolding pushPath
   path-written h w =
-      let heads : 34 + 7 * allowancesOf m .guids + 7 * allowancesOf m .groups + 3 * allowancesOf m .groups ≡ Layout.pathHeadsAt (allowancesOf m) = omega arith in
+      let heads : 34 + 10 * allowancesOf m .guids + 7 * allowancesOf m .groups + 3 * allowancesOf m .groups ≡ Layout.pathHeadsAt (allowancesOf m) = omega arith in
       rw (w, guids, groups, heads) (wrote-pathIndex (unwritten m) (h .enough) _ _
       (length-linked (storeOf m .pathLinks) (storeOf m .pathHeads) e (omega (arith, h .low, shaped (h .enough) .pathLinks)) o ∙ shaped (h .enough) .pathLinks)
-      (length-headed (storeOf m .pathHeads) (allowancesOf m .groups + 1) (e + 1) (omega (arith, shaped (h .enough) .pathHeads)) o (h .below) ∙ shaped (h .enough) .pathHeads))
+      (length-headed (storeOf m .pathHeads) (Layout.pathBuckets (allowancesOf m)) (e + 1) (omega (arith, shaped (h .enough) .pathHeads)) o (h .below) ∙ shaped (h .enough) .pathHeads))
 
-  pub leaf-written : Pushable m 1 e o → m′ ≡ pasted m (4 * (35 + 7 * g + 11 * r)) (chained m (35 + 7 * g + 11 * r) r (r + 1) e (e + 1) o) → Written m m′ (pushLeaf (storeOf m) e o)
+  pub leaf-written : Pushable m 1 (Layout.leafBuckets (allowancesOf m)) e o → m′ ≡ pasted m (4 * (35 + 10 * g + 13 * r)) (chained m (35 + 10 * g + 13 * r) r (2 * r + 1) e (e + 1) o) → Written m m′ (pushLeaf (storeOf m) e o)
   unfolding pushLeaf
   leaf-written h w =
-      let heads : 35 + 7 * allowancesOf m .guids + 11 * allowancesOf m .groups + allowancesOf m .groups ≡ Layout.leafHeadsAt (allowancesOf m) = omega arith in
+      let heads : 35 + 10 * allowancesOf m .guids + 13 * allowancesOf m .groups + allowancesOf m .groups ≡ Layout.leafHeadsAt (allowancesOf m) = omega arith in
       rw (w, guids, groups, heads) (wrote-leafIndex (unwritten m) (h .enough) _ _
       (length-linked (storeOf m .leafLinks) (storeOf m .leafHeads) e (omega (arith, h .low, shaped (h .enough) .leafLinks)) o ∙ shaped (h .enough) .leafLinks)
-      (length-headed (storeOf m .leafHeads) (allowancesOf m .groups + 1) (e + 1) (omega (arith, shaped (h .enough) .leafHeads)) o (h .below) ∙ shaped (h .enough) .leafHeads))
+      (length-headed (storeOf m .leafHeads) (Layout.leafBuckets (allowancesOf m)) (e + 1) (omega (arith, shaped (h .enough) .leafHeads)) o (h .below) ∙ shaped (h .enough) .leafHeads))
 
 -- ---- all the entries of a group
 
@@ -83,8 +83,8 @@ pub after : {m m′ m″ : List ℕ} {s t : Store} → Written m m′ s → Writ
 after {t = t} w v = then (λ _. t) w v
 
 -- a group that can join the indexes still can after writes
-pub pushable : {m m′ : List ℕ} {s : Store} {g : ℕ} {o o′ : Option ℕ} (n e : ℕ) → Indexable m g → Written m m′ s → e < n * allowancesOf m .groups → o ≡ o′ → Below (allowancesOf m .groups + 1) o′ → Pushable m′ n e o
-pushable {m} {m′} {o = o} n e i w low same below =
+pub pushable : {m m′ : List ℕ} {s : Store} {g : ℕ} {o o′ : Option ℕ} (n : ℕ) (b : ℕ → ℕ) (e : ℕ) → Indexable m g → Written m m′ s → e < n * allowancesOf m .groups → o ≡ o′ → Below (b (allowancesOf m .groups)) o′ → Pushable m′ n (b (allowancesOf m′ .groups)) e o
+pushable {m} {m′} {o = o} n b e i w low same below =
     let groups : allowancesOf m′ .groups ≡ allowancesOf m .groups = ap (λ (a : Allowances). a .groups) (w .allowed) in
     record {
       enough = omega (arith, ap Layout.need (w .allowed), w .long, i .enough);

@@ -60,13 +60,13 @@ regrouped s e k a l i n h = heldTo (groupsTo (putGroup s e k a l i) n) h
 
 -- the row as it is lent and written in the memory of a book
 pub row-written : {m t : List ℕ} {g cap : ℕ} (e k a l i : ℕ) → g ≡ allowancesOf m .guids → cap ≡ allowancesOf m .groups → Enough m → e < allowancesOf m .groups
-    → Lent m (4 * (33 + 7 * g)) (tableEnd (4 * (33 + 7 * g)) cap) (λ x. pushRow x e k 0 a l i) t
-    → Written m (lentTo m (4 * (33 + 7 * g)) (tableEnd (4 * (33 + 7 * g)) cap) t) (putGroup (storeOf m) e k a l i)
+    → Lent m (4 * (33 + 10 * g)) (tableEnd (4 * (33 + 10 * g)) cap (cap + 1)) (λ x. pushRow x e k 0 a l i) t
+    → Written m (lentTo m (4 * (33 + 10 * g)) (tableEnd (4 * (33 + 10 * g)) cap (cap + 1)) t) (putGroup (storeOf m) e k a l i)
 row-written {m} {t} {g} {cap} e k a l i eg ec enough low row =
     let shaped = need-shaped (headerOf m) m enough in
-    let from : ℕ = 4 * (33 + 7 * g) in
-    let table : lentTo m from (tableEnd from cap) t ≡ pasted m from (pushRow (part m from (24 * cap + 4 * (cap + 1))) e k 0 a l i) = lent (24 * cap + 4 * (cap + 1)) row (omega arith) (omega (arith, enough, ec, eg)) in
-    let as-words = row-words m (Layout.groupRowsAt (allowancesOf m)) (allowancesOf m .groups) (omega (arith, enough)) e low k 0 a l i in
+    let from : ℕ = 4 * (33 + 10 * g) in
+    let table : lentTo m from (tableEnd from cap (cap + 1)) t ≡ pasted m from (pushRow (part m from (24 * cap + 4 * (cap + 1))) e k 0 a l i) = lent (24 * cap + 4 * (cap + 1)) row (omega arith) (omega (arith, enough, ec, eg)) in
+    let as-words = row-words m (Layout.groupRowsAt (allowancesOf m)) (allowancesOf m .groups) (Layout.groupBuckets (allowancesOf m)) (omega (arith, enough)) e low k 0 a l i in
     let long = length-pushRow (storeOf m .groupRows) e k 0 a l i (omega (arith, low, shaped .groupRows)) in
     rw (table, eg, ec, as-words) (wrote-groupTable (unwritten m) enough (pushRow (storeOf m .groupRows) e k 0 a l i) (storeOf m .groupHeads) (long ∙ shaped .groupRows) (shaped .groupHeads))
 
@@ -191,12 +191,11 @@ module _ (s : Store) (e k a l i h : ℕ) (fits : 24 * e + 24 ≤ length (s .grou
   put-indexed : Indexed s e → Indexed t e
   put-indexed x =
       let r = s .groupRows in
-      let b = Layout.groupBuckets (s .header .allowed) in
       let texts : (j : ℕ) → j < e → text (t .groupRows) (s .texts) j ≡ text r (s .texts) j = λ j m. text-pushRow-other r e k 0 a l i fits j (before j m) (s .texts) in
       record {
-        keys = same-keys r (t .groupRows) (s .groupHeads) b e (λ j m. key-pushRow-other r e k 0 a l i fits j (before j m)) (λ j m. link-pushRow-other r e k 0 a l i fits j (before j m)) (x .keys);
-        paths = same-paths r (s .texts) (t .groupRows) (s .texts) e texts (s .pathLinks) (s .pathHeads) b (x .paths);
-        leaves = same-leaves r (s .texts) (t .groupRows) (s .texts) e texts (s .leafLinks) (s .leafHeads) b (x .leaves);
+        keys = same-keys r (t .groupRows) (s .groupHeads) (Layout.groupBuckets (s .header .allowed)) e (λ j m. key-pushRow-other r e k 0 a l i fits j (before j m)) (λ j m. link-pushRow-other r e k 0 a l i fits j (before j m)) (x .keys);
+        paths = same-paths r (s .texts) (t .groupRows) (s .texts) e texts (s .pathLinks) (s .pathHeads) (Layout.pathBuckets (s .header .allowed)) (x .paths);
+        leaves = same-leaves r (s .texts) (t .groupRows) (s .texts) e texts (s .leafLinks) (s .leafHeads) (Layout.leafBuckets (s .header .allowed)) (x .leaves);
       }
 
 -- ---- what is written, and then indexed

@@ -57,37 +57,34 @@ module _ (m : List ℕ) {g r : ℕ} (guids : g ≡ allowancesOf m .guids) (group
   abbrev s : Store
   s = storeOf m
 
-  abbrev new : List ℕ
-  new = zeros (allowancesOf m .groups + 1)
-
   shaped : Shaped s
   shaped = need-shaped (headerOf m) m enough
 
-  long : length new ≡ 4 * Layout.groupBuckets (allowancesOf m)
-  long = length-replicate (4 * (allowancesOf m .groups + 1)) 0
+  long : (n : ℕ) → length (zeros n) ≡ 4 * n
+  long n = length-replicate (4 * n) 0
 
-  clear-keys : {m′ : List ℕ} → m′ ≡ pasted m (4 * (33 + 7 * g + 6 * r)) (zeros (r + 1)) → Joined m m′ 0 0
+  clear-keys : {m′ : List ℕ} → m′ ≡ pasted m (4 * (33 + 10 * g + 6 * r)) (zeros (r + 1)) → Joined m m′ 0 0
   clear-keys {m′} q =
-      let w = wrote-groupTable (unwritten m) enough (s .groupRows) new (shaped .groupRows) long in
-      let e : m′ ≡ pasted m (4 * Layout.groupRowsAt (allowancesOf m)) (s .groupRows ++ new) = q ∙ rw (guids, groups, heads-written m (Layout.groupRowsAt (allowancesOf m)) (6 * allowancesOf m .groups) (allowancesOf m .groups + 1) (omega (arith, enough)) new) in
-      rw e (other-heads w (record { rest = refl; rows = same-rows (s .groupRows); groupHeads = long ∙ sym (shaped .groupHeads); pathLinks = refl; pathHeads = refl; leafLinks = refl; leafHeads = refl }))
+      let w = wrote-groupTable (unwritten m) enough (s .groupRows) (zeros (Layout.groupBuckets (allowancesOf m))) (shaped .groupRows) (long (Layout.groupBuckets (allowancesOf m))) in
+      let e : m′ ≡ pasted m (4 * Layout.groupRowsAt (allowancesOf m)) (s .groupRows ++ (zeros (Layout.groupBuckets (allowancesOf m)))) = q ∙ rw (guids, groups, heads-written m (Layout.groupRowsAt (allowancesOf m)) (6 * allowancesOf m .groups) (Layout.groupBuckets (allowancesOf m)) (omega (arith, enough)) (zeros (Layout.groupBuckets (allowancesOf m)))) in
+      rw e (other-heads w (record { rest = refl; rows = same-rows (s .groupRows); groupHeads = long (Layout.groupBuckets (allowancesOf m)) ∙ sym (shaped .groupHeads); pathLinks = refl; pathHeads = refl; leafLinks = refl; leafHeads = refl }))
 
-  clear-paths : {m′ : List ℕ} → m′ ≡ pasted m (4 * (34 + 7 * g + 10 * r)) (zeros (r + 1)) → Joined m m′ 0 0
+  clear-paths : {m′ : List ℕ} → m′ ≡ pasted m (4 * (34 + 10 * g + 10 * r)) (zeros (3 * r + 1)) → Joined m m′ 0 0
   clear-paths {m′} q =
-      let w = wrote-pathIndex (unwritten m) enough (s .pathLinks) new (shaped .pathLinks) long in
-      let at : 34 + 7 * allowancesOf m .guids + 10 * allowancesOf m .groups ≡ Layout.pathLinksAt (allowancesOf m) + 3 * allowancesOf m .groups = omega arith in
-      let e : m′ ≡ pasted m (4 * Layout.pathLinksAt (allowancesOf m)) (s .pathLinks ++ new) = q ∙ rw (guids, groups, at, heads-written m (Layout.pathLinksAt (allowancesOf m)) (3 * allowancesOf m .groups) (allowancesOf m .groups + 1) (omega (arith, enough)) new) in
-      rw e (other-heads w (record { rest = refl; rows = same-rows (s .groupRows); groupHeads = refl; pathLinks = refl; pathHeads = long ∙ sym (shaped .pathHeads); leafLinks = refl; leafHeads = refl }))
+      let w = wrote-pathIndex (unwritten m) enough (s .pathLinks) (zeros (Layout.pathBuckets (allowancesOf m))) (shaped .pathLinks) (long (Layout.pathBuckets (allowancesOf m))) in
+      let at : 34 + 10 * allowancesOf m .guids + 10 * allowancesOf m .groups ≡ Layout.pathLinksAt (allowancesOf m) + 3 * allowancesOf m .groups = omega arith in
+      let e : m′ ≡ pasted m (4 * Layout.pathLinksAt (allowancesOf m)) (s .pathLinks ++ (zeros (Layout.pathBuckets (allowancesOf m)))) = q ∙ rw (guids, groups, at, heads-written m (Layout.pathLinksAt (allowancesOf m)) (3 * allowancesOf m .groups) (Layout.pathBuckets (allowancesOf m)) (omega (arith, enough)) (zeros (Layout.pathBuckets (allowancesOf m)))) in
+      rw e (other-heads w (record { rest = refl; rows = same-rows (s .groupRows); groupHeads = refl; pathLinks = refl; pathHeads = long (Layout.pathBuckets (allowancesOf m)) ∙ sym (shaped .pathHeads); leafLinks = refl; leafHeads = refl }))
 
-  clear-leaves : {m′ : List ℕ} → m′ ≡ pasted m (4 * (35 + 7 * g + 12 * r)) (zeros (r + 1)) → Joined m m′ 0 0
+  clear-leaves : {m′ : List ℕ} → m′ ≡ pasted m (4 * (35 + 10 * g + 14 * r)) (zeros (2 * r + 1)) → Joined m m′ 0 0
   clear-leaves {m′} q =
-      let w = wrote-leafIndex (unwritten m) enough (s .leafLinks) new (shaped .leafLinks) long in
-      let at : 35 + 7 * allowancesOf m .guids + 12 * allowancesOf m .groups ≡ Layout.leafLinksAt (allowancesOf m) + allowancesOf m .groups = omega arith in
-      let e : m′ ≡ pasted m (4 * Layout.leafLinksAt (allowancesOf m)) (s .leafLinks ++ new) = q ∙ rw (guids, groups, at, heads-written m (Layout.leafLinksAt (allowancesOf m)) (allowancesOf m .groups) (allowancesOf m .groups + 1) (omega (arith, enough)) new) in
-      rw e (other-heads w (record { rest = refl; rows = same-rows (s .groupRows); groupHeads = refl; pathLinks = refl; pathHeads = refl; leafLinks = refl; leafHeads = long ∙ sym (shaped .leafHeads) }))
+      let w = wrote-leafIndex (unwritten m) enough (s .leafLinks) (zeros (Layout.leafBuckets (allowancesOf m))) (shaped .leafLinks) (long (Layout.leafBuckets (allowancesOf m))) in
+      let at : 35 + 10 * allowancesOf m .guids + 14 * allowancesOf m .groups ≡ Layout.leafLinksAt (allowancesOf m) + allowancesOf m .groups = omega arith in
+      let e : m′ ≡ pasted m (4 * Layout.leafLinksAt (allowancesOf m)) (s .leafLinks ++ (zeros (Layout.leafBuckets (allowancesOf m)))) = q ∙ rw (guids, groups, at, heads-written m (Layout.leafLinksAt (allowancesOf m)) (allowancesOf m .groups) (Layout.leafBuckets (allowancesOf m)) (omega (arith, enough)) (zeros (Layout.leafBuckets (allowancesOf m)))) in
+      rw e (other-heads w (record { rest = refl; rows = same-rows (s .groupRows); groupHeads = refl; pathLinks = refl; pathHeads = refl; leafLinks = refl; leafHeads = long (Layout.leafBuckets (allowancesOf m)) ∙ sym (shaped .leafHeads) }))
 
 pub clear-all : (m : List ℕ) {m₁ m₂ m₃ : List ℕ} {g r : ℕ} → g ≡ allowancesOf m .guids → r ≡ allowancesOf m .groups → Enough m
-    → m₁ ≡ pasted m (4 * (33 + 7 * g + 6 * r)) (zeros (r + 1)) → m₂ ≡ pasted m₁ (4 * (34 + 7 * g + 10 * r)) (zeros (r + 1)) → m₃ ≡ pasted m₂ (4 * (35 + 7 * g + 12 * r)) (zeros (r + 1)) → Joined m m₃ 0 0
+    → m₁ ≡ pasted m (4 * (33 + 10 * g + 6 * r)) (zeros (r + 1)) → m₂ ≡ pasted m₁ (4 * (34 + 10 * g + 10 * r)) (zeros (3 * r + 1)) → m₃ ≡ pasted m₂ (4 * (35 + 10 * g + 14 * r)) (zeros (2 * r + 1)) → Joined m m₃ 0 0
 clear-all m {m₁} {m₂} guids groups enough e₁ e₂ e₃ =
     let one = clear-keys m guids groups enough e₁ in
     let a₁ = ap (λ (x : Header). x .allowed) (sym (joined-header one)) in

@@ -110,9 +110,6 @@ module _ (s : Store) (v : Valid s) (e i : ℕ) (low : e < s .header .groups) (mo
             (λ q. rw (same-info (key (s .fieldRows) j / 65536) q) (good .slot));
       }
 
-  abbrev b : ℕ
-  b = Layout.groupBuckets (s .header .allowed)
-
   grow-valid : Valid s′
   unfolding textSum
   grow-valid = record {
@@ -135,13 +132,13 @@ module _ (s : Store) (v : Valid s) (e i : ℕ) (low : e < s .header .groups) (mo
     groupTable = record {
       texts = λ j h. good-text (s .header .used) (s .texts) r r′ j j (sym (same-at j)) (sym (same-len j)) (v .groupTable .texts j h);
       distinct = λ x y hx hy q. v .groupTable .distinct x y hx hy (sym (same-key x) ∙ q ∙ same-key y);
-      latest = same-keys r r′ (s .groupHeads) b (s .header .groups) (λ j _. same-key j) (λ j _. same-link j) (v .groupTable .latest);
+      latest = same-keys r r′ (s .groupHeads) (Layout.groupBuckets (s .header .allowed)) (s .header .groups) (λ j _. same-key j) (λ j _. same-link j) (v .groupTable .latest);
     };
     groups = λ j h. by-equal j e
         (λ q. rw (same-key j, q, own-info) (rw q at (v .groups j h .0), few))
         (λ q. rw (same-key j, same-info j q) (v .groups j h));
-    paths = same-paths r (s .texts) r′ (s .texts) (s .header .groups) (λ j _. same-text j) (s .pathLinks) (s .pathHeads) b (v .paths);
-    leaves = same-leaves r (s .texts) r′ (s .texts) (s .header .groups) (λ j _. same-text j) (s .leafLinks) (s .leafHeads) b (v .leaves);
+    paths = same-paths r (s .texts) r′ (s .texts) (s .header .groups) (λ j _. same-text j) (s .pathLinks) (s .pathHeads) (Layout.pathBuckets (s .header .allowed)) (v .paths);
+    leaves = same-leaves r (s .texts) r′ (s .texts) (s .header .groups) (λ j _. same-text j) (s .leafLinks) (s .leafHeads) (Layout.leafBuckets (s .header .allowed)) (v .leaves);
     fieldTable = v .fieldTable;
     fields = λ j h. (grow-field j h, v .fields j h .1);
     total = rw (sumBelow-ext (len r′) (len r) (s .header .groups) (λ j h. same-len j)) (v .total);
@@ -172,11 +169,11 @@ module _ {m : List ℕ} (good : Good m) (e i : ℕ) (low : e < headerOf m .group
   first = Layout.groupRowsAt (allowancesOf m)
 
   -- the slot count of group e is a word of its row
-  pub info-word : word m (33 + 7 * g + (6 * e + 5)) ≡ info (o .groupRows) e
+  pub info-word : word m (33 + 10 * g + (6 * e + 5)) ≡ info (o .groupRows) e
   unfolding info words
   info-word = rw guids (sym (word-part m first (4 * (6 * allowancesOf m .groups)) (6 * e + 5) (omega (arith, low, w .header .groups))))
 
-  pub grow-stepped : info (o .groupRows) e ≤ i → {m′ : List ℕ} → m′ ≡ setWord m (33 + 7 * g + (6 * e + 5)) i → Stepped m m′ (withGroup (held m) e (grownGroup i))
+  pub grow-stepped : info (o .groupRows) e ≤ i → {m′ : List ℕ} → m′ ≡ setWord m (33 + 10 * g + (6 * e + 5)) i → Stepped m m′ (withGroup (held m) e (grownGroup i))
   grow-stepped more {m′} q =
       let enough = good .enough in
       let room : 24 * e + 24 ≤ length (o .groupRows) = omega (arith, low, w .header .groups, w .shaped .groupRows) in

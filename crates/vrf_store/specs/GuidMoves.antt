@@ -176,13 +176,13 @@ module _ (m : List ℕ) (guid at l outer : ℕ) (h : NewGuid m guid at l) (bytes
       (rw (key-pushRow (s .guidRows) n guid p at l outer fits (new-row .key-fits), text-pushRow (s .guidRows) n guid p at l outer fits (s .texts) (new-row .at-fits) (new-row .len-fits), info-pushRow (s .guidRows) n guid p at l outer fits outer-fits)))
 
   pub push-guid : {cap k total : ℕ} {t m₁ m′ : List ℕ} → cap ≡ allowancesOf m .guids → k ≡ n → total ≡ headerOf m .held
-      → Lent m 128 (tableEnd 128 cap) (λ x. pushed x cap k guid at l outer) t → m₁ ≡ setWord (lentTo m 128 (tableEnd 128 cap) t) 5 (k + 1) → m′ ≡ setWord m₁ 8 (total + l)
+      → Lent m 128 (tableEnd 128 cap (4 * cap + 1)) (λ x. pushed x cap (4 * cap + 1) k guid at l outer) t → m₁ ≡ setWord (lentTo m 128 (tableEnd 128 cap (4 * cap + 1)) t) 5 (k + 1) → m′ ≡ setWord m₁ 8 (total + l)
       → Stepped m m′ (withGuids (held m) (held m .guids ++ (guidOf s guid at l outer ∷ [])))
   push-guid {cap} {k} {total} {t} {m₁} {m′} ec ek et row e₁ e₂ =
       let enough = h .good .enough in
       let room : 128 ≤ length m = omega (arith, enough) in
-      let table : lentTo m 128 (tableEnd 128 cap) t ≡ pasted m 128 (pushed (part m 128 (24 * cap + 4 * (cap + 1))) cap k guid at l outer) = lent (24 * cap + 4 * (cap + 1)) row (omega arith) (omega (arith, enough, ec)) in
-      let as-words = pushed-words m 32 (allowancesOf m .guids) (omega (arith, enough)) n guid at l outer in
+      let table : lentTo m 128 (tableEnd 128 cap (4 * cap + 1)) t ≡ pasted m 128 (pushed (part m 128 (24 * cap + 4 * (4 * cap + 1))) cap (4 * cap + 1) k guid at l outer) = lent (24 * cap + 4 * (4 * cap + 1)) row (omega arith) (omega (arith, enough, ec)) in
+      let as-words = pushed-words m 32 (allowancesOf m .guids) (Layout.guidBuckets (allowancesOf m)) (omega (arith, enough)) n guid at l outer in
       let e : m′ ≡ setWord (setWord (pasted m 128 (new-rows ++ new-heads)) 5 (suc n)) 8 (headerOf m .held + l) = e₂ ∙ rw (e₁, table, add-one k, ec, ek, et, as-words) in
       rw e
       (stepped enough
@@ -270,12 +270,12 @@ module _ (m : List ℕ) (e at l outer : ℕ) (h : OldGuid m e at l) (outer-fits 
       ∙ ap (set (held m .guids) e) (rw (key-setText (old .guidRows) e at l outer set-fits e, at-setText (old .guidRows) e at l outer set-fits at-fits, len-setText (old .guidRows) e at l outer set-fits len-fits, info-setText (old .guidRows) e at l outer set-fits outer-fits)))
 
   pub set-guid : {cap total : ℕ} {t m′ : List ℕ} → cap ≡ allowancesOf m .guids → total ≡ set-held
-      → Lent m 128 (tableEnd 128 cap) (λ x. setText x e at l outer) t → m′ ≡ setWord (lentTo m 128 (tableEnd 128 cap) t) 8 total
+      → Lent m 128 (tableEnd 128 cap (4 * cap + 1)) (λ x. setText x e at l outer) t → m′ ≡ setWord (lentTo m 128 (tableEnd 128 cap (4 * cap + 1)) t) 8 total
       → Stepped m m′ (withGuids (held m) (set (held m .guids) e (guidOf old (key (old .guidRows) e) at l outer)))
   set-guid {cap} {total} {t} {m′} ec et row e₁ =
       let enough = h .good .enough in
-      let table : lentTo m 128 (tableEnd 128 cap) t ≡ pasted m 128 (setText (part m 128 (24 * cap + 4 * (cap + 1))) e at l outer) = lent (24 * cap + 4 * (cap + 1)) row (omega arith) (omega (arith, enough, ec)) in
-      let as-words = text-words m 32 (allowancesOf m .guids) (omega (arith, enough)) e (omega (arith, h .known, ok .header .guids)) at l outer in
+      let table : lentTo m 128 (tableEnd 128 cap (4 * cap + 1)) t ≡ pasted m 128 (setText (part m 128 (24 * cap + 4 * (4 * cap + 1))) e at l outer) = lent (24 * cap + 4 * (4 * cap + 1)) row (omega arith) (omega (arith, enough, ec)) in
+      let as-words = text-words m 32 (allowancesOf m .guids) (Layout.guidBuckets (allowancesOf m)) (omega (arith, enough)) e (omega (arith, h .known, ok .header .guids)) at l outer in
       let q : m′ ≡ setWord (pasted m 128 (set-rows ++ old .guidHeads)) 8 set-held = e₁ ∙ rw (table, ec, et, as-words) in
       rw q
       (stepped enough

@@ -119,7 +119,7 @@ module _ (r x k : List ℕ) (g : ℕ) where
   path-entries = has-by-parts (text r x g) k ∙ sym (rw (rw add-zero at (path-entry 0 (omega arith)), path-entry 1 (omega arith), path-entry 2 (omega arith)))
 
 module _ {s : Store} (v : Valid s) where
-  pub path-found : (k : List ℕ) → pathPlace k (contentOf s .groups) ≡ third (findPath (s .groupRows) (s .texts) (s .pathLinks) (s .pathHeads) (Layout.groupBuckets (s .header .allowed)) (s .header .groups) k)
+  pub path-found : (k : List ℕ) → pathPlace k (contentOf s .groups) ≡ third (findPath (s .groupRows) (s .texts) (s .pathLinks) (s .pathHeads) (Layout.pathBuckets (s .header .allowed)) (s .header .groups) k)
   unfolding pathPlace contentOf groupBy findPath
   path-found k =
       lastPlace-upTo _ (groupBy s (s .header .fields)) (s .header .groups)
@@ -184,7 +184,7 @@ the-same l none = refl
 the-same l (some t) = refl
 
 module _ {s : Store} (v : Valid s) where
-  pub leaf-found : (l : List ℕ) → leafClaim l (contentOf s .groups) ≡ claimOf (s .groupRows) (s .texts) (s .leafLinks) (s .leafHeads) (Layout.groupBuckets (s .header .allowed)) (s .header .groups) l
+  pub leaf-found : (l : List ℕ) → leafClaim l (contentOf s .groups) ≡ claimOf (s .groupRows) (s .texts) (s .leafLinks) (s .leafHeads) (Layout.leafBuckets (s .header .allowed)) (s .header .groups) l
   unfolding contentOf groupBy hasLeaf claimOf leafHit
   leaf-found l =
       leafClaim-upTo l (groupBy s (s .header .fields)) (s .header .groups)

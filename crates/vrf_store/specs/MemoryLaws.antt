@@ -1,7 +1,7 @@
 -- What writing one part of a memory makes of it, when it is taken apart again.
 use mathlib.Core.Path.{_≡_, sym, ap, _∙_}
 use mathlib.Core.List.{List, _++_}
-use Prim.Native.Nat.{ℕ, _+_, _*_, _<_, _≤_}
+use Prim.Native.Nat.{ℕ, _+_, _*_, _≤_}
 use native.Mathlib.Omega.{arith}
 use lib.Dec.{eqb}
 use lib.ListN.{length, take, length-append}
@@ -107,9 +107,9 @@ module _ (h : Header) (m r heads : List ℕ) (enough : Layout.need (h .allowed) 
         above m (r ++ heads) w fits (Layout.groupRowsAt (h .allowed)) (6 * (h .allowed) .groups) (omega (arith, long)),
         above m (r ++ heads) w fits (Layout.groupHeadsAt (h .allowed)) (Layout.groupBuckets (h .allowed)) (omega (arith, long)),
         above m (r ++ heads) w fits (Layout.pathLinksAt (h .allowed)) (3 * (h .allowed) .groups) (omega (arith, long)),
-        above m (r ++ heads) w fits (Layout.pathHeadsAt (h .allowed)) (Layout.groupBuckets (h .allowed)) (omega (arith, long)),
+        above m (r ++ heads) w fits (Layout.pathHeadsAt (h .allowed)) (Layout.pathBuckets (h .allowed)) (omega (arith, long)),
         above m (r ++ heads) w fits (Layout.leafLinksAt (h .allowed)) ((h .allowed) .groups) (omega (arith, long)),
-        above m (r ++ heads) w fits (Layout.leafHeadsAt (h .allowed)) (Layout.groupBuckets (h .allowed)) (omega (arith, long)),
+        above m (r ++ heads) w fits (Layout.leafHeadsAt (h .allowed)) (Layout.leafBuckets (h .allowed)) (omega (arith, long)),
         above m (r ++ heads) w fits (Layout.fieldRowsAt (h .allowed)) (6 * (h .allowed) .fields) (omega (arith, long)),
         above m (r ++ heads) w fits (Layout.fieldHeadsAt (h .allowed)) (Layout.fieldBuckets (h .allowed)) (omega (arith, long)),
         above m (r ++ heads) w fits (Layout.literalsAt (h .allowed)) ((h .allowed) .literals) (omega (arith, long)),
@@ -128,51 +128,51 @@ module _ (h : Header) (m r heads : List ℕ) (enough : Layout.need (h .allowed) 
         below m (r ++ heads) w fits (Layout.guidRowsAt (h .allowed)) (6 * (h .allowed) .guids) (omega arith),
         below m (r ++ heads) w fits (Layout.guidHeadsAt (h .allowed)) (Layout.guidBuckets (h .allowed)) (omega arith),
         above m (r ++ heads) w fits (Layout.pathLinksAt (h .allowed)) (3 * (h .allowed) .groups) (omega (arith, long)),
-        above m (r ++ heads) w fits (Layout.pathHeadsAt (h .allowed)) (Layout.groupBuckets (h .allowed)) (omega (arith, long)),
+        above m (r ++ heads) w fits (Layout.pathHeadsAt (h .allowed)) (Layout.pathBuckets (h .allowed)) (omega (arith, long)),
         above m (r ++ heads) w fits (Layout.leafLinksAt (h .allowed)) ((h .allowed) .groups) (omega (arith, long)),
-        above m (r ++ heads) w fits (Layout.leafHeadsAt (h .allowed)) (Layout.groupBuckets (h .allowed)) (omega (arith, long)),
+        above m (r ++ heads) w fits (Layout.leafHeadsAt (h .allowed)) (Layout.leafBuckets (h .allowed)) (omega (arith, long)),
         above m (r ++ heads) w fits (Layout.fieldRowsAt (h .allowed)) (6 * (h .allowed) .fields) (omega (arith, long)),
         above m (r ++ heads) w fits (Layout.fieldHeadsAt (h .allowed)) (Layout.fieldBuckets (h .allowed)) (omega (arith, long)),
         above m (r ++ heads) w fits (Layout.literalsAt (h .allowed)) ((h .allowed) .literals) (omega (arith, long)),
         half-kept m (r ++ heads) w fits (h .allowed) (h .half) (omega (arith, long)),
       )
 
-  pub put-pathIndex : length r ≡ 4 * (3 * (h .allowed) .groups) → length heads ≡ 4 * (Layout.groupBuckets (h .allowed)) → storeBy h (pasted m (4 * Layout.pathLinksAt (h .allowed)) (r ++ heads)) ≡ withPathIndex (storeBy h m) r heads
+  pub put-pathIndex : length r ≡ 4 * (3 * (h .allowed) .groups) → length heads ≡ 4 * (Layout.pathBuckets (h .allowed)) → storeBy h (pasted m (4 * Layout.pathLinksAt (h .allowed)) (r ++ heads)) ≡ withPathIndex (storeBy h m) r heads
   put-pathIndex lr lh =
       let w : ℕ = 4 * Layout.pathLinksAt (h .allowed) in
-      let long : length (r ++ heads) ≡ 4 * (3 * (h .allowed) .groups) + 4 * (Layout.groupBuckets (h .allowed)) = length-append r heads ∙ omega (arith, lr, lh) in
+      let long : length (r ++ heads) ≡ 4 * (3 * (h .allowed) .groups) + 4 * (Layout.pathBuckets (h .allowed)) = length-append r heads ∙ omega (arith, lr, lh) in
       let fits : w + length (r ++ heads) ≤ length m = omega (arith, long, enough) in
-      let inside : 4 * Layout.pathLinksAt (h .allowed) + 4 * (3 * (h .allowed) .groups) + 4 * (Layout.groupBuckets (h .allowed)) ≤ length m = omega (arith, long, enough) in
+      let inside : 4 * Layout.pathLinksAt (h .allowed) + 4 * (3 * (h .allowed) .groups) + 4 * (Layout.pathBuckets (h .allowed)) ≤ length m = omega (arith, long, enough) in
       rw (
-        front m r heads (Layout.pathLinksAt (h .allowed)) (3 * (h .allowed) .groups) (Layout.groupBuckets (h .allowed)) lr lh inside,
-        back m r heads (Layout.pathLinksAt (h .allowed)) (3 * (h .allowed) .groups) (Layout.groupBuckets (h .allowed)) lr lh inside (Layout.pathHeadsAt (h .allowed)) (omega arith),
+        front m r heads (Layout.pathLinksAt (h .allowed)) (3 * (h .allowed) .groups) (Layout.pathBuckets (h .allowed)) lr lh inside,
+        back m r heads (Layout.pathLinksAt (h .allowed)) (3 * (h .allowed) .groups) (Layout.pathBuckets (h .allowed)) lr lh inside (Layout.pathHeadsAt (h .allowed)) (omega arith),
         below m (r ++ heads) w fits (Layout.guidRowsAt (h .allowed)) (6 * (h .allowed) .guids) (omega arith),
         below m (r ++ heads) w fits (Layout.guidHeadsAt (h .allowed)) (Layout.guidBuckets (h .allowed)) (omega arith),
         below m (r ++ heads) w fits (Layout.groupRowsAt (h .allowed)) (6 * (h .allowed) .groups) (omega arith),
         below m (r ++ heads) w fits (Layout.groupHeadsAt (h .allowed)) (Layout.groupBuckets (h .allowed)) (omega arith),
         above m (r ++ heads) w fits (Layout.leafLinksAt (h .allowed)) ((h .allowed) .groups) (omega (arith, long)),
-        above m (r ++ heads) w fits (Layout.leafHeadsAt (h .allowed)) (Layout.groupBuckets (h .allowed)) (omega (arith, long)),
+        above m (r ++ heads) w fits (Layout.leafHeadsAt (h .allowed)) (Layout.leafBuckets (h .allowed)) (omega (arith, long)),
         above m (r ++ heads) w fits (Layout.fieldRowsAt (h .allowed)) (6 * (h .allowed) .fields) (omega (arith, long)),
         above m (r ++ heads) w fits (Layout.fieldHeadsAt (h .allowed)) (Layout.fieldBuckets (h .allowed)) (omega (arith, long)),
         above m (r ++ heads) w fits (Layout.literalsAt (h .allowed)) ((h .allowed) .literals) (omega (arith, long)),
         half-kept m (r ++ heads) w fits (h .allowed) (h .half) (omega (arith, long)),
       )
 
-  pub put-leafIndex : length r ≡ 4 * ((h .allowed) .groups) → length heads ≡ 4 * (Layout.groupBuckets (h .allowed)) → storeBy h (pasted m (4 * Layout.leafLinksAt (h .allowed)) (r ++ heads)) ≡ withLeafIndex (storeBy h m) r heads
+  pub put-leafIndex : length r ≡ 4 * ((h .allowed) .groups) → length heads ≡ 4 * (Layout.leafBuckets (h .allowed)) → storeBy h (pasted m (4 * Layout.leafLinksAt (h .allowed)) (r ++ heads)) ≡ withLeafIndex (storeBy h m) r heads
   put-leafIndex lr lh =
       let w : ℕ = 4 * Layout.leafLinksAt (h .allowed) in
-      let long : length (r ++ heads) ≡ 4 * ((h .allowed) .groups) + 4 * (Layout.groupBuckets (h .allowed)) = length-append r heads ∙ omega (arith, lr, lh) in
+      let long : length (r ++ heads) ≡ 4 * ((h .allowed) .groups) + 4 * (Layout.leafBuckets (h .allowed)) = length-append r heads ∙ omega (arith, lr, lh) in
       let fits : w + length (r ++ heads) ≤ length m = omega (arith, long, enough) in
-      let inside : 4 * Layout.leafLinksAt (h .allowed) + 4 * ((h .allowed) .groups) + 4 * (Layout.groupBuckets (h .allowed)) ≤ length m = omega (arith, long, enough) in
+      let inside : 4 * Layout.leafLinksAt (h .allowed) + 4 * ((h .allowed) .groups) + 4 * (Layout.leafBuckets (h .allowed)) ≤ length m = omega (arith, long, enough) in
       rw (
-        front m r heads (Layout.leafLinksAt (h .allowed)) ((h .allowed) .groups) (Layout.groupBuckets (h .allowed)) lr lh inside,
-        back m r heads (Layout.leafLinksAt (h .allowed)) ((h .allowed) .groups) (Layout.groupBuckets (h .allowed)) lr lh inside (Layout.leafHeadsAt (h .allowed)) (omega arith),
+        front m r heads (Layout.leafLinksAt (h .allowed)) ((h .allowed) .groups) (Layout.leafBuckets (h .allowed)) lr lh inside,
+        back m r heads (Layout.leafLinksAt (h .allowed)) ((h .allowed) .groups) (Layout.leafBuckets (h .allowed)) lr lh inside (Layout.leafHeadsAt (h .allowed)) (omega arith),
         below m (r ++ heads) w fits (Layout.guidRowsAt (h .allowed)) (6 * (h .allowed) .guids) (omega arith),
         below m (r ++ heads) w fits (Layout.guidHeadsAt (h .allowed)) (Layout.guidBuckets (h .allowed)) (omega arith),
         below m (r ++ heads) w fits (Layout.groupRowsAt (h .allowed)) (6 * (h .allowed) .groups) (omega arith),
         below m (r ++ heads) w fits (Layout.groupHeadsAt (h .allowed)) (Layout.groupBuckets (h .allowed)) (omega arith),
         below m (r ++ heads) w fits (Layout.pathLinksAt (h .allowed)) (3 * (h .allowed) .groups) (omega arith),
-        below m (r ++ heads) w fits (Layout.pathHeadsAt (h .allowed)) (Layout.groupBuckets (h .allowed)) (omega arith),
+        below m (r ++ heads) w fits (Layout.pathHeadsAt (h .allowed)) (Layout.pathBuckets (h .allowed)) (omega arith),
         above m (r ++ heads) w fits (Layout.fieldRowsAt (h .allowed)) (6 * (h .allowed) .fields) (omega (arith, long)),
         above m (r ++ heads) w fits (Layout.fieldHeadsAt (h .allowed)) (Layout.fieldBuckets (h .allowed)) (omega (arith, long)),
         above m (r ++ heads) w fits (Layout.literalsAt (h .allowed)) ((h .allowed) .literals) (omega (arith, long)),
@@ -193,9 +193,9 @@ module _ (h : Header) (m r heads : List ℕ) (enough : Layout.need (h .allowed) 
         below m (r ++ heads) w fits (Layout.groupRowsAt (h .allowed)) (6 * (h .allowed) .groups) (omega arith),
         below m (r ++ heads) w fits (Layout.groupHeadsAt (h .allowed)) (Layout.groupBuckets (h .allowed)) (omega arith),
         below m (r ++ heads) w fits (Layout.pathLinksAt (h .allowed)) (3 * (h .allowed) .groups) (omega arith),
-        below m (r ++ heads) w fits (Layout.pathHeadsAt (h .allowed)) (Layout.groupBuckets (h .allowed)) (omega arith),
+        below m (r ++ heads) w fits (Layout.pathHeadsAt (h .allowed)) (Layout.pathBuckets (h .allowed)) (omega arith),
         below m (r ++ heads) w fits (Layout.leafLinksAt (h .allowed)) ((h .allowed) .groups) (omega arith),
-        below m (r ++ heads) w fits (Layout.leafHeadsAt (h .allowed)) (Layout.groupBuckets (h .allowed)) (omega arith),
+        below m (r ++ heads) w fits (Layout.leafHeadsAt (h .allowed)) (Layout.leafBuckets (h .allowed)) (omega arith),
         above m (r ++ heads) w fits (Layout.literalsAt (h .allowed)) ((h .allowed) .literals) (omega (arith, long)),
         half-kept m (r ++ heads) w fits (h .allowed) (h .half) (omega (arith, long)),
       )
@@ -211,9 +211,9 @@ module _ (h : Header) (m m′ : List ℕ) (same : (i n : ℕ) → 32 ≤ i → i
         same (Layout.groupRowsAt (h .allowed)) (6 * (h .allowed) .groups) (omega arith) (omega arith),
         same (Layout.groupHeadsAt (h .allowed)) (Layout.groupBuckets (h .allowed)) (omega arith) (omega arith),
         same (Layout.pathLinksAt (h .allowed)) (3 * (h .allowed) .groups) (omega arith) (omega arith),
-        same (Layout.pathHeadsAt (h .allowed)) (Layout.groupBuckets (h .allowed)) (omega arith) (omega arith),
+        same (Layout.pathHeadsAt (h .allowed)) (Layout.pathBuckets (h .allowed)) (omega arith) (omega arith),
         same (Layout.leafLinksAt (h .allowed)) ((h .allowed) .groups) (omega arith) (omega arith),
-        same (Layout.leafHeadsAt (h .allowed)) (Layout.groupBuckets (h .allowed)) (omega arith) (omega arith),
+        same (Layout.leafHeadsAt (h .allowed)) (Layout.leafBuckets (h .allowed)) (omega arith) (omega arith),
         same (Layout.fieldRowsAt (h .allowed)) (6 * (h .allowed) .fields) (omega arith) (omega arith),
         same (Layout.fieldHeadsAt (h .allowed)) (Layout.fieldBuckets (h .allowed)) (omega arith) (omega arith),
       )

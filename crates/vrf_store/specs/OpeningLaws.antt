@@ -123,13 +123,13 @@ kept-zeros {m} {m′} {z} k i n behind before fits e =
 
 -- the heads of each table and of each index
 module _ {m m1 m2 m3 m4 z : List ℕ} (g r f : ℕ) (enough : Layout.need (allowancesOf m) ≤ length m) where
-  pub kept-heads : g ≡ word m 0 → r ≡ word m 1 → f ≡ word m 2 → m1 ≡ pasted m (4 * (32 + 6 * g)) (replicate (4 * (g + 1)) 0) → m2 ≡ pasted m1 (4 * (33 + 7 * g + 6 * r)) (replicate (4 * (r + 1)) 0) → m3 ≡ pasted m2 (4 * (34 + 7 * g + 10 * r)) (replicate (4 * (r + 1)) 0) → m4 ≡ pasted m3 (4 * (35 + 7 * g + 12 * r)) (replicate (4 * (r + 1)) 0) → z ≡ pasted m4 (4 * (36 + 7 * g + 13 * r + 6 * f)) (replicate (4 * (f + 1)) 0) → Kept m z
+  pub kept-heads : g ≡ word m 0 → r ≡ word m 1 → f ≡ word m 2 → m1 ≡ pasted m (4 * (32 + 6 * g)) (replicate (4 * (4 * g + 1)) 0) → m2 ≡ pasted m1 (4 * (33 + 10 * g + 6 * r)) (replicate (4 * (r + 1)) 0) → m3 ≡ pasted m2 (4 * (34 + 10 * g + 10 * r)) (replicate (4 * (3 * r + 1)) 0) → m4 ≡ pasted m3 (4 * (35 + 10 * g + 14 * r)) (replicate (4 * (2 * r + 1)) 0) → z ≡ pasted m4 (4 * (36 + 10 * g + 16 * r + 6 * f)) (replicate (4 * (4 * f + 1)) 0) → Kept m z
   kept-heads eg er ef e1 e2 e3 e4 e =
-      let k1 = kept-zeros (kept-now m) (32 + 6 * g) (g + 1) (omega arith) (omega arith) (omega arith) e1 in
-      let k2 = kept-zeros k1 (33 + 7 * g + 6 * r) (r + 1) (omega arith) (omega arith) (omega arith) e2 in
-      let k3 = kept-zeros k2 (34 + 7 * g + 10 * r) (r + 1) (omega arith) (omega arith) (omega arith) e3 in
-      let k4 = kept-zeros k3 (35 + 7 * g + 12 * r) (r + 1) (omega arith) (omega arith) (omega arith) e4 in
-      kept-zeros k4 (36 + 7 * g + 13 * r + 6 * f) (f + 1) (omega arith) (omega arith) (omega arith) e
+      let k1 = kept-zeros (kept-now m) (32 + 6 * g) (4 * g + 1) (omega arith) (omega arith) (omega arith) e1 in
+      let k2 = kept-zeros k1 (33 + 10 * g + 6 * r) (r + 1) (omega arith) (omega arith) (omega arith) e2 in
+      let k3 = kept-zeros k2 (34 + 10 * g + 10 * r) (3 * r + 1) (omega arith) (omega arith) (omega arith) e3 in
+      let k4 = kept-zeros k3 (35 + 10 * g + 14 * r) (2 * r + 1) (omega arith) (omega arith) (omega arith) e4 in
+      kept-zeros k4 (36 + 10 * g + 16 * r + 6 * f) (4 * f + 1) (omega arith) (omega arith) (omega arith) e
 
 -- ---- a memory whose header is of a book that holds nothing
 

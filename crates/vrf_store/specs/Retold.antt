@@ -102,8 +102,8 @@ module _ (s : Store) (used half : ℕ) {g r f x : List ℕ}
     guids = λ e h. rw (guids .keys e h, guids .infos e h) (v .guids e h);
     groupTable = same-table groups (v .groupTable);
     groups = λ e h. rw (groups .keys e h, groups .infos e h) (v .groups e h);
-    paths = same-paths (s .groupRows) (s .texts) r x (s .header .groups) (groups .texts) (s .pathLinks) (s .pathHeads) (Layout.groupBuckets (s .header .allowed)) (v .paths);
-    leaves = same-leaves (s .groupRows) (s .texts) r x (s .header .groups) (groups .texts) (s .leafLinks) (s .leafHeads) (Layout.groupBuckets (s .header .allowed)) (v .leaves);
+    paths = same-paths (s .groupRows) (s .texts) r x (s .header .groups) (groups .texts) (s .pathLinks) (s .pathHeads) (Layout.pathBuckets (s .header .allowed)) (v .paths);
+    leaves = same-leaves (s .groupRows) (s .texts) r x (s .header .groups) (groups .texts) (s .leafLinks) (s .leafHeads) (Layout.leafBuckets (s .header .allowed)) (v .leaves);
     fieldTable = same-table fields (v .fieldTable);
     fields = λ e h.
         let slot = v .fields e h .0 in

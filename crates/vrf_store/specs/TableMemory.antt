@@ -16,11 +16,11 @@ use Rattle.vrf_table.specs.TableLaws.{keyBucket-lt, length-setKey, length-setTe
 use Rattle.vrf_store.specs.Store.{words}
 use Rattle.vrf_store.specs.TableMoves.{pushRow}
 
--- a row more, for which there is room
-unfoldable pub pushed : List ℕ → (cap n k at len info : ℕ) → List ℕ
-pushed t cap n k at len info =
-    pushRow (part t 0 (24 * cap)) n k (keyStart (part t (24 * cap) (4 * (cap + 1))) (cap + 1) k) at len info
-    ++ setWord (part t (24 * cap) (4 * (cap + 1))) (keyBucket (cap + 1) k) (suc n)
+-- a row more, for which there is room among cap rows; there are b heads
+unfoldable pub pushed : List ℕ → (cap b n k at len info : ℕ) → List ℕ
+pushed t cap b n k at len info =
+    pushRow (part t 0 (24 * cap)) n k (keyStart (part t (24 * cap) (4 * b)) b k) at len info
+    ++ setWord (part t (24 * cap) (4 * b)) (keyBucket b k) (suc n)
 
 -- ---- words of the rows, and of the heads
 
@@ -55,19 +55,19 @@ module _ (r h : List ℕ) (e : ℕ) (fits : 24 * e + 24 ≤ length r) where
 
 -- ---- the memory of a table as it is written
 
-module _ (t : List ℕ) (cap : ℕ) (long : length t ≡ 24 * cap + 4 * (cap + 1)) where
+module _ (t : List ℕ) (cap b : ℕ) (long : length t ≡ 24 * cap + 4 * b) where
   abbrev rows : List ℕ
   rows = part t 0 (24 * cap)
 
   abbrev heads : List ℕ
-  heads = part t (24 * cap) (4 * (cap + 1))
+  heads = part t (24 * cap) (4 * b)
 
   rows-long : length rows ≡ 24 * cap
   rows-long = length-part t 0 (24 * cap) (omega (arith, long))
 
   pub halves : t ≡ rows ++ heads
   unfolding part
-  halves = sym (ap (λ (z : List ℕ). take (24 * cap) t ++ z) (take-all (4 * (cap + 1)) (drop (24 * cap) t) (omega (arith, length-drop (24 * cap) t, long))) ∙ take-append-drop (24 * cap) t)
+  halves = sym (ap (λ (z : List ℕ). take (24 * cap) t ++ z) (take-all (4 * b) (drop (24 * cap) t) (omega (arith, length-drop (24 * cap) t, long))) ∙ take-append-drop (24 * cap) t)
 
   module _ (n : ℕ) (few : n < cap) where
     in-rows : 24 * n + 24 ≤ length rows
@@ -78,24 +78,24 @@ module _ (t : List ℕ) (cap : ℕ) (long : length t ≡ 24 * cap + 4 * (cap + 1
     text-by at len info = ap (λ (z : List ℕ). setText z n at len info) halves ∙ front-text rows heads n in-rows at len info
 
     -- a row more
-    module _ (k at len info : ℕ) where
+    module _ (some : 0 < b) (k at len info : ℕ) where
       abbrev bucket : ℕ
-      bucket = keyBucket (cap + 1) k
+      bucket = keyBucket b k
 
-      head-by : word t (6 * cap + bucket) ≡ keyStart heads (cap + 1) k
+      head-by : word t (6 * cap + bucket) ≡ keyStart heads b k
       unfolding keyStart
       head-by =
           let e : 4 * (6 * cap) ≡ 24 * cap = omega arith in
-          let inside : 4 * bucket + 4 ≤ 4 * (cap + 1) = omega (arith, keyBucket-lt (cap + 1) k (omega arith)) in
-          sym (word-part t (6 * cap) (4 * (cap + 1)) bucket inside) ∙ ap (λ (a : ℕ). word (part t a (4 * (cap + 1))) bucket) e
+          let inside : 4 * bucket + 4 ≤ 4 * b = omega (arith, keyBucket-lt b k some) in
+          sym (word-part t (6 * cap) (4 * b) bucket inside) ∙ ap (λ (a : ℕ). word (part t a (4 * b)) bucket) e
 
-      pub pushed-by : setWord (setKey (setText t n at len info) n k (word t (6 * cap + bucket))) (6 * cap + bucket) (suc n) ≡ pushed t cap n k at len info
+      pub pushed-by : setWord (setKey (setText t n at len info) n k (word t (6 * cap + bucket))) (6 * cap + bucket) (suc n) ≡ pushed t cap b n k at len info
       unfolding pushed pushRow
       pushed-by =
           let r₁ : List ℕ = setText rows n at len info in
           let long₁ : length r₁ ≡ length rows = length-setText rows n at len info in-rows in
           let fits : 24 * n + 24 ≤ length r₁ = omega (arith, in-rows, long₁) in
-          let p : ℕ = keyStart heads (cap + 1) k in
+          let p : ℕ = keyStart heads b k in
           let long₂ : length (setKey r₁ n k p) ≡ 4 * (6 * cap) = length-setKey r₁ n k p fits ∙ omega (arith, long₁, rows-long) in
           rw (head-by, text-by at len info, front-key r₁ heads n fits k p) (back (setKey r₁ n k p) heads (6 * cap) (6 * cap + bucket) bucket (suc n) long₂ refl)
 
@@ -123,41 +123,41 @@ lent {m} {v} {a} {e} {f} n h q fits =
 
 -- ---- a table in the memory of a book
 
--- where a table of cap rows that begins at byte a ends
-abbrev pub tableEnd : ℕ → ℕ → ℕ
-tableEnd a cap = a + 24 * cap + 4 * (cap + 1)
+-- where a table of cap rows and b heads that begins at byte a ends
+abbrev pub tableEnd : ℕ → ℕ → ℕ → ℕ
+tableEnd a cap b = a + 24 * cap + 4 * b
 
--- the table of cap rows from word i on
-module _ (m : List ℕ) (i cap : ℕ) (fits : 4 * i + 24 * cap + 4 * (cap + 1) ≤ length m) where
+-- the table of cap rows and b heads from word i on
+module _ (m : List ℕ) (i cap b : ℕ) (fits : 4 * i + 24 * cap + 4 * b ≤ length m) where
   abbrev table : List ℕ
-  table = part m (4 * i) (24 * cap + 4 * (cap + 1))
+  table = part m (4 * i) (24 * cap + 4 * b)
 
   pub rows-words : part table 0 (24 * cap) ≡ words m i (6 * cap)
   unfolding words
   rows-words =
       let n : 24 * cap ≡ 4 * (6 * cap) = omega arith in
-      part-part m (4 * i) (24 * cap + 4 * (cap + 1)) 0 (24 * cap) (omega arith) ∙ rw (add-zero, n)
+      part-part m (4 * i) (24 * cap + 4 * b) 0 (24 * cap) (omega arith) ∙ rw (add-zero, n)
 
-  heads-words : part table (24 * cap) (4 * (cap + 1)) ≡ words m (i + 6 * cap) (cap + 1)
+  heads-words : part table (24 * cap) (4 * b) ≡ words m (i + 6 * cap) b
   unfolding words
   heads-words =
       let n : 4 * i + 24 * cap ≡ 4 * (i + 6 * cap) = omega arith in
-      part-part m (4 * i) (24 * cap + 4 * (cap + 1)) (24 * cap) (4 * (cap + 1)) (omega arith) ∙ rw n
+      part-part m (4 * i) (24 * cap + 4 * b) (24 * cap) (4 * b) (omega arith) ∙ rw n
 
-  pub pushed-words : (n k at len info : ℕ) → pushed table cap n k at len info ≡ pushRow (words m i (6 * cap)) n k (keyStart (words m (i + 6 * cap) (cap + 1)) (cap + 1) k) at len info ++ setWord (words m (i + 6 * cap) (cap + 1)) (keyBucket (cap + 1) k) (suc n)
+  pub pushed-words : (n k at len info : ℕ) → pushed table cap b n k at len info ≡ pushRow (words m i (6 * cap)) n k (keyStart (words m (i + 6 * cap) b) b k) at len info ++ setWord (words m (i + 6 * cap) b) (keyBucket b k) (suc n)
   unfolding pushed
   pushed-words n k at len info = rw (rows-words, heads-words)
 
-  pub text-words : (n : ℕ) → n < cap → (at len info : ℕ) → setText table n at len info ≡ setText (words m i (6 * cap)) n at len info ++ words m (i + 6 * cap) (cap + 1)
+  pub text-words : (n : ℕ) → n < cap → (at len info : ℕ) → setText table n at len info ≡ setText (words m i (6 * cap)) n at len info ++ words m (i + 6 * cap) b
   text-words n few at len info =
-      text-by table cap (length-part m (4 * i) (24 * cap + 4 * (cap + 1)) (omega (arith, fits))) n few at len info ∙ rw (rows-words, heads-words)
+      text-by table cap b (length-part m (4 * i) (24 * cap + 4 * b) (omega (arith, fits))) n few at len info ∙ rw (rows-words, heads-words)
 
-  pub row-words : (n : ℕ) → n < cap → (k p at len info : ℕ) → pushRow table n k p at len info ≡ pushRow (words m i (6 * cap)) n k p at len info ++ words m (i + 6 * cap) (cap + 1)
+  pub row-words : (n : ℕ) → n < cap → (k p at len info : ℕ) → pushRow table n k p at len info ≡ pushRow (words m i (6 * cap)) n k p at len info ++ words m (i + 6 * cap) b
   unfolding pushRow
   row-words n few k p at len info =
-      let long = rows-long table cap (length-part m (4 * i) (24 * cap + 4 * (cap + 1)) (omega (arith, fits))) in
+      let long = rows-long table cap b (length-part m (4 * i) (24 * cap + 4 * b) (omega (arith, fits))) in
       let r = part table 0 (24 * cap) in
       let room : 24 * n + 24 ≤ length r = omega (arith, few, long) in
       let fits-key : 24 * n + 24 ≤ length (setText r n at len info) = omega (arith, room, length-setText r n at len info room) in
-      ap (λ (z : List ℕ). setKey z n k p) (text-by table cap (length-part m (4 * i) (24 * cap + 4 * (cap + 1)) (omega (arith, fits))) n few at len info)
-      ∙ front-key (setText r n at len info) (part table (24 * cap) (4 * (cap + 1))) n fits-key k p ∙ rw (rows-words, heads-words)
+      ap (λ (z : List ℕ). setKey z n k p) (text-by table cap b (length-part m (4 * i) (24 * cap + 4 * b) (omega (arith, fits))) n few at len info)
+      ∙ front-key (setText r n at len info) (part table (24 * cap) (4 * b)) n fits-key k p ∙ rw (rows-words, heads-words)

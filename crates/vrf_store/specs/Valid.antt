@@ -5,7 +5,6 @@ use Prim.Native.Nat.{ℕ, _+_, _*_, _/_, _%_, _<_, _≤_}
 use lib.ListN.{length}
 use Rattle.vrf_text.specs.Text.{IsText}
 use Rattle.vrf_words.specs.Words.{word}
-use Rattle.vrf_model.specs.Book.{Allowances}
 use Rattle.vrf_model.specs.Lawful.{Is32, Allowed}
 use Rattle.vrf_table.specs.Index.{Latest, Claims}
 use Rattle.vrf_table.specs.Table.{key, link, at, len, info, text, keyHit, keyStart}
@@ -21,9 +20,9 @@ pub record Shaped (s : Store) : Type 0 where
   pub groupRows : length (s .groupRows) ≡ 24 * s .header .allowed .groups
   pub groupHeads : length (s .groupHeads) ≡ 4 * Layout.groupBuckets (s .header .allowed)
   pub pathLinks : length (s .pathLinks) ≡ 12 * s .header .allowed .groups
-  pub pathHeads : length (s .pathHeads) ≡ 4 * Layout.groupBuckets (s .header .allowed)
+  pub pathHeads : length (s .pathHeads) ≡ 4 * Layout.pathBuckets (s .header .allowed)
   pub leafLinks : length (s .leafLinks) ≡ 4 * s .header .allowed .groups
-  pub leafHeads : length (s .leafHeads) ≡ 4 * Layout.groupBuckets (s .header .allowed)
+  pub leafHeads : length (s .leafHeads) ≡ 4 * Layout.leafBuckets (s .header .allowed)
   pub fieldRows : length (s .fieldRows) ≡ 24 * s .header .allowed .fields
   pub fieldHeads : length (s .fieldHeads) ≡ 4 * Layout.fieldBuckets (s .header .allowed)
   pub texts : length (s .texts) ≡ s .header .allowed .text
@@ -60,8 +59,8 @@ pub record Valid (s : Store) : Type 0 where
   pub guids : (e : ℕ) → e < s .header .guids → Is32 (key (s .guidRows) e) × Is32 (info (s .guidRows) e)
   pub groupTable : GoodTable (s .header .used) (s .texts) (s .groupRows) (s .groupHeads) (Layout.groupBuckets (s .header .allowed)) (s .header .groups)
   pub groups : (e : ℕ) → e < s .header .groups → Is32 (key (s .groupRows) e) × (info (s .groupRows) e ≤ 65536)
-  pub paths : Latest (pathHit (s .groupRows) (s .texts)) (word (s .pathLinks)) (textStart (s .pathHeads) (Layout.groupBuckets (s .header .allowed))) (3 * s .header .groups)
-  pub leaves : Claims (leafHit (s .groupRows) (s .texts)) (word (s .leafLinks)) (textStart (s .leafHeads) (Layout.groupBuckets (s .header .allowed))) (s .header .groups)
+  pub paths : Latest (pathHit (s .groupRows) (s .texts)) (word (s .pathLinks)) (textStart (s .pathHeads) (Layout.pathBuckets (s .header .allowed))) (3 * s .header .groups)
+  pub leaves : Claims (leafHit (s .groupRows) (s .texts)) (word (s .leafLinks)) (textStart (s .leafHeads) (Layout.leafBuckets (s .header .allowed))) (s .header .groups)
   pub fieldTable : GoodTable (s .header .used) (s .texts) (s .fieldRows) (s .fieldHeads) (Layout.fieldBuckets (s .header .allowed)) (s .header .fields)
   pub fields : (e : ℕ) → e < s .header .fields → GoodSlotKey s (key (s .fieldRows) e) × Is32 (info (s .fieldRows) e)
   pub total : textSum s ≡ s .header .held

@@ -102,13 +102,13 @@ module _ {m m′ : List ℕ} {s : Store} (w : Written m m′ s) where
           both Layout.groupRowsAt r heads (λ z. withGroupTable z r heads) _ _ lr lh (omega arith) (omega (arith, enough))
           (put-groupTable (headerOf m′) m′ r heads still (omega (arith, lr, same)) (omega (arith, lh, same)))
 
-      pub wrote-pathIndex : length r ≡ 12 * allowancesOf m .groups → length heads ≡ 4 * Layout.groupBuckets (allowancesOf m) → Written m (pasted m′ (4 * Layout.pathLinksAt (allowancesOf m)) (r ++ heads)) (withPathIndex s r heads)
+      pub wrote-pathIndex : length r ≡ 12 * allowancesOf m .groups → length heads ≡ 4 * Layout.pathBuckets (allowancesOf m) → Written m (pasted m′ (4 * Layout.pathLinksAt (allowancesOf m)) (r ++ heads)) (withPathIndex s r heads)
       wrote-pathIndex lr lh =
           let same = ap (λ (a : Allowances). a .groups) (w .allowed) in
           both Layout.pathLinksAt r heads (λ z. withPathIndex z r heads) _ _ lr lh (omega arith) (omega (arith, enough))
           (put-pathIndex (headerOf m′) m′ r heads still (omega (arith, lr, same)) (omega (arith, lh, same)))
 
-      pub wrote-leafIndex : length r ≡ 4 * allowancesOf m .groups → length heads ≡ 4 * Layout.groupBuckets (allowancesOf m) → Written m (pasted m′ (4 * Layout.leafLinksAt (allowancesOf m)) (r ++ heads)) (withLeafIndex s r heads)
+      pub wrote-leafIndex : length r ≡ 4 * allowancesOf m .groups → length heads ≡ 4 * Layout.leafBuckets (allowancesOf m) → Written m (pasted m′ (4 * Layout.leafLinksAt (allowancesOf m)) (r ++ heads)) (withLeafIndex s r heads)
       wrote-leafIndex lr lh =
           let same = ap (λ (a : Allowances). a .groups) (w .allowed) in
           both Layout.leafLinksAt r heads (λ z. withLeafIndex z r heads) _ _ lr lh (omega arith) (omega (arith, enough))

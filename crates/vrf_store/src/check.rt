@@ -8,20 +8,21 @@ use vrf_path::Leaf;
 use vrf_path::core_alias;
 use vrf_path::default_object_alias;
 use vrf_path::is_absent;
-use vrf_path::key_byte;
-use vrf_path::key_len;
 use vrf_path::leaf_at;
+use vrf_table::ABSENT;
+use vrf_table::AMBIGUOUS;
 use vrf_table::Claim;
 use vrf_table::Entry;
 use vrf_table::find_key;
 use vrf_table::find_path;
 use vrf_table::leaf_claim;
+use vrf_table::spell::spell;
 use vrf_text::is_utf8;
 use vrf_words::get32;
 ghost use mathlib.Core.Path.{_≡_};
 ghost use mathlib.Core.Bool.{true};
 ghost use Prim.Native.Nat.{_+_, _*_, _<_, _≤_, _^_};
-ghost use lib.ListN.{length, take};
+ghost use lib.ListN.{length};
 ghost use Rattle.vrf_path.specs.Answers.{spelled, keyBytes};
 ghost use Rattle.vrf_table.specs.Table.{len};
 ghost use Rattle.vrf_table.specs.TextIndex.{findPath};
@@ -92,7 +93,7 @@ fn need(m: &[u8]) -> usize
     let f = parts::fields_allowed(m);
     let l = parts::literals_allowed(m);
     let t = parts::text_allowed(m);
-    4 * (37 + 7 * g + 13 * r + 7 * f + l) + 2 * t
+    4 * (37 + 10 * g + 16 * r + 10 * f + l) + 2 * t
 }
 
 // Whether no count or total is above its allowance.
@@ -317,20 +318,6 @@ fn reaches(
     not_before(e, find_path(rows, x, links, heads, b, n, k))
 }
 
-// Writes a path's key into the first bytes of out, and answers how many it has.
-pub fn spell(path: &[u8], key: Key, out: &mut [u8]) -> usize
-    requires { ⌜ length (now path) + 23 ≤ length (now out) ⌝ }
-    ensures { λ r. ⌜ (r ≡ length (keyBytes (now (path .entry)) key)) × (take r (now (out .exit)) ≡ keyBytes (now (path .entry)) key) ⌝ }
-{
-    let n = key_len(path, key);
-    let mut i = 0;
-    while i < n {
-        out[i] = key_byte(path, key, i);
-        i += 1;
-    }
-    n
-}
-
 // Whether an alias that is there finds entry e or a later one: it is spelled out, since no text holds it.
 fn alias_reaches(
     rows: &[u8],
@@ -347,7 +334,7 @@ fn alias_reaches(
     ensures { λ r. ⌜ r ≡ notBefore e (findPath (now (rows .entry)) (now (x .entry)) (now (links .entry)) (now (heads .entry)) b n (keyBytes (now (path .entry)) key)) ⌝ }
 {
     let mut room = [0u8; KEY_BYTES];
-    let k = spell(path, key, &mut room);
+    let k = spell(&mut room, path, key);
     reaches(rows, x, links, heads, b, n, e, &room[..k])
 }
 
@@ -418,11 +405,13 @@ fn each_keys_ok(rows: &[u8], x: &[u8], links: &[u8], heads: &[u8], b: u32, n: u3
 fn is_settled(g: u32, found: Claim) -> bool
     ensures { λ r. ⌜ r ≡ isSettled g (claim found) ⌝ }
 {
-    match found {
-        Claim::Absent => false,
-        Claim::Ambiguous => true,
-        Claim::Of(i) => i == g,
+    if found == ABSENT {
+        return false;
     }
+    if found == AMBIGUOUS {
+        return true;
+    }
+    found - 2 == g
 }
 
 // Whether the leaf of group g, if it has one, is claimed by it or by nobody.
@@ -484,7 +473,7 @@ fn guids_ok(m: &[u8]) -> bool
     requires { ⌜ Laid (now m) ⌝ }
     ensures { λ r. ⌜ r ≡ guidsOk (storeOf (now (m .entry))) ⌝ }
 {
-    let b = (parts::guids_allowed(m) + 1) as u32;
+    let b = (4 * parts::guids_allowed(m) + 1) as u32;
     each_guid_ok(
         parts::guid_rows(m),
         parts::guid_heads(m),
@@ -510,7 +499,7 @@ fn fields_ok(m: &[u8]) -> bool
     requires { ⌜ Laid (now m) ⌝ }
     ensures { λ r. ⌜ r ≡ fieldsOk (storeOf (now (m .entry))) ⌝ }
 {
-    let b = (parts::fields_allowed(m) + 1) as u32;
+    let b = (4 * parts::fields_allowed(m) + 1) as u32;
     each_field_ok(
         parts::group_rows(m),
         parts::groups(m),
@@ -526,7 +515,7 @@ fn paths_ok(m: &[u8]) -> bool
     requires { ⌜ Laid (now m) × (groupTexts (storeOf (now m)) ≡ true) ⌝ }
     ensures { λ r. ⌜ r ≡ pathsOk (storeOf (now (m .entry))) ⌝ }
 {
-    let b = (parts::groups_allowed(m) + 1) as u32;
+    let b = (3 * parts::groups_allowed(m) + 1) as u32;
     each_keys_ok(
         parts::group_rows(m),
         parts::texts(m),
@@ -541,7 +530,7 @@ fn leaves_ok(m: &[u8]) -> bool
     requires { ⌜ Laid (now m) × (groupTexts (storeOf (now m)) ≡ true) ⌝ }
     ensures { λ r. ⌜ r ≡ leavesOk (storeOf (now (m .entry))) ⌝ }
 {
-    let b = (parts::groups_allowed(m) + 1) as u32;
+    let b = (2 * parts::groups_allowed(m) + 1) as u32;
     each_leaf_ok(
         parts::group_rows(m),
         parts::texts(m),

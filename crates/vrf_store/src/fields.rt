@@ -30,7 +30,7 @@ fn fields_at(m: &[u8]) -> usize
     requires { ⌜ Enough (now m) ⌝ }
     ensures { λ r. ⌜ r ≡ 4 * Layout.fieldRowsAt (allowancesOf (now (m .entry))) ⌝ }
 {
-    4 * (36 + 7 * guids_allowed(m) + 13 * groups_allowed(m))
+    4 * (36 + 10 * guids_allowed(m) + 16 * groups_allowed(m))
 }
 
 // A field more: its slot was empty.
@@ -42,9 +42,10 @@ pub fn push_field(m: &mut [u8], place: u32, slot: u32, at: u32, len: u32, checks
     let n = fields(m);
     let total = held(m) + len;
     let from = fields_at(m);
-    let to = from + 24 * cap + 4 * (cap + 1);
+    let to = from + 24 * cap + 4 * (4 * cap + 1);
     let k = 65536 * (place as u64) + (slot as u64);
-    push_row(&mut m[from..to], cap, n, k, at, len, checksum);
+    let b = (4 * cap + 1) as u32;
+    push_row(&mut m[from..to], cap, b, n, k, at, len, checksum);
     put32(m, 7, n + 1);
     put32(m, 8, total);
 }
@@ -56,7 +57,7 @@ pub fn set_field_row(m: &mut [u8], e: u32, at: u32, len: u32, checksum: u32)
 {
     let cap = fields_allowed(m);
     let from = fields_at(m);
-    let to = from + 24 * cap + 4 * (cap + 1);
+    let to = from + 24 * cap + 4 * (4 * cap + 1);
     let total = held(m) - text_len(field_rows(m), e) + len;
     put_text(&mut m[from..to], e, at, len, checksum);
     put32(m, 8, total);
@@ -70,7 +71,7 @@ struct Kept {
 
 // Row e goes where it is a field of the group at a place; otherwise it is put behind the rows that are kept.
 fn pass_row(t: &mut [u8], cap: usize, place: u32, e: u32, kept: Kept) -> Kept
-    requires { ⌜ (length (now t) ≡ 24 * cap + 4 * (cap + 1)) × (e < cap) × (cap ≤ 1000000) × (kept .rows ≤ e) × (kept .gone ≤ 2 ^ 32 * e) ⌝ }
+    requires { ⌜ (length (now t) ≡ 24 * cap + 4 * (4 * cap + 1)) × (e < cap) × (cap ≤ 1000000) × (kept .rows ≤ e) × (kept .gone ≤ 2 ^ 32 * e) ⌝ }
     ensures { λ r. ⌜ (passOf (now (t .exit)) (r .rows) (r .gone) ≡ passRow cap place e (passOf (now (t .entry)) (kept .rows) (kept .gone))) × (r .rows ≤ e + 1) × (r .gone ≤ 2 ^ 32 * (e + 1)) ⌝ }
 {
     let row = 6 * (e as usize);
@@ -86,7 +87,7 @@ fn pass_row(t: &mut [u8], cap: usize, place: u32, e: u32, kept: Kept) -> Kept
     }
     let at = get32(t, row + 3);
     let info = get32(t, row + 5);
-    push_row(t, cap, rows, k, at, len, info);
+    push_row(t, cap, (4 * cap + 1) as u32, rows, k, at, len, info);
     Kept {
         rows: rows + 1,
         gone: gone,
@@ -95,11 +96,11 @@ fn pass_row(t: &mut [u8], cap: usize, place: u32, e: u32, kept: Kept) -> Kept
 
 // The fields of the group at a place go from the first n rows of a table.
 fn pass_rows(t: &mut [u8], cap: usize, place: u32, n: u32) -> Kept
-    requires { ⌜ (length (now t) ≡ 24 * cap + 4 * (cap + 1)) × (n ≤ cap) × (cap ≤ 1000000) ⌝ }
+    requires { ⌜ (length (now t) ≡ 24 * cap + 4 * (4 * cap + 1)) × (n ≤ cap) × (cap ≤ 1000000) ⌝ }
     ensures { λ r. ⌜ passOf (now (t .exit)) (r .rows) (r .gone) ≡ passRows cap place (headless cap (now (t .entry))) n ⌝ }
 {
     // no head may point past the rows that are kept
-    zero_words(t, 6 * cap, cap + 1);
+    zero_words(t, 6 * cap, 4 * cap + 1);
     let mut kept = Kept { rows: 0, gone: 0 };
     let mut e = 0;
     while e < n {
@@ -118,7 +119,7 @@ pub fn drop_fields(m: &mut [u8], place: u32)
     let n = fields(m);
     let total = held(m) as u64;
     let from = fields_at(m);
-    let to = from + 24 * cap + 4 * (cap + 1);
+    let to = from + 24 * cap + 4 * (4 * cap + 1);
     let kept = pass_rows(&mut m[from..to], cap, place, n);
     let rows = kept.rows;
     put32(m, 7, rows);

@@ -12,12 +12,11 @@ use vrf_path::Leaf;
 use vrf_path::core_alias;
 use vrf_path::default_object_alias;
 use vrf_path::is_absent;
-use vrf_path::key_byte;
-use vrf_path::key_len;
 use vrf_path::leaf_at;
 use vrf_table::key_bucket;
 use vrf_table::put_key;
 use vrf_table::put_text;
+use vrf_table::spell::spell;
 use vrf_table::text_bucket;
 use vrf_words::get32;
 use vrf_words::get64;
@@ -67,13 +66,8 @@ fn spelled_bucket(path: &[u8], key: Key, b: u32) -> u32
     requires { ⌜ length (now path) ≤ 4096 ⌝ }
     ensures { λ r. ⌜ r ≡ textBucket b (keyBytes (now (path .entry)) key) ⌝ }
 {
-    let n = key_len(path, key);
     let mut t = [0u8; 4120];
-    let mut i = 0;
-    while i < n {
-        t[i] = key_byte(path, key, i);
-        i += 1;
-    }
+    let n = spell(&mut t, path, key);
     text_bucket(&t[..n], b)
 }
 
@@ -115,31 +109,39 @@ fn push_entry(m: &mut [u8], at: usize, n: usize, k: usize, i: usize, b: Bucket, 
 
 // The entries of group e in the three indexes, each put at the front of a chain.
 fn push_key(m: &mut [u8], e: u32, b: Bucket)
-    requires { ⌜ Pushable (now m) 1 e (bucketed b) ⌝ }
+    requires { ⌜ Pushable (now m) 1 (allowancesOf (now m) .groups + 1) e (bucketed b) ⌝ }
     ensures { λ _. ⌜ Written (now (m .entry)) (now (m .exit)) (pushKey (storeOf (now (m .entry))) e (bucketed b)) ⌝ }
 {
     let g = guids_allowed(m);
     let r = groups_allowed(m);
     let link = 6 * (e as usize) + 2;
-    push_entry(m, 33 + 7 * g, 6 * r, r + 1, link, b, e + 1);
+    push_entry(m, 33 + 10 * g, 6 * r, r + 1, link, b, e + 1);
 }
 
 fn push_path(m: &mut [u8], e: u32, b: Bucket)
-    requires { ⌜ Pushable (now m) 3 e (bucketed b) ⌝ }
+    requires { ⌜ Pushable (now m) 3 (3 * allowancesOf (now m) .groups + 1) e (bucketed b) ⌝ }
     ensures { λ _. ⌜ Written (now (m .entry)) (now (m .exit)) (pushPath (storeOf (now (m .entry))) e (bucketed b)) ⌝ }
 {
     let g = guids_allowed(m);
     let r = groups_allowed(m);
-    push_entry(m, 34 + 7 * g + 7 * r, 3 * r, r + 1, e as usize, b, e + 1);
+    push_entry(
+        m,
+        34 + 10 * g + 7 * r,
+        3 * r,
+        3 * r + 1,
+        e as usize,
+        b,
+        e + 1,
+    );
 }
 
 fn push_leaf(m: &mut [u8], e: u32, b: Bucket)
-    requires { ⌜ Pushable (now m) 1 e (bucketed b) ⌝ }
+    requires { ⌜ Pushable (now m) 1 (2 * allowancesOf (now m) .groups + 1) e (bucketed b) ⌝ }
     ensures { λ _. ⌜ Written (now (m .entry)) (now (m .exit)) (pushLeaf (storeOf (now (m .entry))) e (bucketed b)) ⌝ }
 {
     let g = guids_allowed(m);
     let r = groups_allowed(m);
-    push_entry(m, 35 + 7 * g + 11 * r, r, r + 1, e as usize, b, e + 1);
+    push_entry(m, 35 + 10 * g + 13 * r, r, 2 * r + 1, e as usize, b, e + 1);
 }
 
 // The buckets of group g.
@@ -147,16 +149,17 @@ fn buckets_of(m: &[u8], g: u32) -> Buckets
     requires { ⌜ Indexable (now m) g ⌝ }
     ensures { λ r. ⌜ BucketsOf (storeOf (now (m .entry))) g r ⌝ }
 {
-    let b = (groups_allowed(m) + 1) as u32;
+    let r = groups_allowed(m) as u32;
+    let b = 3 * r + 1;
     let rows = group_rows(m);
     let path = row_text(rows, texts(m), g);
     let row = 6 * (g as usize);
     Buckets {
-        key: Bucket::Of(key_bucket(get64(rows, row), b)),
+        key: Bucket::Of(key_bucket(get64(rows, row), r + 1)),
         own: Bucket::Of(text_bucket(path, b)),
         default: alias_bucket(path, default_object_alias(path), b),
         core: alias_bucket(path, core_alias(path), b),
-        leaf: leaf_bucket(path, b),
+        leaf: leaf_bucket(path, 2 * r + 1),
     }
 }
 
@@ -193,7 +196,7 @@ fn put_group(m: &mut [u8], e: u32, index: u32, at: u32, len: u32, slots: u32)
     ensures { λ _. ⌜ Written (now (m .entry)) (now (m .exit)) (putGroup (storeOf (now (m .entry))) e index at len slots) ⌝ }
 {
     let cap = groups_allowed(m);
-    let from = 4 * (33 + 7 * guids_allowed(m));
+    let from = 4 * (33 + 10 * guids_allowed(m));
     let to = from + 24 * cap + 4 * (cap + 1);
     put_row(&mut m[from..to], e, index as u64, at, len, slots);
 }
@@ -216,7 +219,7 @@ pub fn grow_group(m: &mut [u8], e: u32, slots: u32)
     requires { ⌜ Good (now m) × (e < headerOf (now m) .groups) × (slots ≤ 65536) ⌝ }
     ensures { λ _. ⌜ Stepped (now (m .entry)) (now (m .exit)) (withGroup (held (now (m .entry))) e (grownGroup slots)) ⌝ }
 {
-    let word = 33 + 7 * guids_allowed(m) + (6 * (e as usize) + 5);
+    let word = 33 + 10 * guids_allowed(m) + (6 * (e as usize) + 5);
     if get32(m, word) < slots {
         put32(m, word, slots);
     }
@@ -229,9 +232,9 @@ fn clear_heads(m: &mut [u8])
 {
     let g = guids_allowed(m);
     let r = groups_allowed(m);
-    zero_words(m, 33 + 7 * g + 6 * r, r + 1);
-    zero_words(m, 34 + 7 * g + 10 * r, r + 1);
-    zero_words(m, 35 + 7 * g + 12 * r, r + 1);
+    zero_words(m, 33 + 10 * g + 6 * r, r + 1);
+    zero_words(m, 34 + 10 * g + 10 * r, 3 * r + 1);
+    zero_words(m, 35 + 10 * g + 14 * r, 2 * r + 1);
 }
 
 // Makes the three indexes again.

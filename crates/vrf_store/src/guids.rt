@@ -24,8 +24,9 @@ pub fn push_guid(m: &mut [u8], guid: u32, at: u32, len: u32, outer: u32)
     let n = guids(m);
     let total = held(m) + len;
     let from: usize = 128;
-    let to = from + 24 * cap + 4 * (cap + 1);
-    push_row(&mut m[from..to], cap, n, guid as u64, at, len, outer);
+    let to = from + 24 * cap + 4 * (4 * cap + 1);
+    let b = (4 * cap + 1) as u32;
+    push_row(&mut m[from..to], cap, b, n, guid as u64, at, len, outer);
     put32(m, 5, n + 1);
     put32(m, 8, total);
 }
@@ -38,7 +39,7 @@ pub fn set_guid(m: &mut [u8], e: u32, at: u32, len: u32, outer: u32)
     let cap = guids_allowed(m);
     let total = held(m) - text_len(guid_rows(m), e) + len;
     let from: usize = 128;
-    let to = from + 24 * cap + 4 * (cap + 1);
+    let to = from + 24 * cap + 4 * (4 * cap + 1);
     put_text(&mut m[from..to], e, at, len, outer);
     put32(m, 8, total);
 }

@@ -34,6 +34,7 @@ ghost use lib.Dec.{eqb};
 ghost use lib.ListN.{length};
 ghost use Rattle.vrf_model.specs.Book.{Guid, Group};
 ghost use Rattle.vrf_model.specs.Lookup.{placeOr, pathPlace, indexPlace, guidPlace, slotChecksum, slotName, slotAt, leafClaim, outerGuid, outerPath, ifFilled, gameplayTag};
+ghost use Rattle.vrf_path.specs.Leaf.{Dotless};
 ghost use Rattle.vrf_table.specs.Table.{key, info};
 ghost use Rattle.vrf_table.specs.Answers.{entry, claim};
 ghost use Rattle.vrf_store.specs.Layout;
@@ -42,12 +43,12 @@ ghost use Rattle.vrf_store.specs.Good.{Good};
 ghost use Rattle.vrf_store.specs.SlotRow.{fieldFound, slotRow};
 ghost use Rattle.vrf_store.specs.Answers.{found};
 
-// How many buckets each table has.
+// How many buckets each index has.
 pub fn guid_buckets(m: &[u8]) -> u32
     requires { ⌜ Good (now m) ⌝ }
     ensures { λ r. ⌜ r ≡ Layout.guidBuckets (allowancesOf (now (m .entry))) ⌝ }
 {
-    (guids_allowed(m) + 1) as u32
+    (4 * guids_allowed(m) + 1) as u32
 }
 
 pub fn group_buckets(m: &[u8]) -> u32
@@ -57,11 +58,25 @@ pub fn group_buckets(m: &[u8]) -> u32
     (groups_allowed(m) + 1) as u32
 }
 
+pub fn path_buckets(m: &[u8]) -> u32
+    requires { ⌜ Good (now m) ⌝ }
+    ensures { λ r. ⌜ r ≡ Layout.pathBuckets (allowancesOf (now (m .entry))) ⌝ }
+{
+    (3 * groups_allowed(m) + 1) as u32
+}
+
+pub fn leaf_buckets(m: &[u8]) -> u32
+    requires { ⌜ Good (now m) ⌝ }
+    ensures { λ r. ⌜ r ≡ Layout.leafBuckets (allowancesOf (now (m .entry))) ⌝ }
+{
+    (2 * groups_allowed(m) + 1) as u32
+}
+
 pub fn field_buckets(m: &[u8]) -> u32
     requires { ⌜ Good (now m) ⌝ }
     ensures { λ r. ⌜ r ≡ Layout.fieldBuckets (allowancesOf (now (m .entry))) ⌝ }
 {
-    (fields_allowed(m) + 1) as u32
+    (4 * fields_allowed(m) + 1) as u32
 }
 
 // The key of row e.
@@ -113,7 +128,7 @@ pub fn find_path_place(m: &[u8], k: &[u8]) -> Entry
     requires { ⌜ Good (now m) × (length (now k) < 2 ^ 31) ⌝ }
     ensures { λ r. ⌜ entry r ≡ pathPlace (now (k .entry)) (contentOf (storeOf (now (m .entry))) .groups) ⌝ }
 {
-    let b = group_buckets(m);
+    let b = path_buckets(m);
     let n = groups(m);
     match find_path(
         group_rows(m),
@@ -122,19 +137,19 @@ pub fn find_path_place(m: &[u8], k: &[u8]) -> Entry
         path_heads(m),
         b,
         n,
-        k,
+        &k[..],
     ) {
         Entry::At(e) => Entry::At(e / 3),
         Entry::Nowhere => Entry::Nowhere,
     }
 }
 
-// Which group has a leaf, if only one does.
+// Which group has a leaf, if only one does. A leaf has no dot.
 pub fn claim_of(m: &[u8], leaf: &[u8]) -> Claim
-    requires { ⌜ Good (now m) × (length (now leaf) < 2 ^ 31) ⌝ }
+    requires { ⌜ Good (now m) × Dotless (now leaf) × (length (now leaf) < 2 ^ 31) ⌝ }
     ensures { λ r. ⌜ claim r ≡ leafClaim (now (leaf .entry)) (contentOf (storeOf (now (m .entry))) .groups) ⌝ }
 {
-    let b = group_buckets(m);
+    let b = leaf_buckets(m);
     let n = groups(m);
     leaf_claim(
         group_rows(m),
@@ -143,7 +158,7 @@ pub fn claim_of(m: &[u8], leaf: &[u8]) -> Claim
         leaf_heads(m),
         b,
         n,
-        leaf,
+        &leaf[..],
     )
 }
 

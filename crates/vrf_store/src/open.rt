@@ -48,7 +48,7 @@ fn needed(guids: u64, groups: u64, fields: u64, text: u64, literals: u64) -> u64
     requires { ⌜ Allowed (record { guids = guids; groups = groups; fields = fields; text = text; literals = literals }) ⌝ }
     ensures { λ r. ⌜ r ≡ Layout.need (record { guids = guids; groups = groups; fields = fields; text = text; literals = literals }) ⌝ }
 {
-    4 * (37 + 7 * guids + 13 * groups + 7 * fields + literals) + 2 * text
+    4 * (37 + 10 * guids + 16 * groups + 10 * fields + literals) + 2 * text
 }
 
 // How many bytes to lend to `open`, 0 where it refuses the allowances.
@@ -84,11 +84,11 @@ pub fn zero_heads(m: &mut [u8])
     let g = guids_allowed(m);
     let r = groups_allowed(m);
     let f = fields_allowed(m);
-    zero_words(m, 32 + 6 * g, g + 1);
-    zero_words(m, 33 + 7 * g + 6 * r, r + 1);
-    zero_words(m, 34 + 7 * g + 10 * r, r + 1);
-    zero_words(m, 35 + 7 * g + 12 * r, r + 1);
-    zero_words(m, 36 + 7 * g + 13 * r + 6 * f, f + 1);
+    zero_words(m, 32 + 6 * g, 4 * g + 1);
+    zero_words(m, 33 + 10 * g + 6 * r, r + 1);
+    zero_words(m, 34 + 10 * g + 10 * r, 3 * r + 1);
+    zero_words(m, 35 + 10 * g + 14 * r, 2 * r + 1);
+    zero_words(m, 36 + 10 * g + 16 * r + 6 * f, 4 * f + 1);
 }
 
 // Opens a book with five allowances.

@@ -110,7 +110,7 @@ pub fn guid_heads(m: &[u8]) -> &[u8]
     ensures { λ r. ⌜ now r ≡ storeOf (now (m .entry)) .guidHeads ⌝ }
 {
     let g = guids_allowed(m);
-    words(m, 32 + 6 * g, g + 1)
+    words(m, 32 + 6 * g, 4 * g + 1)
 }
 
 pub fn group_rows(m: &[u8]) -> &[u8]
@@ -119,7 +119,7 @@ pub fn group_rows(m: &[u8]) -> &[u8]
 {
     let g = guids_allowed(m);
     let r = groups_allowed(m);
-    words(m, 33 + 7 * g, 6 * r)
+    words(m, 33 + 10 * g, 6 * r)
 }
 
 pub fn group_heads(m: &[u8]) -> &[u8]
@@ -128,7 +128,7 @@ pub fn group_heads(m: &[u8]) -> &[u8]
 {
     let g = guids_allowed(m);
     let r = groups_allowed(m);
-    words(m, 33 + 7 * g + 6 * r, r + 1)
+    words(m, 33 + 10 * g + 6 * r, r + 1)
 }
 
 pub fn path_links(m: &[u8]) -> &[u8]
@@ -137,7 +137,7 @@ pub fn path_links(m: &[u8]) -> &[u8]
 {
     let g = guids_allowed(m);
     let r = groups_allowed(m);
-    words(m, 34 + 7 * g + 7 * r, 3 * r)
+    words(m, 34 + 10 * g + 7 * r, 3 * r)
 }
 
 pub fn path_heads(m: &[u8]) -> &[u8]
@@ -146,7 +146,7 @@ pub fn path_heads(m: &[u8]) -> &[u8]
 {
     let g = guids_allowed(m);
     let r = groups_allowed(m);
-    words(m, 34 + 7 * g + 10 * r, r + 1)
+    words(m, 34 + 10 * g + 10 * r, 3 * r + 1)
 }
 
 pub fn leaf_links(m: &[u8]) -> &[u8]
@@ -155,7 +155,7 @@ pub fn leaf_links(m: &[u8]) -> &[u8]
 {
     let g = guids_allowed(m);
     let r = groups_allowed(m);
-    words(m, 35 + 7 * g + 11 * r, r)
+    words(m, 35 + 10 * g + 13 * r, r)
 }
 
 pub fn leaf_heads(m: &[u8]) -> &[u8]
@@ -164,7 +164,7 @@ pub fn leaf_heads(m: &[u8]) -> &[u8]
 {
     let g = guids_allowed(m);
     let r = groups_allowed(m);
-    words(m, 35 + 7 * g + 12 * r, r + 1)
+    words(m, 35 + 10 * g + 14 * r, 2 * r + 1)
 }
 
 pub fn field_rows(m: &[u8]) -> &[u8]
@@ -174,7 +174,7 @@ pub fn field_rows(m: &[u8]) -> &[u8]
     let g = guids_allowed(m);
     let r = groups_allowed(m);
     let f = fields_allowed(m);
-    words(m, 36 + 7 * g + 13 * r, 6 * f)
+    words(m, 36 + 10 * g + 16 * r, 6 * f)
 }
 
 pub fn field_heads(m: &[u8]) -> &[u8]
@@ -184,7 +184,7 @@ pub fn field_heads(m: &[u8]) -> &[u8]
     let g = guids_allowed(m);
     let r = groups_allowed(m);
     let f = fields_allowed(m);
-    words(m, 36 + 7 * g + 13 * r + 6 * f, f + 1)
+    words(m, 36 + 10 * g + 16 * r + 6 * f, 4 * f + 1)
 }
 
 // The word at which the literals begin.
@@ -195,7 +195,7 @@ pub fn literals_at(m: &[u8]) -> usize
     let g = guids_allowed(m);
     let r = groups_allowed(m);
     let f = fields_allowed(m);
-    37 + 7 * g + 13 * r + 7 * f
+    37 + 10 * g + 16 * r + 10 * f
 }
 
 pub fn literals(m: &[u8]) -> &[u8]

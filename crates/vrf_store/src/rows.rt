@@ -26,12 +26,12 @@ pub fn text_len(rows: &[u8], e: u32) -> u32
     get32(rows, 6 * (e as usize) + 4)
 }
 
-// A row more, in the memory of a table: the rows and, behind them, the heads.
-pub fn push_row(t: &mut [u8], cap: usize, n: u32, k: u64, at: u32, len: u32, info: u32)
-    requires { ⌜ (length (now t) ≡ 24 * cap + 4 * (cap + 1)) × (n < cap) × (cap ≤ 1000000) ⌝ }
-    ensures { λ _. ⌜ now (t .exit) ≡ pushed (now (t .entry)) cap n k at len info ⌝ }
+// A row more, in the memory of a table: cap rows and, behind them, b heads.
+pub fn push_row(t: &mut [u8], cap: usize, b: u32, n: u32, k: u64, at: u32, len: u32, info: u32)
+    requires { ⌜ (length (now t) ≡ 24 * cap + 4 * b) × (n < cap) × (cap ≤ 1000000) × (0 < b) ⌝ }
+    ensures { λ _. ⌜ now (t .exit) ≡ pushed (now (t .entry)) cap b n k at len info ⌝ }
 {
-    let head = 6 * cap + (key_bucket(k, (cap + 1) as u32) as usize);
+    let head = 6 * cap + (key_bucket(k, b) as usize);
     let link = get32(t, head);
     put_text(t, n, at, len, info);
     put_key(t, n, k, link);

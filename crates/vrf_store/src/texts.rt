@@ -84,8 +84,8 @@ fn compact(m: &mut [u8])
     let guid_count = guids(m) as usize;
     let group_count = groups(m) as usize;
     let field_count = fields(m) as usize;
-    let groups_at = 33 + 7 * guids_allowed(m);
-    let fields_at = groups_at + 3 + 13 * groups_allowed(m);
+    let groups_at = 33 + 10 * guids_allowed(m);
+    let fields_at = groups_at + 3 + 16 * groups_allowed(m);
     let first = move_texts(m, 32, guid_count, from, to, 0);
     let second = move_texts(m, groups_at, group_count, from, to, first);
     let end = move_texts(m, fields_at, field_count, from, to, second);

@@ -1,39 +1,46 @@
--- What the hashes need: sums that fit 64 bits, and one word of a text after another.
+-- What the hashes need: sums and products that fit 64 bits, and one word of a text after another.
 use mathlib.Core.Path.{_≡_}
 use mathlib.Core.List.{List}
 use Prim.Native.Nat.{ℕ, suc, _+_, _-_, _*_, _/_, _%_, _^_, _<_, _≤_}
 use native.Mathlib.Omega.{arith}
+use native.Mathlib.Nat.{mul-le-mul-right}
 use lib.ListN.{length}
 use Rattle.vrf_path.specs.Text.{four, eight}
-use Rattle.vrf_table.specs.TextIndex.{turn, hashUpTo, textHash}
+use Rattle.vrf_table.specs.TextIndex.{turn, fourTurns, hashUpTo, lastTurns, textHash}
 
 pub mixed-fits : (a b : ℕ) → a < 2 ^ 32 → b < 2 ^ 32 → a * 2654435761 + b * 40503 < 2 ^ 64
 mixed-fits a b h k = omega arith
 
--- the hash of a short text is one turn, from its length
-pub hash-short : (t : List ℕ) (a b h : ℕ) → length t < 8 → a ≡ four t 0 → b ≡ four t 4 → h ≡ turn (length t) (a + 4294967296 * b) → h ≡ textHash t
-unfolding textHash hashUpTo eight
-hash-short t a b h short ea eb eh =
-    let none : (length t - 1) / 8 ≡ 0 = omega arith in
-    let first : length t - 8 ≡ 0 = omega arith in
-    let whole : length t % 2 ^ 32 ≡ length t = omega arith in
-    rw (none, first, whole, ← ea, ← eb) eh
+pub product-fits : (a b : ℕ) → a < 2 ^ 32 → b < 2 ^ 32 → a * b < 2 ^ 64
+product-fits a b h k = omega (arith, mul-le-mul-right {m = a} {n = 2 ^ 32} b (omega arith))
 
--- the hash of a long one: where i bytes are done, i / 8 words are
+-- the hash of a short text is four turns by one word, from its length
+pub hash-short : (t : List ℕ) (a b h i j k : ℕ) → length t < 8 → a ≡ four t 0 → b ≡ four t 4 → h ≡ turn (length t) (a + 4294967296 * b) → i ≡ turn h (a + 4294967296 * b) → j ≡ turn i (a + 4294967296 * b) → k ≡ turn j (a + 4294967296 * b) → k ≡ textHash t
+unfolding textHash lastTurns fourTurns hashUpTo eight
+hash-short t a b h i j k short ea eb eh ei ej ek =
+    let none : (length t - 1) / 32 ≡ 0 = omega arith in
+    let e32 : length t - 32 ≡ 0 = omega arith in
+    let e24 : length t - 24 ≡ 0 = omega arith in
+    let e16 : length t - 16 ≡ 0 = omega arith in
+    let e8 : length t - 8 ≡ 0 = omega arith in
+    let whole : length t % 2 ^ 32 ≡ length t = omega arith in
+    rw (none, e32, e24, e16, e8, whole, ← ea, ← eb) cc
+
+-- the hash of a long one: where i bytes are done, i / 32 turns are
 module _ (t : List ℕ) where
   pub hash-start : length t < 2 ^ 32 → length t ≡ hashUpTo t 0
   unfolding hashUpTo
   hash-start h = omega arith
 
-  pub hash-next : (i h w n : ℕ) → i % 8 ≡ 0 → h ≡ hashUpTo t (i / 8) → w ≡ eight t i → n ≡ turn h w → n ≡ hashUpTo t ((i + 8) / 8)
+  pub hash-next : (i h n : ℕ) → i % 32 ≡ 0 → h ≡ hashUpTo t (i / 32) → n ≡ fourTurns h t i (i + 8) (i + 16) (i + 24) → n ≡ hashUpTo t ((i + 32) / 32)
   unfolding hashUpTo
-  hash-next i h w n e eh ew en =
-      let next : (i + 8) / 8 ≡ suc (i / 8) = omega arith in
-      let here : 8 * (i / 8) ≡ i = omega arith in
-      rw (next, here, ← eh, ← ew) en
+  hash-next i h n e eh en =
+      let next : (i + 32) / 32 ≡ suc (i / 32) = omega arith in
+      let here : 32 * (i / 32) ≡ i = omega arith in
+      rw (next, here, ← eh) en
 
-  pub hash-end : (i h w n : ℕ) → 8 ≤ length t → i % 8 ≡ 0 → length t - 8 ≤ i → i < length t → h ≡ hashUpTo t (i / 8) → w ≡ eight t (length t - 8) → n ≡ turn h w → n ≡ textHash t
+  pub hash-end : (i h n : ℕ) → i % 32 ≡ 0 → length t - 32 ≤ i → i < length t → h ≡ hashUpTo t (i / 32) → n ≡ lastTurns h t → n ≡ textHash t
   unfolding textHash
-  hash-end i h w n long e le lt eh ew en =
-      let all : (length t - 1) / 8 ≡ i / 8 = omega arith in
-      rw (all, ← eh, ← ew) en
+  hash-end i h n e le lt eh en =
+      let all : (length t - 1) / 32 ≡ i / 32 = omega arith in
+      rw (all, ← eh) en

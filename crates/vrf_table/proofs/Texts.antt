@@ -1,21 +1,19 @@
 -- What the texts need: the part of the memory that a row's text is, the keys by their numbers, and leaves.
-use mathlib.Core.Path.{_≡_, refl, ap, _∙_}
-use mathlib.Core.Bool.{Bool, true, false, cond}
+use mathlib.Core.Path.{_≡_, refl, sym, ap, _∙_}
+use mathlib.Core.Bool.{Bool, true, false}
 use mathlib.Core.List.{List}
-use mathlib.Core.Option.{Option, none, some}
 use Prim.Native.Nat.{ℕ, zero, suc, _+_, _-_, _<_}
 use native.Mathlib.Omega.{arith}
-use borrow.Author.Tests.{eqb-true}
-use lib.Dec.{eqb}
 use lib.ListN.{length, getD, take, drop, length-drop}
 use lib.Seq.{take-all}
-use Rattle.vrf_text.specs.Cases.{by-order, clash}
+use Rattle.vrf_text.specs.Cases.{clash}
 use Rattle.vrf_words.specs.Words.{part}
-use Rattle.vrf_path.specs.Text.{same, lastBelow}
+use Rattle.vrf_path.specs.Text.{same}
+use Rattle.vrf_path.specs.TextLaws.{same-refl, same-true}
 use Rattle.vrf_path.specs.Keys.{coreAlias, isThe}
 use Rattle.vrf_path.specs.KeysLaws.{the-true}
-use Rattle.vrf_path.specs.Leaf.{leaf}
-use Rattle.vrf_path.specs.LeafLaws.{leaf-behind, leaf-empty, leaf-no-dot}
+use Rattle.vrf_path.specs.Leaf.{leaf, Dotless}
+use Rattle.vrf_path.specs.LeafLaws.{LeafIs, leaf-is, is-leaf}
 use Rattle.vrf_table.specs.Table.{at, len, text}
 use Rattle.vrf_table.specs.TextIndex.{numbered}
 
@@ -32,37 +30,23 @@ numbered-core t (suc (suc n)) a b = refl
 
 -- ---- leaves
 
--- the part `&t[i..]`, which is the leaf
-pub leaf-part : (t l : List ℕ) (i : ℕ) {r : Bool} → leaf t ≡ some (drop i t) → r ≡ same (take (length t - i) (drop i t)) l → r ≡ isThe (leaf t) l
-unfolding isThe
-leaf-part t l i e er = rw e (er ∙ ap (λ (s : List ℕ). same s l) (take-all (length t - i) (drop i t) (rw length-drop (omega arith))))
-
-last-byte : (b : ℕ) (t : List ℕ) (n : ℕ) {i : ℕ} → lastBelow b t n ≡ some i → getD t i 0 ≡ b
-unfolding lastBelow
-last-byte b t zero e = clash cc
-last-byte b t (suc n) {i} e = by (eqb (getD t n 0) b) refl e (λ es. last-byte b t n es)
+-- a text that is not the leaf of a path
+pub leaf-not : (t l : List ℕ) → (LeafIs t l → ⊥) → isThe (leaf t) l ≡ false
+leaf-not t l other = by (isThe (leaf t) l) refl
   where
-    by : (x : Bool) → eqb (getD t n 0) b ≡ x → cond x (some n) (lastBelow b t n) ≡ some i → (lastBelow b t n ≡ some i → getD t i 0 ≡ b) → getD t i 0 ≡ b
-    by true ex es earlier = let ei : n ≡ i = cc in rw ei at (eqb-true (getD t n 0) b ex)
-    by false ex es earlier = earlier es
+    by : (b : Bool) → isThe (leaf t) l ≡ b → b ≡ false
+    by true e = absurd (other (leaf-is t l (the-true (leaf t) l e)))
+    by false e = refl
 
-module _ (t l : List ℕ) (no : length l < length t → getD t (length t - length l - 1) 0 ≡ 46 → ⊥) where
-  dotless : leaf t ≡ some l → ⊥
-  dotless e = by (lastBelow 46 t (length t)) refl
-    where
-      by : (o : Option ℕ) → lastBelow 46 t (length t) ≡ o → ⊥
-      by none eo = clash (let z = leaf-no-dot t eo in cc)
-      by (some i) eo = by-order (length t) (i + 1)
-          (λ h. clash (let z = leaf-empty t eo h in cc))
-          (λ h. let el : l ≡ drop (i + 1) t = cc (leaf-behind t eo h) in
-          let size : length l ≡ length t - (i + 1) = rw el (length-drop (i + 1) t) in
-          let place : length t - length l - 1 ≡ i = omega arith in
-          no (omega arith) (rw place (last-byte 46 t (length t) eo)))
+-- behind a dot the end of a path decides
+module _ (t l : List ℕ) (dotless : Dotless l) (some-bytes : 0 < length l) (shorter : length l < length t) (dot : getD t (length t - length l - 1) 0 ≡ 46) where
+  decides : (b : Bool) → same (drop (length t - length l) t) l ≡ b → b ≡ isThe (leaf t) l
+  unfolding isThe
+  decides true e =
+      let is : LeafIs t l = record { shorter = shorter; tail = same-true (drop (length t - length l) t) l e; dot = dot; some-bytes = some-bytes; dotless = dotless } in
+      rw (is-leaf t l is, same-refl l)
+  decides false e = sym (leaf-not t l (λ is. clash (let z : true ≡ false = sym (same-refl l) ∙ rw (is .tail) at e in cc)))
 
-  -- a text that does not stand behind a dot at the end of a path is not its leaf
-  pub leaf-not : isThe (leaf t) l ≡ false
-  leaf-not = by (isThe (leaf t) l) refl
-    where
-      by : (b : Bool) → isThe (leaf t) l ≡ b → b ≡ false
-      by true e = absurd (dotless (the-true (leaf t) l e))
-      by false e = refl
+  -- the part `&t[from..]`, as the slice rule gives it
+  pub leaf-end : {r : Bool} → r ≡ same (take (length t - (length t - length l)) (drop (length t - length l) t)) l → r ≡ isThe (leaf t) l
+  leaf-end er = er ∙ ap (λ (s : List ℕ). same s l) (take-all (length t - (length t - length l)) (drop (length t - length l) t) (rw length-drop (omega arith))) ∙ decides (same (drop (length t - length l) t) l) refl

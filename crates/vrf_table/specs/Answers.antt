@@ -1,24 +1,33 @@
 -- What the code's answers stand for, and what it requires of texts.
+use mathlib.Core.Path.{_≡_, refl}
 use mathlib.Core.List.{List}
 use mathlib.Core.Option.{Option, none, some}
-use Prim.Native.Nat.{ℕ, _+_, _<_, _≤_}
+use Prim.Native.Nat.{ℕ, zero, suc, _+_, _-_, _<_, _≤_}
+use native.Mathlib.Omega.{arith}
 use lib.ListN.{length}
 use Rattle.vrf_model.specs.Lookup.{absent, ambiguous, claimed, Claim as Claimed}
 use Rattle.vrf_table.specs.Table.{at, len}
 use Rattle.vrf_table.specs.declared.Entry.{Entry}
 use Rattle.vrf_table.specs.declared.Entry.the-variants.{At, Nowhere}
-use Rattle.vrf_table.specs.declared.Claim.{Claim}
-use Rattle.vrf_table.specs.declared.Claim.the-variants.{Absent, Ambiguous, Of}
 
 -- an entry, if there is one
 abbrev pub entry : Entry → Option ℕ
 entry (At e) = some e
 entry Nowhere = none
 
-abbrev pub claim : Claim → Claimed
-claim Absent = absent
-claim Ambiguous = ambiguous
-claim (Of e) = claimed e
+-- a claim, by its number
+abbrev pub claim : ℕ → Claimed
+claim zero = absent
+claim (suc zero) = ambiguous
+claim (suc (suc e)) = claimed e
+
+pub claim-entry : (e : ℕ) → claim (e + 2) ≡ claimed e
+claim-entry e = let z : e + 2 ≡ suc (suc e) = omega arith in rw z
+
+pub claim-one : (r : ℕ) → (r ≡ 0 → ⊥) → (r ≡ 1 → ⊥) → claim r ≡ claimed (r - 2)
+claim-one zero a b = absurd (a refl)
+claim-one (suc zero) a b = absurd (b refl)
+claim-one (suc (suc e)) a b = let z : suc (suc e) - 2 ≡ e = omega arith in rw z
 
 -- the texts of the rows below n stand in the memory x
 abbrev pub Texts : List ℕ → List ℕ → ℕ → Type 0

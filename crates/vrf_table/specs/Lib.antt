@@ -4,6 +4,7 @@ pub mod Index
 pub mod Table
 pub mod TextIndex
 pub mod Answers
+pub mod Rooms
 pub mod ChainLaws
 pub mod IndexLaws
 pub mod TableLaws

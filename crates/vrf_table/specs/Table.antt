@@ -1,13 +1,12 @@
 -- A table in lent memory: rows of six words, which are two of the key, the link, where the text stands and how long it is, and one
 -- number more; and a head for each bucket. GUID records, groups and fields are three such tables.
-use mathlib.Core.Bool.{Bool}
-use mathlib.Core.List.{List, []}
-use mathlib.Core.Option.{Option, some}
-use Prim.Native.Nat.{ℕ, _+_, _*_, _/_, _%_, _^_}
-use lib.Dec.{eqb}
+use mathlib.Core.Bool.{Bool, cond}
+use mathlib.Core.List.{List}
+use mathlib.Core.Option.{Option}
+use Prim.Native.Nat.{ℕ, _+_, _-_, _*_, _/_, _%_, _^_}
+use lib.Dec.{eqb, ltb}
 use Rattle.vrf_words.specs.Words.{word, setWord, part}
 use Rattle.vrf_table.specs.Chain.{walk}
-use Rattle.vrf_table.specs.Index.{Latest}
 
 -- ---- rows: r is the memory of a table's rows
 
@@ -47,8 +46,10 @@ bucket b hash = hash * b / 2 ^ 32
 unfoldable pub keyHash : ℕ → ℕ
 keyHash k = (k % 2 ^ 32 * 2654435761 + k / 2 ^ 32 % 2 ^ 32 * 40503) % 2 ^ 32
 
+-- 64 keys in a row have buckets in a row, so that setting rising GUIDs goes along the memory; where such a run starts goes by its
+-- number's hash. Few buckets are near each other anyway: there each key has a hash of its own
 unfoldable pub keyBucket : ℕ → ℕ → ℕ
-keyBucket b k = bucket b (keyHash k)
+keyBucket b k = cond (ltb b 4096) (bucket b (keyHash k)) (bucket (b - 63) (keyHash (k / 64)) + k % 64)
 
 -- ---- finding a key
 

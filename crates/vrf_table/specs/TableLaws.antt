@@ -2,38 +2,33 @@
 use mathlib.Core.Path.{_≡_, _∙_}
 use mathlib.Core.Logic.{_≢_}
 use mathlib.Core.List.{List}
-use Prim.Native.Nat.{ℕ, zero, suc, _+_, _-_, _*_, _/_, _%_, _^_, _<_, _≤_}
+use Prim.Native.Nat.{ℕ, _+_, _-_, _*_, _/_, _%_, _^_, _<_, _≤_}
 use native.Mathlib.Omega.{arith}
 use native.Mathlib.Nat.{mul-lt-mul-of-pos-right}
+use borrow.Author.Tests.{ltb-false}
+use lib.Dec.{ltb}
 use lib.ListN.{length}
-use Rattle.vrf_path.specs.Text.{eight}
+use Rattle.vrf_text.specs.Cases.{by-cond}
 use Rattle.vrf_words.specs.Words.{word, setWord}
 use Rattle.vrf_words.specs.WordsLaws.{length-setWord, word-setWord-same, word-setWord-other}
 use Rattle.vrf_table.specs.Table.{key, link, at, len, info, setText, setKey, bucket, keyHash, keyBucket}
-use Rattle.vrf_table.specs.TextIndex.{turn, hashUpTo, textHash, mixed, textBucket}
+use Rattle.vrf_table.specs.TextIndex.{textHash, mixed, textBucket}
 
 -- ---- buckets
 
-bucket-lt : (b hash : ℕ) → 0 < b → hash < 2 ^ 32 → bucket b hash < b
+pub bucket-lt : (b hash : ℕ) → 0 < b → hash < 2 ^ 32 → bucket b hash < b
 unfolding bucket
 bucket-lt b hash h k = omega (arith, mul-lt-mul-of-pos-right {m = hash} {n = 2 ^ 32} {k = b} k h)
 
+pub keyHash-lt : (k : ℕ) → keyHash k < 2 ^ 32
+unfolding keyHash
+keyHash-lt k = omega arith
+
 pub keyBucket-lt : (b k : ℕ) → 0 < b → keyBucket b k < b
-unfolding keyBucket keyHash
-keyBucket-lt b k h = bucket-lt b _ h (omega arith)
-
-turn-lt : (h w : ℕ) → turn h w < 2 ^ 32
-unfolding turn
-turn-lt h w = omega arith
-
-pub hashUpTo-lt : (t : List ℕ) (i : ℕ) → hashUpTo t i < 2 ^ 32
-unfolding hashUpTo
-hashUpTo-lt t zero = omega arith
-hashUpTo-lt t (suc i) = turn-lt (hashUpTo t i) (eight t (8 * i))
-
-pub textHash-lt : (t : List ℕ) → textHash t < 2 ^ 32
-unfolding textHash
-textHash-lt t = turn-lt (hashUpTo t ((length t - 1) / 8)) (eight t (length t - 8))
+unfolding keyBucket
+keyBucket-lt b k h =
+    by-cond (λ (i : ℕ). i < b) (ltb b 4096) (λ _. bucket-lt b (keyHash k) h (keyHash-lt k))
+    (λ e. omega (arith, ltb-false b 4096 e, bucket-lt (b - 63) (keyHash (k / 64)) (omega (arith, ltb-false b 4096 e)) (keyHash-lt (k / 64))))
 
 pub mixed-lt : (h : ℕ) → mixed h < 2 ^ 32
 unfolding mixed

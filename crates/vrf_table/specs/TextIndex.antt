@@ -1,8 +1,8 @@
 -- Finding groups by a key of their path, and by their leaf. Each group has three entries for its keys, chained by the words `links`,
 -- and one for its leaf.
 use mathlib.Core.Bool.{Bool}
-use mathlib.Core.List.{List, []}
-use mathlib.Core.Option.{Option, none, some}
+use mathlib.Core.List.{List}
+use mathlib.Core.Option.{Option, some}
 use Prim.Native.Nat.{ℕ, zero, suc, _+_, _-_, _*_, _/_, _%_, _^_}
 use lib.ListN.{length}
 use Rattle.vrf_words.specs.Words.{word}
@@ -14,22 +14,31 @@ use Rattle.vrf_table.specs.Chain.{walk}
 use Rattle.vrf_table.specs.Index.{claimWalk}
 use Rattle.vrf_table.specs.Table.{bucket, text}
 
--- ---- the hash of a text: by words of eight bytes, and then by its last eight, filled up with zeros if it has fewer
+-- ---- the hash of a text: by words of eight bytes, four at a time, and then by its last four, which start at its front if it is shorter.
+-- A text shorter than a word is filled up with zeros
 
--- one word more, w: the middle bits of a sum, in which all bits of h and of w have a part
+-- one word more, w: the product of its halves, each moved by a constant, so that a half of zeros does not hide the other
 unfoldable pub turn : ℕ → ℕ → ℕ
-turn h w = (h * 1481765933 + (w % 2 ^ 32 * 1284865837 + w / 2 ^ 32 * 1103515245)) / 2 ^ 16 % 2 ^ 32
+turn h w = (h + (w % 2 ^ 32 + 2654435761) % 2 ^ 32 * ((w / 2 ^ 32 + 2246822519) % 2 ^ 32)) % 2 ^ 64
 
+-- four words more, those at the places i to l
+unfoldable pub fourTurns : ℕ → List ℕ → (i j k l : ℕ) → ℕ
+fourTurns h t i j k l = turn (turn (turn (turn h (eight t i)) (eight t j)) (eight t k)) (eight t l)
+
+-- after 32 bytes for each i
 unfoldable pub hashUpTo : List ℕ → ℕ → ℕ
 hashUpTo t zero = length t % 2 ^ 32
-hashUpTo t (suc i) = turn (hashUpTo t i) (eight t (8 * i))
+hashUpTo t (suc i) = fourTurns (hashUpTo t i) t (32 * i) (32 * i + 8) (32 * i + 16) (32 * i + 24)
+
+unfoldable pub lastTurns : ℕ → List ℕ → ℕ
+lastTurns h t = fourTurns h t (length t - 32) (length t - 24) (length t - 16) (length t - 8)
 
 unfoldable pub textHash : List ℕ → ℕ
-textHash t = turn (hashUpTo t ((length t - 1) / 8)) (eight t (length t - 8))
+textHash t = lastTurns (hashUpTo t ((length t - 1) / 32)) t
 
--- a bucket goes by the high bits of a hash, which the low bits of the last word have not reached yet
+-- a bucket goes by the high bits of 32, in which all bits of both halves of a hash have a part
 unfoldable pub mixed : ℕ → ℕ
-mixed hash = hash * 2654435761 % 2 ^ 32
+mixed hash = (hash % 2 ^ 32 * 1481765933 + hash / 2 ^ 32 % 2 ^ 32 * 1284865837) / 2 ^ 16 % 2 ^ 32
 
 unfoldable pub textBucket : ℕ → List ℕ → ℕ
 textBucket b t = bucket b (mixed (textHash t))

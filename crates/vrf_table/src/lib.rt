@@ -1,10 +1,11 @@
 // Finding rows of a table by number, and groups by a key of their path and by their leaf.
-use vrf_path::Leaf;
+pub mod spell;
+
 use vrf_path::core_alias;
 use vrf_path::default_object_alias;
 use vrf_path::eight;
 use vrf_path::is_key;
-use vrf_path::leaf_at;
+use vrf_path::left;
 use vrf_path::same;
 use vrf_words::get32;
 use vrf_words::get64;
@@ -14,13 +15,15 @@ ghost use mathlib.Core.Path.{_≡_};
 ghost use Prim.Native.Nat.{_+_, _*_, _/_, _^_, _<_, _≤_};
 ghost use lib.ListN.{length, getD};
 ghost use Rattle.vrf_path.specs.Keys.{isThe};
-ghost use Rattle.vrf_path.specs.Leaf.{leaf};
+ghost use Rattle.vrf_path.specs.Leaf.{leaf, Dotless};
 ghost use Rattle.vrf_path.specs.Text.{four};
 ghost use Rattle.vrf_words.specs.Words.{word};
 ghost use Rattle.vrf_table.specs.Chain.{walk};
-ghost use Rattle.vrf_table.specs.Table.{at, len, bucket, keyBucket, findKey, setKey, setText};
+ghost use Rattle.vrf_table.specs.Table.{at, len, bucket, keyHash, keyBucket, findKey, setKey, setText};
 ghost use Rattle.vrf_table.specs.TextIndex.{
   turn,
+  fourTurns,
+  lastTurns,
   textHash,
   mixed,
   textBucket,
@@ -38,12 +41,13 @@ pub enum Entry {
     Nowhere,
 }
 
-// Which entry of a table is the only one with a key.
-pub enum Claim {
-    Absent,
-    Ambiguous,
-    Of(u32),
-}
+// Which entry of a table is the only one with a key, as a number: 0 if none has it, 1 if several do, and otherwise two more than the entry.
+// A number is handed on in a register, where an enum would go through memory.
+pub type Claim = u32;
+
+pub const ABSENT: Claim = 0;
+
+pub const AMBIGUOUS: Claim = 1;
 
 // The bucket of a hash among b.
 fn bucket_of(hash: u64, b: u32) -> u32
@@ -53,13 +57,23 @@ fn bucket_of(hash: u64, b: u32) -> u32
     (hash * (b as u64) / 0x1_0000_0000) as u32
 }
 
+// The hash of a key.
+fn key_hash(k: u64) -> u64
+    ensures { λ r. ⌜ (r ≡ keyHash k) × (r < 2 ^ 32) ⌝ }
+{
+    let low = k % 0x1_0000_0000;
+    let high = k / 0x1_0000_0000;
+    (low * 2654435761 + high * 40503) % 0x1_0000_0000
+}
+
 // The bucket of a key among b.
 pub fn key_bucket(k: u64, b: u32) -> u32
     ensures { λ r. ⌜ r ≡ keyBucket b k ⌝ }
 {
-    let low = k % 0x1_0000_0000;
-    let high = k / 0x1_0000_0000;
-    bucket_of((low * 2654435761 + high * 40503) % 0x1_0000_0000, b)
+    if b < 4096 {
+        return bucket_of(key_hash(k), b);
+    }
+    bucket_of(key_hash(k / 64), b - 63) + (k % 64) as u32
 }
 
 // The newest row with the key k.
@@ -128,12 +142,11 @@ fn four_or_zeros(t: &[u8], i: usize) -> u64
 
 // Eight more bytes of a text go into its hash.
 fn turn(h: u64, w: u64) -> u64
-    requires { ⌜ h < 2 ^ 32 ⌝ }
     ensures { λ r. ⌜ r ≡ turn h w ⌝ }
 {
-    let low = w % 0x1_0000_0000;
-    let high = w / 0x1_0000_0000;
-    (h * 1481765933 + (low * 1284865837 + high * 1103515245)) / 0x1_0000 % 0x1_0000_0000
+    let low = (w % 0x1_0000_0000 + 2654435761) % 0x1_0000_0000;
+    let high = (w / 0x1_0000_0000 + 2246822519) % 0x1_0000_0000;
+    std::num::wrapping_add_u64(h, low * high)
 }
 
 // The hash of a text shorter than eight bytes.
@@ -141,25 +154,46 @@ fn short_hash(t: &[u8]) -> u64
     requires { ⌜ length (now t) < 8 ⌝ }
     ensures { λ r. ⌜ r ≡ textHash (now (t .entry)) ⌝ }
 {
-    turn(
-        t.len() as u64,
-        four_or_zeros(t, 0) + 0x1_0000_0000 * four_or_zeros(t, 4),
-    )
+    let w = four_or_zeros(t, 0) + 0x1_0000_0000 * four_or_zeros(t, 4);
+    turn(turn(turn(turn(t.len() as u64, w), w), w), w)
 }
 
-// The hash of a text of eight bytes or more: eight bytes a turn, and then the last eight.
+// 32 bytes more, from i on.
+fn four_turns(h: u64, t: &[u8], i: usize) -> u64
+    requires { ⌜ i + 32 ≤ length (now t) ⌝ }
+    ensures { λ r. ⌜ r ≡ fourTurns h (now (t .entry)) i (i + 8) (i + 16) (i + 24) ⌝ }
+{
+    let first = turn(h, eight(t, i));
+    let second = turn(first, eight(t, i + 8));
+    let third = turn(second, eight(t, i + 16));
+    turn(third, eight(t, i + 24))
+}
+
+// The last 32 bytes, of a text of eight or more: where there are fewer than 32, words overlap.
+fn last_turns(h: u64, t: &[u8]) -> u64
+    requires { ⌜ 8 ≤ length (now t) ⌝ }
+    ensures { λ r. ⌜ r ≡ lastTurns h (now (t .entry)) ⌝ }
+{
+    let n = t.len();
+    let first = turn(h, eight(t, left(n, 32)));
+    let second = turn(first, eight(t, left(n, 24)));
+    let third = turn(second, eight(t, left(n, 16)));
+    turn(third, eight(t, n - 8))
+}
+
+// The hash of a text of eight bytes or more: 32 bytes a turn, and then the last 32.
 fn long_hash(t: &[u8]) -> u64
     requires { ⌜ (8 ≤ length (now t)) × (length (now t) < 2 ^ 32) ⌝ }
     ensures { λ r. ⌜ r ≡ textHash (now (t .entry)) ⌝ }
 {
-    let last = t.len() - 8;
-    let mut h = t.len() as u64;
+    let n = t.len();
+    let mut h = n as u64;
     let mut i = 0;
-    while i < last {
-        h = turn(h, eight(t, i));
-        i += 8;
+    while 32 < n - i {
+        h = four_turns(h, t, i);
+        i += 32;
     }
-    turn(h, eight(t, last))
+    last_turns(h, t)
 }
 
 // The hash of a text.
@@ -173,12 +207,13 @@ fn text_hash(t: &[u8]) -> u64
     long_hash(t)
 }
 
-// A hash whose high bits all of the last word reaches.
+// 32 bits of a hash, in which both its halves have a part.
 fn mix(hash: u64) -> u64
-    requires { ⌜ hash < 2 ^ 32 ⌝ }
-    ensures { λ r. ⌜ r ≡ mixed hash ⌝ }
+    ensures { λ r. ⌜ (r ≡ mixed hash) × (r < 2 ^ 32) ⌝ }
 {
-    hash * 2654435761 % 0x1_0000_0000
+    let low = hash % 0x1_0000_0000;
+    let high = hash / 0x1_0000_0000;
+    (low * 1481765933 + high * 1284865837) / 0x1_0000 % 0x1_0000_0000
 }
 
 // The bucket of a text among b.
@@ -232,7 +267,7 @@ pub fn find_path(
     requires { ⌜ (24 * n ≤ length (now rows)) × (12 * n ≤ length (now links)) × (4 * b ≤ length (now heads)) × (0 < b) × (n ≤ 100000) × Texts (now rows) (now x) n × (length (now k) < 2 ^ 31) ⌝ }
     ensures { λ r. ⌜ entry r ≡ findPath (now (rows .entry)) (now (x .entry)) (now (links .entry)) (now (heads .entry)) b n (now (k .entry)) ⌝ }
 {
-    let mut p = get32(heads, text_bucket(k, b) as usize);
+    let mut p = get32(heads, text_bucket(&k[..], b) as usize);
     let mut limit = 3 * n;
     while 0 < p {
         let e = p - 1;
@@ -248,25 +283,27 @@ pub fn find_path(
     Entry::Nowhere
 }
 
-// Whether a path's leaf is l. It can be only where a dot stands before the path's last bytes, as many as l has.
+// Whether a path's leaf is l, which has no dot: so it is if l, and a dot before it, are the end of the path.
 fn leaf_is(path: &[u8], l: &[u8]) -> bool
+    requires { ⌜ Dotless (now l) ⌝ }
     ensures { λ r. ⌜ r ≡ isThe (leaf (now (path .entry))) (now (l .entry)) ⌝ }
 {
+    if l.len() == 0 {
+        return false;
+    }
     if path.len() <= l.len() {
         return false;
     }
-    if path[path.len() - l.len() - 1] != b'.' {
+    let from = path.len() - l.len();
+    if path[from - 1] != b'.' {
         return false;
     }
-    match leaf_at(path) {
-        Leaf::At(i) => same(&path[i..], l),
-        Leaf::Absent => false,
-    }
+    same(&path[from..], l)
 }
 
 // Whether the leaf of group e is l.
 fn leaf_hit(rows: &[u8], x: &[u8], e: u32, l: &[u8]) -> bool
-    requires { ⌜ (24 * e + 24 ≤ length (now rows)) × (at (now rows) e + len (now rows) e ≤ length (now x)) ⌝ }
+    requires { ⌜ Dotless (now l) × (24 * e + 24 ≤ length (now rows)) × (at (now rows) e + len (now rows) e ≤ length (now x)) ⌝ }
     ensures { λ r. ⌜ r ≡ leafHit (now (rows .entry)) (now (x .entry)) (now (l .entry)) e ⌝ }
 {
     let row = 6 * (e as usize);
@@ -277,7 +314,7 @@ fn leaf_hit(rows: &[u8], x: &[u8], e: u32, l: &[u8]) -> bool
 
 // The first group with the leaf l from the pointer p on, of n.
 pub fn find_leaf(rows: &[u8], x: &[u8], links: &[u8], n: u32, p: u32, l: &[u8]) -> Entry
-    requires { ⌜ (24 * n ≤ length (now rows)) × (4 * n ≤ length (now links)) × Texts (now rows) (now x) n ⌝ }
+    requires { ⌜ Dotless (now l) × (24 * n ≤ length (now rows)) × (4 * n ≤ length (now links)) × Texts (now rows) (now x) n ⌝ }
     ensures { λ r. ⌜ entry r ≡ walk (leafHit (now (rows .entry)) (now (x .entry)) (now (l .entry))) (word (now (links .entry))) n p ⌝ }
 {
     let mut p = p;
@@ -306,15 +343,15 @@ pub fn leaf_claim(
     n: u32,
     l: &[u8],
 ) -> Claim
-    requires { ⌜ (24 * n ≤ length (now rows)) × (4 * n ≤ length (now links)) × (4 * b ≤ length (now heads)) × (0 < b) × Texts (now rows) (now x) n × (length (now l) < 2 ^ 31) ⌝ }
+    requires { ⌜ Dotless (now l) × (24 * n ≤ length (now rows)) × (4 * n ≤ length (now links)) × (4 * b ≤ length (now heads)) × (0 < b) × (n ≤ 100000) × Texts (now rows) (now x) n × (length (now l) < 2 ^ 31) ⌝ }
     ensures { λ r. ⌜ claim r ≡ claimOf (now (rows .entry)) (now (x .entry)) (now (links .entry)) (now (heads .entry)) b n (now (l .entry)) ⌝ }
 {
-    let start = get32(heads, text_bucket(l, b) as usize);
+    let start = get32(heads, text_bucket(&l[..], b) as usize);
     match find_leaf(rows, x, links, n, start, l) {
-        Entry::Nowhere => Claim::Absent,
+        Entry::Nowhere => ABSENT,
         Entry::At(e) => match find_leaf(rows, x, links, e, get32(links, e as usize), l) {
-            Entry::Nowhere => Claim::Of(e),
-            Entry::At(_) => Claim::Ambiguous,
+            Entry::Nowhere => e + 2,
+            Entry::At(_) => AMBIGUOUS,
         },
     }
 }

@@ -15,12 +15,12 @@ use Rattle.vrf_schema.specs.Called.{Called}
 use Rattle.vrf_tally.specs.Tally.{allowances, answered}
 
 -- no allowance is above its top, and they need 25,876 bytes
-opens : {n : ℕ} → 25876 ≤ n → opening allowances n ≡ opened
+opens : {n : ℕ} → 29332 ≤ n → opening allowances n ≡ opened
 unfolding opening unlessAbove aboveTop unlessShort allowances
-opens {n} h = rw (le-ltb n 25876 h)
+opens {n} h = rw (le-ltb n 29332 h)
 
 module _ {lent m : List ℕ} where
-  pub never-refused : 25876 ≤ length lent → (r : Refusal) → Begun allowances lent m (Refused r) → ⊥
+  pub never-refused : 29332 ≤ length lent → (r : Refusal) → Begun allowances lent m (Refused r) → ⊥
   never-refused h r begun =
       let z : _≡_ {A = ℕ} 0 1 = cc (opens h, begun .0) in
       omega arith

@@ -83,7 +83,7 @@ fn put_answer(out: &mut [u8], read: Tables) -> usize
 
 // What the block reader answers on a book that is opened in lent memory, which has the bytes that the allowances need (docs/LAYOUT.md).
 fn read_into(book: &mut [u8], input: &[u8]) -> Tables
-    requires { ⌜ (25876 ≤ length (now book)) × (length (now input) ≤ 65536) ⌝ }
+    requires { ⌜ (29332 ≤ length (now book)) × (length (now input) ≤ 65536) ⌝ }
     ensures { λ r. ⌜ tablesOf r ≡ answered (now (input .entry)) ⌝ }
 {
     match open(book, 128, 32, 128, 8192, 128) {
@@ -97,7 +97,7 @@ fn read(input: &[u8]) -> Tables
     requires { ⌜ length (now input) ≤ 65536 ⌝ }
     ensures { λ r. ⌜ tablesOf r ≡ answered (now (input .entry)) ⌝ }
 {
-    let mut book = [0u8; 25876];
+    let mut book = [0u8; 29332];
     read_into(&mut book, input)
 }
 

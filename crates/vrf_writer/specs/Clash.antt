@@ -4,8 +4,11 @@ use mathlib.Core.Path.{_≡_}
 use mathlib.Core.Bool.{Bool, true, false}
 use mathlib.Core.List.{List}
 use mathlib.Core.Option.{Option, some}
-use Prim.Native.Nat.{ℕ, _<_, _≤_}
+use Prim.Native.Nat.{ℕ, _*_, _<_, _≤_}
 use Rattle.vrf_path.specs.Keys.{hasKey, isThe}
+use Rattle.vrf_words.specs.Words.{word}
+use Rattle.vrf_table.specs.Chain.{walk, lastBelow}
+use Rattle.vrf_table.specs.TextIndex.{pathHit}
 use Rattle.vrf_store.specs.Store.{Store}
 use Rattle.vrf_writer.specs.GroupPuts.{groupAt}
 
@@ -20,10 +23,15 @@ isAt s k j = isThe k (pathAt s j)
 abbrev pub isKeyAt : Store → ℕ → ℕ → Bool
 isKeyAt s h j = hasKey (pathAt s h) (pathAt s j)
 
--- no group from place r on has the path k, for none has that key
+-- no group from place r on has the path k
 pub record Keyed (s : Store) (k : List ℕ) (r : ℕ) : Type 0 where
   pub few : r ≤ s .header .groups
   pub past : (j : ℕ) → r ≤ j → j < s .header .groups → isAt s (some k) j ≡ false
+
+-- what is left of the chain of k, from the pointer p on, has the last entry that is k
+pub record Walking (s : Store) (k : List ℕ) (limit p : ℕ) : Type 0 where
+  pub within : limit ≤ 3 * s .header .groups
+  pub same : walk (pathHit (s .groupRows) (s .texts) k) (word (s .pathLinks)) limit p ≡ lastBelow (pathHit (s .groupRows) (s .texts) k) (3 * s .header .groups)
 
 -- r is the first number behind h and below `least` that passes a test, or `least` if none does
 pub record Narrowed (test : ℕ → Bool) (h least r : ℕ) : Type 0 where

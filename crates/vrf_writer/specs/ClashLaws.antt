@@ -1,27 +1,34 @@
 -- The search finds the first clash.
 use mathlib.Core.Path.{_≡_, refl, sym, ap, _∙_}
 use mathlib.Core.Bool.{Bool, true, false, cond, _||_, or-true}
+use mathlib.Core.Logic.{_⊎_, ⊎-elim, _≢_}
 use mathlib.Core.List.{List, [], _∷_, _++_, append-assoc, append-nil}
 use mathlib.Core.Option.{Option, none, some}
-use Prim.Native.Nat.{ℕ, zero, suc, _+_, _<_, _≤_, min}
-use native.Mathlib.Nat.{not-suc-le-zero}
+use Prim.Native.Nat.{ℕ, zero, suc, _+_, _-_, _*_, _/_, _%_, _<_, _≤_, min}
+use native.Mathlib.Nat.{not-suc-le-zero, add-zero}
 use native.Mathlib.Omega.{arith}
 use lib.ListN.{length}
 use Rattle.vrf_text.specs.Cases.{by-order, clash}
 use Rattle.vrf_path.specs.Text.{same}
-use Rattle.vrf_path.specs.TextLaws.{same-true}
+use Rattle.vrf_path.specs.TextLaws.{same-true, same-refl}
 use Rattle.vrf_path.specs.Keys.{hasKey, isThe, defaultAlias, coreAlias}
-use Rattle.vrf_path.specs.KeysLaws.{has-by-parts, has-itself}
+use Rattle.vrf_path.specs.KeysLaws.{default-length, core-length, has-by-parts, has-cases}
 use Rattle.vrf_model.specs.Book.{Group}
-use Rattle.vrf_model.specs.Lookup.{further, orElse, pathPlace}
+use Rattle.vrf_model.specs.Lookup.{further, orElse}
 use Rattle.vrf_model.specs.Writer.{isKeyOf, orLater, firstClash}
-use Rattle.vrf_table.specs.Chain.{lastBelow}
-use Rattle.vrf_table.specs.ChainLaws.{by-equal, lastBelow-reach, lastBelow-passes}
+use Rattle.vrf_words.specs.Words.{word}
+use Rattle.vrf_table.specs.Chain.{walk}
+use Rattle.vrf_table.specs.ChainLaws.{by-equal, walk-at, walk-past, walk-skip, walk-passes, lastBelow-reach}
+use Rattle.vrf_table.specs.Table.{text}
+use Rattle.vrf_table.specs.TextIndex.{textStart, numbered, pathHit}
 use Rattle.vrf_store.specs.UpTo.{upTo}
-use Rattle.vrf_store.specs.UpToLaws.{length-upTo, lastPlace-upTo}
-use Rattle.vrf_store.specs.Store.{Store, contentOf}
+use Rattle.vrf_store.specs.UpToLaws.{length-upTo}
+use Rattle.vrf_store.specs.Layout
+use Rattle.vrf_store.specs.Store.{Store, groupBy, contentOf}
+use Rattle.vrf_store.specs.Valid.{Valid}
+use Rattle.vrf_store.specs.Lookups.{path-entry}
 use Rattle.vrf_writer.specs.GroupPuts.{groupAt}
-use Rattle.vrf_writer.specs.Clash.{pathAt, isAt, isKeyAt, Keyed, Narrowed, Scanned, Hit, Sought}
+use Rattle.vrf_writer.specs.Clash.{pathAt, isAt, isKeyAt, Keyed, Walking, Narrowed, Scanned, Hit, Sought}
 
 -- ---- the first clash among n groups
 
@@ -158,37 +165,81 @@ module _ {s : Store} {k : List ℕ} {end h least to r : ℕ} (d : Keyed s k end)
       (λ past. d .past j past (omega (arith, b, few)))
       (λ before. n .clear j a (omega (arith, b, before, l, e))))
 
--- the last group that has a key
+-- ---- the chain of a key
+
+-- no path has a key of another length
+pub far-key : (t k : List ℕ) {d : ℕ} → d ≡ (length t - length k) + (length k - length t) → d ≢ 0 → d ≢ 6 → d ≢ 9 → hasKey t k ≡ false
+far-key t k {d} e zero-not six-not nine-not = by-false (hasKey t k) (λ h. ⊎-elim
+    (λ q. zero-not (omega (arith, ap length q, e)))
+    (⊎-elim
+    (λ q. ⊎-elim (λ l. nine-not (omega (arith, l, e))) (λ l. nine-not (omega (arith, l, e))) (default-length t q))
+    (λ q. ⊎-elim (λ l. six-not (omega (arith, l, e))) (λ l. six-not (omega (arith, l, e))) (core-length t q)))
+    (has-cases t k h))
+
+-- a path without a key has no entry that is it
+none-of : (a b c : Bool) → (a || (b || c)) ≡ false → (a ≡ false) × (b ≡ false) × (c ≡ false)
+none-of true b c e = clash cc
+none-of false true c e = clash cc
+none-of false false true e = clash cc
+none-of false false false e = (refl, refl, refl)
+
+number-none : (t k : List ℕ) (i : ℕ) → hasKey t k ≡ false → isThe (numbered t i) k ≡ false
+unfolding numbered isThe
+number-none t k i e = go i (none-of (same t k) (isThe (defaultAlias t) k) (isThe (coreAlias t) k) (sym (has-by-parts t k) ∙ e))
+  where
+    go : (i : ℕ) → (same t k ≡ false) × (isThe (defaultAlias t) k ≡ false) × (isThe (coreAlias t) k ≡ false) → isThe (numbered t i) k ≡ false
+    go zero n = n .0
+    go (suc zero) n = n .1
+    go (suc (suc i)) n = n .2
+
 module _ (s : Store) (k : List ℕ) where
-  last-place : pathPlace k (contentOf s .groups) ≡ lastBelow (λ g. hasKey (pathAt s g) k) (s .header .groups)
-  unfolding pathPlace contentOf
-  last-place = lastPlace-upTo _ (groupAt s) (s .header .groups)
+  abbrev hit : ℕ → Bool
+  hit e = pathHit (s .groupRows) (s .texts) k e
 
-  -- a group with that path has the key
-  path-key : (j : ℕ) → isAt s (some k) j ≡ true → hasKey (pathAt s j) k ≡ true
-  unfolding isThe
-  path-key j e = has-itself (pathAt s j) k (sym (same-true k (pathAt s j) e))
+  entry-none : (e : ℕ) → hasKey (text (s .groupRows) (s .texts) (e / 3)) k ≡ false → hit e ≡ false
+  unfolding pathHit
+  entry-none e h = number-none (text (s .groupRows) (s .texts) (e / 3)) k (e % 3) h
 
-  pub keyed-at : {x : ℕ} → pathPlace k (contentOf s .groups) ≡ some x → Keyed s k (x + 1)
-  keyed-at {x} e = record {
-    few = omega (arith, last-in);
-    past = λ j a b. by-false (isAt s (some k) j) (λ t. behind j a (lastBelow-reach (λ g. hasKey (pathAt s g) k) (s .header .groups) j b (path-key j t)));
-  }
-    where
-      last-in : x < s .header .groups
-      last-in = (rw (sym last-place ∙ e) at (lastBelow-passes (λ g. hasKey (pathAt s g) k) (s .header .groups))) .0
+  -- a group with that path has an entry that is it
+  own-entry : (j : ℕ) → isAt s (some k) j ≡ true → hit (3 * j) ≡ true
+  unfolding isThe groupBy numbered
+  own-entry j e = rw add-zero at (path-entry (s .groupRows) (s .texts) k j 0 (omega arith)) ∙ rw (← same-true k (pathAt s j) e) (same-refl k)
 
-      behind : (j : ℕ) → x + 1 ≤ j → (f : ℕ) × ((lastBelow (λ g. hasKey (pathAt s g) k) (s .header .groups) ≡ some f) × (j ≤ f)) → ⊥
-      behind j a (f, (q, l)) = let z : x ≡ f = cc (last-place) in omega (arith, z, a, l)
+  pub walking-start : Valid s → {p limit : ℕ} → p ≡ textStart (s .pathHeads) (Layout.pathBuckets (s .header .allowed)) k → limit ≡ 3 * s .header .groups → Walking s k limit p
+  walking-start v ep el = record { within = omega (arith, el); same = rw (ep, el) (v .paths k) }
 
-  pub keyed-nowhere : pathPlace k (contentOf s .groups) ≡ none → Keyed s k 0
-  keyed-nowhere e = record {
-    few = omega arith;
-    past = λ j a b. by-false (isAt s (some k) j) (λ t. found (lastBelow-reach (λ g. hasKey (pathAt s g) k) (s .header .groups) j b (path-key j t)));
-  }
-    where
-      found : {j : ℕ} → (f : ℕ) × ((lastBelow (λ g. hasKey (pathAt s g) k) (s .header .groups) ≡ some f) × (j ≤ f)) → ⊥
-      found (f, (q, l)) = clash (cc (last-place))
+  module _ {limit p : ℕ} (w : Walking s k limit p) where
+    pub walking-step : 0 < p → p - 1 < limit → hasKey (text (s .groupRows) (s .texts) ((p - 1) / 3)) k ≡ false → {q : ℕ} → q ≡ word (s .pathLinks) (p - 1) → Walking s k (p - 1) q
+    walking-step h l e eq = record {
+      within = omega (arith, w .within, l);
+      same = ap (walk hit (word (s .pathLinks)) (p - 1)) eq ∙ sym on ∙ w .same;
+    }
+      where
+        on : walk hit (word (s .pathLinks)) limit p ≡ walk hit (word (s .pathLinks)) (p - 1) (word (s .pathLinks) (p - 1))
+        on =
+            let z : p ≡ suc (p - 1) = omega (arith, h) in
+            walk-skip hit (word (s .pathLinks)) limit p (omega (arith, h, l))
+            ∙ ap (λ (i : ℕ). walk hit (word (s .pathLinks)) i i) z
+            ∙ walk-at hit (word (s .pathLinks)) (p - 1)
+            ∙ rw (entry-none (p - 1) e)
+
+    -- an entry that is k stands before the pointer
+    entry-before : (e : ℕ) → e < 3 * s .header .groups → hit e ≡ true → (e < p) × (p ≤ limit)
+    entry-before e h t =
+        let r = lastBelow-reach hit (3 * s .header .groups) e h t in
+        by-order p limit
+        (λ g. let found = sym (walk-skip hit (word (s .pathLinks)) limit p g) ∙ w .same ∙ r .1 .0 in
+        (omega (arith, (rw found at (walk-passes hit (word (s .pathLinks)) p p)) .0, r .1 .1), g))
+        (λ g. clash (cc (walk-past hit (word (s .pathLinks)) limit p g, w .same, r .1 .0)))
+
+    -- so no group has that path from the group of the pointer on, or none at all where the pointer is past the entries
+    pub keyed-from : (r : ℕ) → r ≤ s .header .groups → (p ≤ 3 * r) ⊎ (limit < p) → Keyed s k r
+    keyed-from r few ends = record {
+      few = few;
+      past = λ j a b. by-false (isAt s (some k) j) (λ t.
+          let it = entry-before (3 * j) (omega (arith, b)) (own-entry j t) in
+          ⊎-elim (λ g. omega (arith, it .0, g, a)) (λ g. omega (arith, it .1, g)) ends);
+    }
 
 -- by all three keys of a group
 pub narrowed-keys : (s : Store) (h : ℕ) {t : List ℕ} {least a b r : ℕ} {d c : Option (List ℕ)} → t ≡ pathAt s h → d ≡ defaultAlias t → c ≡ coreAlias t

@@ -1,22 +1,26 @@
 -- Groups and their slots as the writer sends them.
 use mathlib.Core.Path.{_≡_, refl, sym, ap, _∙_}
 use mathlib.Core.List.{List, [], _∷_, _++_, append-assoc, append-nil}
-use mathlib.Core.Option.{none, some}
+use mathlib.Core.Bool.{false}
+use mathlib.Core.Option.{Option, none, some}
 use Prim.Native.Nat.{ℕ, zero, suc, _+_, _<_, _≤_}
 use native.Mathlib.Nat.{add-zero, zero-add}
 use native.Mathlib.Omega.{arith}
 use lib.ListN.{length}
+use lib.Dec.{eqb}
+use borrow.Author.Tests.{eq-eqb, ne-eqb}
 use Rattle.vrf_bitio.specs.Number.{encodePacked, encodeWord32}
 use Rattle.vrf_text.specs.Text.{encodeText}
-use Rattle.vrf_model.specs.Book.{Slot, filled, Group}
+use Rattle.vrf_model.specs.Book.{Slot, Group}
 use Rattle.vrf_model.specs.Lookup.{placeOr}
 use Rattle.vrf_model.specs.Writer.{encodeSlot, encodeSlots, encodeGroup, encodeAll}
-use Rattle.vrf_table.specs.Table.{info, text, findKey}
+use Rattle.vrf_table.specs.ChainLaws.{lastBelow-last}
+use Rattle.vrf_table.specs.Table.{key, info, text, keyHit, findKey}
 use Rattle.vrf_store.specs.UpTo.{upTo}
 use Rattle.vrf_store.specs.UpToLaws.{length-upTo}
 use Rattle.vrf_store.specs.Store.{Store, fieldAt, orEmpty, slotKey, slotBy, groupBy, contentOf}
 use Rattle.vrf_store.specs.Lookups.{group-at}
-use Rattle.vrf_store.specs.SlotRow.{fieldFound}
+use Rattle.vrf_store.specs.SlotRow.{fieldFound, field-known}
 use Rattle.vrf_store.specs.Valid.{Valid}
 use Rattle.vrf_writer.specs.Puts.{Puts, Under}
 use Rattle.vrf_writer.specs.PutsLaws.{under-start, first-lent, first-put}
@@ -50,18 +54,35 @@ module _ (s : Store) (slot e : ℕ) (l : List ℕ) (fits : length (encodeSlot sl
   unfolding encodeSlot fieldAt nameCode
   field-start = under-start refl fits
 
-module _ {s : Store} (v : Valid s) (place slot : ℕ) where
-  slot-is : slotAt s place slot ≡ orEmpty (fieldAt s) (fieldFound s (slotKey place slot))
-  unfolding slotBy findKey
-  slot-is = ap (orEmpty (fieldAt s)) (sym (v .fieldTable .latest (slotKey place slot)))
+-- a slot whose row was found, or has none
+abbrev pub Below : ℕ → Option ℕ → Type 0
+Below n o = (e : ℕ) → o ≡ some e → e < n
 
-  pub slot-field : {e : ℕ} → fieldFound s (slotKey place slot) ≡ some e → encodeSlot slot (fieldAt s e) ≡ encodeSlot slot (slotAt s place slot)
+module _ (s : Store) (slot : ℕ) {o : Option ℕ} where
+  pub slot-field : {e : ℕ} → o ≡ some e → encodeSlot slot (fieldAt s e) ≡ encodeSlot slot (orEmpty (fieldAt s) o)
   unfolding orEmpty
-  slot-field q = ap (encodeSlot slot) (sym (slot-is ∙ ap (orEmpty (fieldAt s)) q))
+  slot-field q = ap (λ (x : Option ℕ). encodeSlot slot (orEmpty (fieldAt s) x)) (sym q)
 
-  pub slot-none : fieldFound s (slotKey place slot) ≡ none → 0 ∷ [] ≡ encodeSlot slot (slotAt s place slot)
+  pub slot-none : o ≡ none → 0 ∷ [] ≡ encodeSlot slot (orEmpty (fieldAt s) o)
   unfolding orEmpty encodeSlot
-  slot-none q = ap (encodeSlot slot) (sym (slot-is ∙ ap (orEmpty (fieldAt s)) q))
+  slot-none q = ap (λ (x : Option ℕ). encodeSlot slot (orEmpty (fieldAt s) x)) (sym q)
+
+module _ {s : Store} (v : Valid s) where
+  module _ (place slot : ℕ) {o : Option ℕ} (q : o ≡ fieldFound s (slotKey place slot)) where
+    pub slot-code : encodeSlot slot (orEmpty (fieldAt s) o) ≡ encodeSlot slot (slotAt s place slot)
+    unfolding slotBy findKey
+    slot-code = ap (λ (x : Option ℕ). encodeSlot slot (orEmpty (fieldAt s) x)) (q ∙ v .fieldTable .latest (slotKey place slot))
+
+    pub slot-below : Below (s .header .fields) o
+    slot-below e h = field-known v place slot (sym q ∙ h) .0
+
+  -- a row that has the key is the one that is found: no other has it
+  pub row-found : {k e : ℕ} → e < s .header .fields → key (s .fieldRows) e ≡ k → some e ≡ fieldFound s k
+  unfolding findKey keyHit
+  row-found {k} {e} h q =
+      let others : (j : ℕ) → e < j → j < s .header .fields → eqb (key (s .fieldRows) j) k ≡ false
+      = λ j a b. ne-eqb (key (s .fieldRows) j) k (λ z. omega (arith, a, v .fieldTable .distinct e j h b (q ∙ sym z))) in
+      sym (v .fieldTable .latest k ∙ lastBelow-last (keyHit (s .fieldRows) k) (s .header .fields) e h (eq-eqb (key (s .fieldRows) e) k q) others)
 
 -- ---- all slots of a group
 

@@ -11,6 +11,7 @@ use Rattle.vrf_store.specs.UpTo.{upTo}
 use Rattle.vrf_store.specs.Store.{Store, guidAt, contentOf}
 use Rattle.vrf_writer.specs.Puts.{Puts, Under}
 use Rattle.vrf_writer.specs.PutsLaws.{first-lent, first-put}
+use Rattle.vrf_writer.specs.Rows.{guidIn}
 
 -- what follows the GUID, and what follows the kind byte
 abbrev pub outerOn : Guid → List ℕ
@@ -29,6 +30,6 @@ module _ (r : Guid) (l : List ℕ) (fits : length (encodeGuid r) ≤ length l) {
   guid-put p = first-put l (encodePacked (r .guid)) (outerOn r) refl fits (ap encodePacked e) p
 
 -- all records
-pub guids-code : (s : Store) {n : ℕ} → n ≡ s .header .guids → encodeAll encodeGuid (upTo (guidAt s) n) ≡ encodeAll encodeGuid (contentOf s .guids)
-unfolding contentOf
-guids-code s e = ap (λ (k : ℕ). encodeAll encodeGuid (upTo (guidAt s) k)) e
+pub guids-code : (s : Store) {r x : List ℕ} {n : ℕ} → r ≡ s .guidRows → x ≡ s .texts → n ≡ s .header .guids → encodeAll encodeGuid (upTo (guidIn r x) n) ≡ encodeAll encodeGuid (contentOf s .guids)
+unfolding contentOf guidAt
+guids-code s er ex en = rw (er, ex, en)

@@ -2,10 +2,11 @@
 pub mod Puts
 pub mod PutsLaws
 -- numbers and texts
-pub mod Copies
 pub mod NumberPuts
 -- lists, one element after the other
 pub mod EachPuts
+-- rows
+pub mod Rows
 -- GUID records
 pub mod GuidPuts
 -- groups and their slots

@@ -1,11 +1,13 @@
 -- How many bytes numbers and texts have.
 use mathlib.Core.Path.{_≡_, refl, ap, _∙_}
 use mathlib.Core.Logic.{_≢_}
+use mathlib.Core.Bool.{cond}
 use mathlib.Core.List.{List, [], _∷_, _++_}
 use Prim.Native.Nat.{ℕ, zero, suc, _+_, _/_, _<_, _≤_}
 use native.Mathlib.Omega.{arith}
 use lib.ListN.{length, length-append}
 use lib.Dec.{ltb}
+use borrow.Author.Tests.{lt-ltb, le-ltb}
 use Rattle.vrf_bitio.specs.Number.{encodeWord32, encodeChunks, encodePacked}
 use Rattle.vrf_text.specs.Cases.{by-cond, by-order}
 use Rattle.vrf_text.specs.Text.{encodeText}
@@ -29,19 +31,19 @@ more-than-one : (more n k : ℕ) → 128 ≤ n → length (encodeChunks more (n 
 more-than-one more n k h e = ap length (goes-on n more h) ∙ ap suc e
 
 module _ (n : ℕ) where
-  pub packed-1 : n < 128 → length (encodePacked n) ≡ 1
+  packed-1 : n < 128 → length (encodePacked n) ≡ 1
   unfolding encodePacked
   packed-1 h = one 4 n h
 
-  pub packed-2 : 128 ≤ n → n < 16384 → length (encodePacked n) ≡ 2
+  packed-2 : 128 ≤ n → n < 16384 → length (encodePacked n) ≡ 2
   unfolding encodePacked
   packed-2 g h = more-than-one 3 n 1 g (one 3 (n / 128) (omega arith))
 
-  pub packed-3 : 16384 ≤ n → n < 2097152 → length (encodePacked n) ≡ 3
+  packed-3 : 16384 ≤ n → n < 2097152 → length (encodePacked n) ≡ 3
   unfolding encodePacked
   packed-3 g h = more-than-one 3 n 2 (omega arith) (more-than-one 2 (n / 128) 1 (omega arith) (one 2 (n / 128 / 128) (omega arith)))
 
-  pub packed-4 : 2097152 ≤ n → n < 268435456 → length (encodePacked n) ≡ 4
+  packed-4 : 2097152 ≤ n → n < 268435456 → length (encodePacked n) ≡ 4
   unfolding encodePacked
   packed-4 g h =
       more-than-one 3 n 3 (omega arith)
@@ -49,13 +51,38 @@ module _ (n : ℕ) where
       (more-than-one 1 (n / 128 / 128) 1 (omega arith)
       (one 1 (n / 128 / 128 / 128) (omega arith))))
 
-  pub packed-5 : 268435456 ≤ n → length (encodePacked n) ≡ 5
+  packed-5 : 268435456 ≤ n → length (encodePacked n) ≡ 5
   unfolding encodePacked encodeChunks
   packed-5 g =
       more-than-one 3 n 4 (omega arith)
       (more-than-one 2 (n / 128) 3 (omega arith)
       (more-than-one 1 (n / 128 / 128) 2 (omega arith)
       (more-than-one 0 (n / 128 / 128 / 128) 1 (omega arith) refl)))
+
+-- 1 from a number on
+unfoldable pub oneFrom : ℕ → ℕ → ℕ
+oneFrom least n = cond (ltb n least) 0 1
+
+module _ (least n : ℕ) where
+  pub below : n < least → oneFrom least n ≡ 0
+  unfolding oneFrom
+  below h = rw (lt-ltb n least h)
+
+  pub from : least ≤ n → oneFrom least n ≡ 1
+  unfolding oneFrom
+  from h = rw (le-ltb n least h)
+
+pub packed-sum : (n : ℕ) → 1 + oneFrom 128 n + oneFrom 16384 n + oneFrom 2097152 n + oneFrom 268435456 n ≡ length (encodePacked n)
+packed-sum n =
+    by-order 128 n
+    (λ a. by-order 16384 n
+    (λ b. by-order 2097152 n
+    (λ c. by-order 268435456 n
+    (λ d. omega (arith, packed-5 n d, from 128 n a, from 16384 n b, from 2097152 n c, from 268435456 n d))
+    (λ d. omega (arith, packed-4 n c d, from 128 n a, from 16384 n b, from 2097152 n c, below 268435456 n d)))
+    (λ c. omega (arith, packed-3 n b c, from 128 n a, from 16384 n b, below 2097152 n c, below 268435456 n (omega arith))))
+    (λ b. omega (arith, packed-2 n a b, from 128 n a, below 16384 n b, below 2097152 n (omega arith), below 268435456 n (omega arith))))
+    (λ a. omega (arith, packed-1 n a, below 128 n a, below 16384 n (omega arith), below 2097152 n (omega arith), below 268435456 n (omega arith)))
 
 -- ---- texts
 

@@ -18,6 +18,7 @@ use Rattle.vrf_store.specs.Valid.{Valid}
 use Rattle.vrf_store.specs.Accepted.{sumBelow-nil, sumBelow-one, sumBelow-plus, slotBy-other, slotBy-before, slotBy-after}
 use Rattle.vrf_writer.specs.NumberPuts.{word-length}
 use Rattle.vrf_writer.specs.NumberLengths.{packed-short, text-short}
+use Rattle.vrf_writer.specs.Rows.{GuidRow, guidIn, guid-good}
 use Rattle.vrf_writer.specs.EachPuts.{all-next}
 use Rattle.vrf_writer.specs.GuidPuts.{outerOn, pathOn}
 use Rattle.vrf_writer.specs.GroupPuts.{slotAt, groupAt, slots-code}
@@ -137,14 +138,12 @@ module _ (r : Guid) where
     length-append (encodeText (r .path)) (0 ∷ []),
   )
 
-module _ {s : Store} (v : Valid s) where
-  pub guid-short : (e : ℕ) → e < s .header .guids → length (encodeGuid (guidAt s e)) ≤ 4113
-  unfolding guidAt
-  guid-short e h =
-      let r : Guid = guidAt s e in
-      let path : length (r .path) ≤ 4096 = v .guidTable .texts e h .isText .short in
-      omega (arith, guid-length r, packed-short (r .guid), packed-short (r .outer), text-short (r .path), path)
+pub guid-short : {r x : List ℕ} {i : ℕ} → GuidRow r x i → length (encodeGuid (guidIn r x i)) ≤ 4113
+guid-short {r} {x} {i} g =
+    let it : Guid = guidIn r x i in
+    omega (arith, guid-length it, packed-short (it .guid), packed-short (it .outer), text-short (it .path), g .texts .short)
 
+module _ {s : Store} (v : Valid s) where
   pub group-short : (g : ℕ) → g < s .header .groups → groupBytes (groupAt s g) ≤ 69647
   unfolding groupBytes groupBy
   group-short g h =
@@ -161,12 +160,12 @@ module _ {s : Store} (v : Valid s) where
       omega (arith, packed-short (key (s .fieldRows) e % 65536), text-short t, name)
 
   pub block-short : length (encodeBook (contentOf s)) < 2 ^ 64
-  unfolding contentOf
+  unfolding contentOf guidAt
   block-short = omega (
     arith,
     block-bytes v,
     all-length encodeGuid (guidAt s) (s .header .guids),
-    sum-short (λ e. length (encodeGuid (guidAt s e))) 4113 (s .header .guids) guid-short,
+    sum-short (λ e. length (encodeGuid (guidAt s e))) 4113 (s .header .guids) (λ e h. guid-short (guid-good v refl refl h)),
     sum-short (λ g. groupBytes (groupAt s g)) 69647 (s .header .groups) group-short,
     sum-short (fieldBytes s) 4115 (s .header .fields) field-short,
     v .header .tops,

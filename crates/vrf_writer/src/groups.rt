@@ -2,12 +2,15 @@
 use crate::numbers::put_packed;
 use crate::numbers::put_text;
 use crate::numbers::put_word;
+use std::num::wrapping_add_u32;
 use vrf_store::look::find_field;
 use vrf_store::look::group_index;
 use vrf_store::look::group_path;
 use vrf_store::look::group_slots;
 use vrf_store::look::row_info;
+use vrf_store::look::row_key;
 use vrf_store::parts::field_rows;
+use vrf_store::parts::fields;
 use vrf_store::parts::groups;
 use vrf_store::parts::row_text;
 use vrf_store::parts::texts;
@@ -16,11 +19,13 @@ ghost use mathlib.Core.Path.{_≡_};
 ghost use Prim.Native.Nat.{_+_, _<_, _≤_};
 ghost use lib.ListN.{length};
 ghost use Rattle.vrf_model.specs.Writer.{encodeSlot, encodeSlots, encodeGroup, encodeAll};
-ghost use Rattle.vrf_store.specs.Store.{headerOf, storeOf, fieldAt};
+ghost use Rattle.vrf_table.specs.Answers.{entry};
+ghost use Rattle.vrf_store.specs.Store.{headerOf, storeOf, fieldAt, orEmpty, slotKey};
+ghost use Rattle.vrf_store.specs.SlotRow.{fieldFound};
 ghost use Rattle.vrf_store.specs.Good.{Good};
 ghost use Rattle.vrf_store.specs.Stepped.{held};
 ghost use Rattle.vrf_writer.specs.Puts.{Puts};
-ghost use Rattle.vrf_writer.specs.GroupPuts.{slotAt, groupAt, nameCode};
+ghost use Rattle.vrf_writer.specs.GroupPuts.{groupAt, nameCode, Below};
 
 // A name: kind 0, its text, and 0 for its number.
 fn put_name(out: &mut [u8], t: &[u8]) -> usize
@@ -44,17 +49,39 @@ fn put_field(out: &mut [u8], m: &[u8], slot: u32, e: u32) -> usize
     at + put_name(&mut out[at..], row_text(rows, texts(m), e))
 }
 
-// A slot of the group at a place.
-fn put_slot(out: &mut [u8], m: &[u8], place: u32, slot: u32) -> usize
-    requires { ⌜ Good (now m) × (length (encodeSlot slot (slotAt (storeOf (now m)) place slot)) ≤ length (now out)) ⌝ }
-    ensures { λ r. ⌜ Puts (encodeSlot slot (slotAt (storeOf (now (m .entry))) place slot)) (now (out .entry)) (now (out .exit)) r ⌝ }
+// A slot whose field's row was found, or has none.
+fn put_slot(out: &mut [u8], m: &[u8], slot: u32, found: Entry) -> usize
+    requires { ⌜ Good (now m) × Below (headerOf (now m) .fields) (entry found) × (length (encodeSlot slot (orEmpty (fieldAt (storeOf (now m))) (entry found))) ≤ length (now out)) ⌝ }
+    ensures { λ r. ⌜ Puts (encodeSlot slot (orEmpty (fieldAt (storeOf (now (m .entry)))) (entry found))) (now (out .entry)) (now (out .exit)) r ⌝ }
 {
-    match find_field(m, place, slot) {
+    match found {
         Entry::At(e) => put_field(out, m, slot, e),
         Entry::Nowhere => {
             out[0] = 0;
             1
         }
+    }
+}
+
+// The row of the field in a slot of the group at a place. Fields mostly stand in the order of their slots, so row `next` is looked at
+// before the slot is searched for.
+fn find_slot(m: &[u8], place: u32, slot: u32, next: u32) -> Entry
+    requires { ⌜ Good (now m) ⌝ }
+    ensures { λ r. ⌜ entry r ≡ fieldFound (storeOf (now (m .entry))) (slotKey place slot) ⌝ }
+{
+    if next < fields(m) {
+        if row_key(field_rows(m), next) == 0x1_0000 * (place as u64) + (slot as u64) {
+            return Entry::At(next);
+        }
+    }
+    find_field(m, place, slot)
+}
+
+// The row behind one that was found, else `next`.
+fn row_behind(found: Entry, next: u32) -> u32 {
+    match found {
+        Entry::At(e) => wrapping_add_u32(e, 1),
+        Entry::Nowhere => next,
     }
 }
 
@@ -66,8 +93,11 @@ fn put_slots(out: &mut [u8], m: &[u8], place: u32) -> usize
     let n = group_slots(m, place);
     let mut at = 0;
     let mut slot = 0;
+    let mut next = 0;
     while slot < n {
-        at += put_slot(&mut out[at..], m, place, slot);
+        let found = find_slot(m, place, slot, next);
+        at += put_slot(&mut out[at..], m, slot, found);
+        next = row_behind(found, next);
         slot += 1;
     }
     at

@@ -1,7 +1,6 @@
 // The writer of checkpoint blocks, over a good memory.
 pub mod block;
 pub mod clash;
-pub mod copy;
 pub mod groups;
 pub mod guids;
 pub mod numbers;

@@ -1,7 +1,6 @@
 // Numbers and texts as the writer sends them, each at the front of what it is lent. Each answers how many bytes it wrote.
-use crate::copy::put_bytes;
+use vrf_words::put_part;
 use vrf_words::put32;
-ghost use mathlib.Core.Path.{_≡_};
 ghost use Prim.Native.Nat.{_+_, _≤_};
 ghost use lib.ListN.{length};
 ghost use Rattle.vrf_bitio.specs.Number.{encodePacked, encodeWord32};
@@ -43,7 +42,7 @@ pub fn put_text(out: &mut [u8], t: &[u8]) -> usize
         return put_word(out, 0);
     }
     put_word(out, (n + 1) as u32);
-    put_bytes(out, 4, t);
+    put_part(out, 4, t);
     out[4 + n] = 0;
     4 + n + 1
 }

@@ -3,12 +3,12 @@ use crate::guids::guid_of;
 use vrf_store::look::group_index;
 use vrf_store::look::group_path;
 use vrf_store::look::group_slots;
-use vrf_store::look::guid_outer;
-use vrf_store::look::guid_path;
+use vrf_store::look::row_info;
 use vrf_store::look::row_key;
 use vrf_store::parts::field_rows;
 use vrf_store::parts::fields;
 use vrf_store::parts::groups;
+use vrf_store::parts::guid_rows;
 use vrf_store::parts::guids;
 use vrf_store::parts::row_text;
 use vrf_store::parts::texts;
@@ -19,29 +19,27 @@ ghost use Rattle.vrf_bitio.specs.Number.{encodePacked};
 ghost use Rattle.vrf_text.specs.Text.{encodeText};
 ghost use Rattle.vrf_model.specs.Writer.{encodeGuid, encodeAll, encodeBook};
 ghost use Rattle.vrf_store.specs.UpTo.{sumBelow};
-ghost use Rattle.vrf_store.specs.Store.{headerOf, storeOf, guidAt};
+ghost use Rattle.vrf_store.specs.Store.{headerOf, storeOf};
 ghost use Rattle.vrf_store.specs.Good.{Good};
 ghost use Rattle.vrf_store.specs.Stepped.{held};
 ghost use Rattle.vrf_writer.specs.GroupPuts.{groupAt};
+ghost use Rattle.vrf_writer.specs.NumberLengths.{oneFrom};
 ghost use Rattle.vrf_writer.specs.Size.{groupBytes, fieldBytes};
 
-// A packed number.
+// One byte from a number on.
+fn one_from(least: u32, n: u32) -> u64
+    ensures { λ r. ⌜ (r ≡ oneFrom least n) × (r ≤ 1) ⌝ }
+{
+    if n < least { 0 } else { 1 }
+}
+
+// A packed number: a byte more from each power of 128 on. As a sum it needs no branch, which the numbers of records would often take
+// another way than the last time.
 fn packed_len(n: u32) -> u64
     ensures { λ r. ⌜ r ≡ length (encodePacked n) ⌝ }
 {
-    if n < 0x80 {
-        return 1;
-    }
-    if n < 0x4000 {
-        return 2;
-    }
-    if n < 0x20_0000 {
-        return 3;
-    }
-    if n < 0x1000_0000 {
-        return 4;
-    }
-    5
+    let first = 1 + one_from(0x80, n) + one_from(0x4000, n);
+    first + one_from(0x20_0000, n) + one_from(0x1000_0000, n)
 }
 
 // A text.
@@ -55,28 +53,25 @@ fn text_len(t: &[u8]) -> u64
     t.len() as u64 + 5
 }
 
-// The GUID record at a place.
-fn guid_len(m: &[u8], i: u32) -> u64
-    requires { ⌜ Good (now m) × (i < headerOf (now m) .guids) ⌝ }
-    ensures { λ r. ⌜ r ≡ length (encodeGuid (guidAt (storeOf (now (m .entry))) i)) ⌝ }
-{
-    let numbers = packed_len(guid_of(m, i)) + packed_len(guid_outer(m, i));
-    numbers + 2 + text_len(guid_path(m, i))
-}
-
-// All GUID records.
+// All GUID records. Their GUIDs, outers and paths have a sum each: additions to one sum would wait for one another.
 fn guids_len(m: &[u8]) -> u64
     requires { ⌜ Good (now m) ⌝ }
     ensures { λ r. ⌜ r ≡ length (encodeAll encodeGuid (held (now (m .entry)) .guids)) ⌝ }
 {
+    let rows = guid_rows(m);
+    let x = texts(m);
     let n = guids(m);
-    let mut sum = 0;
+    let mut keys = 0;
+    let mut outers = 0;
+    let mut paths = 0;
     let mut i = 0;
     while i < n {
-        sum += guid_len(m, i);
+        keys += packed_len(guid_of(rows, i));
+        outers += packed_len(row_info(rows, i));
+        paths += text_len(row_text(rows, x, i));
         i += 1;
     }
-    sum
+    keys + outers + paths + 2 * (n as u64)
 }
 
 // The group at a place, a byte for each slot.

@@ -30,7 +30,8 @@ returns c =
 leaf-hit-requires : tie.Need-leaf-hit-requires Inv-loop μ-loop
 leaf-hit-requires c κs =
     let l = c .before .before .loop in
-    (omega arith, c .before .before .before .before .before .before .before .pre .2 (l .p - 1) (omega arith))
+    let x = c .before .before .before .before .before .before .before in
+    (x .pre .0, omega arith, x .pre .3 (l .p - 1) (omega arith))
 
 returns-2 : tie.Need-returns-2 Inv-loop μ-loop
 returns-2 c =

@@ -4,6 +4,7 @@ use native.Mathlib.Omega.{arith}
 use denote.Ref.{now}
 use Rattle.vrf_words.specs.Words.{word}
 use Rattle.vrf_table.specs.TextIndex.{textStart, leafHit, claimOf}
+use Rattle.vrf_table.specs.Answers.{claim-entry}
 use Rattle.vrf_table.specs.TableLaws.{textBucket-lt}
 use Rattle.vrf_table.proofs.Walks.{found-below, claim-absent, claim-one, claim-several}
 use borrow.Author.Needs.{needs}
@@ -19,7 +20,7 @@ cast-get32 c = search needs
 get32-requires : tie.Need-get32-requires
 get32-requires c κs =
     let x = c .before .before .before .before .before .before .args in
-    omega (arith, c .text-bucket .ensures, textBucket-lt (x .b) (now (x .l)) (c .before .before .before .before .before .before .pre .3))
+    omega (arith, c .text-bucket .ensures, textBucket-lt (x .b) (now (x .l)) (c .before .before .before .before .before .before .pre .4))
 
 find-leaf-requires : tie.Need-find-leaf-requires
 find-leaf-requires c κs = search needs
@@ -42,10 +43,17 @@ find-leaf-requires-2 : tie.Need-find-leaf-requires-2
 find-leaf-requires-2 c κs =
     let x = c .before .before .before .before .before .before .before .before .before .before .before .before .args in
     let below = found-below (leafHit (now (x .rows)) (now (x .x)) (now (x .l))) (word (now (x .links))) (x .n) refl (c .before .before .before .before .find-leaf .ensures) (c .before .before .e .given .1) in
-    (omega arith, omega arith, λ i h. c .before .before .before .before .before .before .before .before .before .before .before .before .pre .4 i (omega arith))
+    let p = c .before .before .before .before .before .before .before .before .before .before .before .before .pre in
+    (p .0, omega arith, omega arith, λ i h. p .6 i (omega arith))
 
 enum-told-2 : tie.Need-enum-told-2
 enum-told-2 c = search needs
+
+add-result : tie.Need-add-result
+add-result c =
+    let x = c .before .before .before .before .before .before .before .before .before .before .before .before .before .before .before .args in
+    let below = found-below (leafHit (now (x .rows)) (now (x .x)) (now (x .l))) (word (now (x .links))) (x .n) refl (c .before .before .before .before .before .before .before .find-leaf .ensures) (c .before .before .before .before .before .e .given .1) in
+    omega (arith, below, c .before .before .before .before .before .before .before .before .before .before .before .before .before .before .before .pre .5)
 
 enum-told-3 : tie.Need-enum-told-3
 enum-told-3 c = search needs
@@ -64,7 +72,7 @@ returns-2 c =
     let start = c .before .before .before .before .before .before .before .before .get32 .ensures ∙ ap (word (now (x .heads))) (c .before .before .before .before .before .before .before .before .before .text-bucket .ensures) in
     let first = c .before .before .before .before .before .before .before .find-leaf .ensures in
     let behind = c .before .before .find-leaf2 .ensures in
-    claim-one (leafHit (now (x .rows)) (now (x .x)) (now (x .l))) (word (now (x .links))) (x .n) start first (c .before .before .before .before .before .e .given .1) (c .before .before .before .get322 .ensures) behind (c .enum-told2 .given .1)
+    claim-entry _ ∙ claim-one (leafHit (now (x .rows)) (now (x .x)) (now (x .l))) (word (now (x .links))) (x .n) start first (c .before .before .before .before .before .e .given .1) (c .before .before .before .get322 .ensures) behind (c .enum-told2 .given .1)
 
 returns-3 : tie.Need-returns-3
 unfolding claimOf textStart
@@ -89,6 +97,7 @@ leaf-claim-spec =
     get32-requires-2
     find-leaf-requires-2
     enum-told-2
+    add-result
     enum-told-3
     returns
     returns-2

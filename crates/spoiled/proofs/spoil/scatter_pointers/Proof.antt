@@ -6,10 +6,10 @@ use Rattle.spoiled.proofs.spoil.scatter_pointers.Statement.{statement}
 use Rattle.spoiled.proofs.spoil.scatter_pointers.Tie as tie
 
 abbrev Inv-loop : tie.InvT-loop
-Inv-loop s₀ seed x₀ k₀ s x k = (k ≤ 384) × (length s ≡ length s₀)
+Inv-loop s₀ seed x₀ k₀ s x k = (k ≤ 456) × (length s ≡ length s₀)
 
 abbrev μ-loop : tie.MeasureT-loop
-μ-loop s₀ seed x₀ k₀ s x k = 384 - k
+μ-loop s₀ seed x₀ k₀ s x k = 456 - k
 
 loop-holds : tie.Need-loop-holds Inv-loop μ-loop
 loop-holds c = search needs

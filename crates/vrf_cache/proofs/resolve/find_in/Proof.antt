@@ -2,7 +2,7 @@
 use native.Mathlib.Omega.{arith}
 use lib.ListN.{length-append}
 use borrow.Author.Needs.{needs}
-use Rattle.vrf_cache.specs.ResolveLaws.{written-part, written-within}
+use Rattle.vrf_table.specs.Rooms.{written-part, written-within}
 use Rattle.vrf_cache.proofs.resolve.find_in.Statement.{statement}
 use Rattle.vrf_cache.proofs.resolve.find_in.Tie as tie
 

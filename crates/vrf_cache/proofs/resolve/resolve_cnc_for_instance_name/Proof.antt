@@ -1,11 +1,14 @@
 -- `vrf_cache::resolve::resolve_cnc_for_instance_name` meets its contract: the stems from this one on find what all the name's stems find, and
 -- there are fewer of them after a turn.
 use mathlib.Core.Path.{_≡_, sym, _∙_}
-use Prim.Native.Nat.{_≤_}
+use mathlib.Core.Bool.{false}
+use Prim.Native.Nat.{ℕ, _≤_}
 use native.Mathlib.Omega.{arith}
 use denote.Ref.{now}
-use lib.ListN.{length, length-take}
+use lib.ListN.{length, take, length-take}
 use borrow.Author.Needs.{needs}
+use Rattle.vrf_path.specs.Keys.{hasSeparator}
+use Rattle.vrf_path.specs.LeafLaws.{separators-take}
 use Rattle.vrf_path.specs.Answers.{stemsFrom, stemLength}
 use Rattle.vrf_model.specs.Lookup.{firstClaim, stemsLeaves, resolveCnc}
 use Rattle.vrf_store.specs.Stepped.{held}
@@ -48,7 +51,10 @@ slice-aggregate-try-cnc-leaf-candidates c =
     rw length-take (omega (arith, within))
 
 try-cnc-leaf-candidates-requires : tie.Need-try-cnc-leaf-candidates-requires Inv-loop μ-loop
-try-cnc-leaf-candidates-requires c κs = (c .before .before .before .before .before .before .before .before .before .before .pre .0, rw length-take (omega arith))
+try-cnc-leaf-candidates-requires c κs =
+    let x = c .before .before .before .before .before .before .before .before .before .before in
+    let stems-bare : (n : ℕ) → hasSeparator (take n (now (x .args .name))) ≡ false = λ n. separators-take n (now (x .args .name)) (cc) in
+    (x .pre .0, stems-bare (c .before .before .stem .given .0 .0), rw length-take (omega arith))
 
 decides-requires : tie.Need-decides-requires Inv-loop μ-loop
 decides-requires c κs = search needs

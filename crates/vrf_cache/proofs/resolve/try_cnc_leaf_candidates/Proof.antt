@@ -1,6 +1,9 @@
 -- `vrf_cache::resolve::try_cnc_leaf_candidates` meets its contract.
+use mathlib.Core.Path.{refl}
+use native.Mathlib.Omega.{arith}
 use denote.Ref.{now}
 use borrow.Author.Needs.{needs}
+use Rattle.vrf_path.specs.Keys.{isSeparator, hasSeparator}
 use Rattle.vrf_path.specs.Toggle.{classNetCache}
 use Rattle.vrf_path.specs.Stems.{component, underscoreC}
 use Rattle.vrf_store.specs.Stepped.{held}
@@ -12,19 +15,22 @@ slice-aggregate-claim-joined : tie.Need-slice-aggregate-claim-joined
 slice-aggregate-claim-joined c = search needs
 
 claim-joined-requires : tie.Need-claim-joined-requires
-claim-joined-requires c κs = search needs
+unfolding hasSeparator isSeparator
+claim-joined-requires c κs = let p = c .before .before .before .pre in (p .0, p .1, refl, omega arith)
 
 slice-aggregate-or-joined : tie.Need-slice-aggregate-or-joined
 slice-aggregate-or-joined c = search needs
 
 or-joined-requires : tie.Need-or-joined-requires
-or-joined-requires c κs = search needs
+unfolding hasSeparator isSeparator
+or-joined-requires c κs = let p = c .before .before .before .before .before .pre in (p .0, p .1, refl, omega arith)
 
 slice-aggregate-or-joined-2 : tie.Need-slice-aggregate-or-joined-2
 slice-aggregate-or-joined-2 c = search needs
 
 or-joined-requires-2 : tie.Need-or-joined-requires-2
-or-joined-requires-2 c κs = search needs
+unfolding hasSeparator isSeparator
+or-joined-requires-2 c κs = let p = c .before .before .before .before .before .before .before .pre in (p .0, p .1, refl, omega arith)
 
 returns : tie.Need-returns
 unfolding classNetCache component underscoreC

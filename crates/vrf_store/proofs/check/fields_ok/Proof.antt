@@ -10,6 +10,9 @@ use Rattle.vrf_store.proofs.check.fields_ok.Tie as tie
 fields-allowed-requires : tie.Need-fields-allowed-requires
 fields-allowed-requires c κs = search needs
 
+mul-b : tie.Need-mul-b
+mul-b c = search needs
+
 add-b : tie.Need-add-b
 add-b c = search needs
 
@@ -43,6 +46,7 @@ fields-ok-spec =
     tie.close
     (tie.spec
     fields-allowed-requires
+    mul-b
     add-b
     cast-b
     group-rows-requires

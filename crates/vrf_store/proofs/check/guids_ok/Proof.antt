@@ -10,6 +10,9 @@ use Rattle.vrf_store.proofs.check.guids_ok.Tie as tie
 guids-allowed-requires : tie.Need-guids-allowed-requires
 guids-allowed-requires c κs = search needs
 
+mul-b : tie.Need-mul-b
+mul-b c = search needs
+
 add-b : tie.Need-add-b
 add-b c = search needs
 
@@ -37,6 +40,7 @@ guids-ok-spec =
     tie.close
     (tie.spec
     guids-allowed-requires
+    mul-b
     add-b
     cast-b
     guid-rows-requires

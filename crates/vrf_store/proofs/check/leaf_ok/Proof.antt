@@ -3,7 +3,7 @@ use native.Mathlib.Omega.{arith}
 use denote.Ref.{now}
 use borrow.Author.Needs.{needs}
 use Rattle.vrf_table.specs.TextIndex.{claimOf}
-use Rattle.vrf_store.specs.CheckSteps.{leafSettled, leaf-short, leaf-there, leaf-none}
+use Rattle.vrf_store.specs.CheckSteps.{leafSettled, leaf-short, leaf-dotless, leaf-there, leaf-none}
 use Rattle.vrf_store.proofs.check.leaf_ok.Statement.{statement}
 use Rattle.vrf_store.proofs.check.leaf_ok.Tie as tie
 
@@ -29,7 +29,8 @@ leaf-claim-requires : tie.Need-leaf-claim-requires
 leaf-claim-requires c κs =
     let p = c .before .before .before .before .before .before .before .before .before .before .pre in
     let w = p .0 in
-    (w .rows, w .links, w .heads, w .buckets, w .texts, leaf-short w (p .1) (c .before .before .before .before .before .row-text .ensures) _)
+    let found = rw (c .before .before .i .given .1) at (c .before .before .before .before .leaf-at .ensures) in
+    (leaf-dotless _ _ (found .0), w .rows, w .links, w .heads, w .buckets, w .few, w .texts, leaf-short w (p .1) (c .before .before .before .before .before .row-text .ensures) _)
 
 is-settled-requires : tie.Need-is-settled-requires
 is-settled-requires c κs = search needs

@@ -8,6 +8,9 @@ use Rattle.vrf_store.proofs.check.paths_ok.Tie as tie
 groups-allowed-requires : tie.Need-groups-allowed-requires
 groups-allowed-requires c κs = search needs
 
+mul-b : tie.Need-mul-b
+mul-b c = search needs
+
 add-b : tie.Need-add-b
 add-b c = search needs
 
@@ -44,6 +47,7 @@ paths-ok-spec =
     tie.close
     (tie.spec
     groups-allowed-requires
+    mul-b
     add-b
     cast-b
     group-rows-requires

@@ -26,11 +26,14 @@ mul-to c = search needs
 add-to : tie.Need-add-to
 add-to c = search needs
 
+mul-to-2 : tie.Need-mul-to-2
+mul-to-2 c = search needs
+
 add-to-2 : tie.Need-add-to-2
 add-to-2 c = search needs
 
-mul-to-2 : tie.Need-mul-to-2
-mul-to-2 c = search needs
+mul-to-3 : tie.Need-mul-to-3
+mul-to-3 c = search needs
 
 add-to-3 : tie.Need-add-to-3
 add-to-3 c = search needs
@@ -80,8 +83,9 @@ drop-fields-spec =
     fields-at-requires
     mul-to
     add-to
-    add-to-2
     mul-to-2
+    add-to-2
+    mul-to-3
     add-to-3
     sub-pass-rows
     part-pass-rows-start

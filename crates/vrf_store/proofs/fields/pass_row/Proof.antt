@@ -46,11 +46,20 @@ add-get32-2 c = search needs
 get32-requires-2 : tie.Need-get32-requires-2
 get32-requires-2 c κs = search needs
 
+mul-push-row : tie.Need-mul-push-row
+mul-push-row c = search needs
+
+add-push-row : tie.Need-add-push-row
+add-push-row c = search needs
+
+cast-push-row : tie.Need-cast-push-row
+cast-push-row c = search needs
+
 push-row-requires : tie.Need-push-row-requires
 push-row-requires c κs = search needs
 
-add-t30 : tie.Need-add-t30
-add-t30 c = search needs
+add-t31 : tie.Need-add-t31
+add-t31 c = search needs
 
 same-length-2 : tie.Need-same-length-2
 same-length-2 c = search needs
@@ -76,7 +85,10 @@ pass-row-spec =
     get32-requires
     add-get32-2
     get32-requires-2
+    mul-push-row
+    add-push-row
+    cast-push-row
     push-row-requires
-    add-t30
+    add-t31
     same-length-2
     returns-2)

@@ -9,13 +9,16 @@ use Rattle.vrf_store.proofs.fields.pass_rows.Statement.{statement}
 use Rattle.vrf_store.proofs.fields.pass_rows.Tie as tie
 
 abbrev Inv-loop : tie.InvT-loop
-Inv-loop t₀ cap place n kept₀ e₀ t kept e = (e ≤ n) × (length t ≡ 24 * cap + 4 * (cap + 1)) × Passing cap place t₀ t e (kept .rows) (kept .gone)
+Inv-loop t₀ cap place n kept₀ e₀ t kept e = (e ≤ n) × (length t ≡ 24 * cap + 4 * (4 * cap + 1)) × Passing cap place t₀ t e (kept .rows) (kept .gone)
 
 abbrev μ-loop : tie.MeasureT-loop
 μ-loop t₀ cap place n kept₀ e₀ t kept e = n - e
 
 mul-zero-words : tie.Need-mul-zero-words Inv-loop μ-loop
 mul-zero-words c = search needs
+
+mul-zero-words-2 : tie.Need-mul-zero-words-2 Inv-loop μ-loop
+mul-zero-words-2 c = search needs
 
 add-zero-words : tie.Need-add-zero-words Inv-loop μ-loop
 add-zero-words c = search needs
@@ -53,6 +56,7 @@ pass-rows-spec =
     Inv-loop
     μ-loop
     mul-zero-words
+    mul-zero-words-2
     add-zero-words
     zero-words-requires
     loop-holds

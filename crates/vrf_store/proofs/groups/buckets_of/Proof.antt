@@ -15,11 +15,14 @@ use Rattle.vrf_store.proofs.groups.buckets_of.Tie as tie
 groups-allowed-requires : tie.Need-groups-allowed-requires
 groups-allowed-requires c κs = search needs
 
+cast-r : tie.Need-cast-r
+cast-r c = search needs
+
+mul-b : tie.Need-mul-b
+mul-b c = search needs
+
 add-b : tie.Need-add-b
 add-b c = search needs
-
-cast-b : tie.Need-cast-b
-cast-b c = search needs
 
 group-rows-requires : tie.Need-group-rows-requires
 group-rows-requires c κs = search needs
@@ -35,6 +38,9 @@ mul-row c = search needs
 
 get64-requires : tie.Need-get64-requires
 get64-requires c κs = omega (arith, ap length (c .before .before .group-rows .ensures), row-inside (c .before .before .before .before .before .pre))
+
+add-key-bucket : tie.Need-add-key-bucket
+add-key-bucket c = search needs
 
 key-bucket-requires : tie.Need-key-bucket-requires
 key-bucket-requires c κs = search needs
@@ -54,6 +60,12 @@ core-alias-requires c κs = search needs
 alias-bucket-requires-2 : tie.Need-alias-bucket-requires-2
 alias-bucket-requires-2 c κs = rw (c .before .before .before .before .before .before .row-text .ensures, c .before .before .before .before .before .before .before .before .group-rows .ensures, c .before .before .before .before .before .before .before .texts .ensures) (path-short (c .before .before .before .before .before .before .before .before .before .before .before .pre))
 
+mul-leaf-bucket : tie.Need-mul-leaf-bucket
+mul-leaf-bucket c = search needs
+
+add-leaf-bucket : tie.Need-add-leaf-bucket
+add-leaf-bucket c = search needs
+
 leaf-bucket-requires : tie.Need-leaf-bucket-requires
 leaf-bucket-requires c κs = rw (c .before .before .before .before .before .before .before .row-text .ensures, c .before .before .before .before .before .before .before .before .before .group-rows .ensures, c .before .before .before .before .before .before .before .before .texts .ensures) (path-short (c .before .before .before .before .before .before .before .before .before .before .before .before .pre))
 
@@ -66,18 +78,22 @@ buckets-of-spec =
     tie.close
     (tie.spec
     groups-allowed-requires
+    cast-r
+    mul-b
     add-b
-    cast-b
     group-rows-requires
     texts-requires
     row-text-requires
     mul-row
     get64-requires
+    add-key-bucket
     key-bucket-requires
     text-bucket-requires
     default-object-alias-requires
     alias-bucket-requires
     core-alias-requires
     alias-bucket-requires-2
+    mul-leaf-bucket
+    add-leaf-bucket
     leaf-bucket-requires
     returns)

@@ -41,23 +41,29 @@ mul-zero-words-4 c = search needs
 add-zero-words-5 : tie.Need-add-zero-words-5
 add-zero-words-5 c = search needs
 
+mul-zero-words-5 : tie.Need-mul-zero-words-5
+mul-zero-words-5 c = search needs
+
 add-zero-words-6 : tie.Need-add-zero-words-6
 add-zero-words-6 c = search needs
 
 zero-words-requires-2 : tie.Need-zero-words-requires-2
 zero-words-requires-2 c κs = search needs
 
-mul-zero-words-5 : tie.Need-mul-zero-words-5
-mul-zero-words-5 c = search needs
+mul-zero-words-6 : tie.Need-mul-zero-words-6
+mul-zero-words-6 c = search needs
 
 add-zero-words-7 : tie.Need-add-zero-words-7
 add-zero-words-7 c = search needs
 
-mul-zero-words-6 : tie.Need-mul-zero-words-6
-mul-zero-words-6 c = search needs
+mul-zero-words-7 : tie.Need-mul-zero-words-7
+mul-zero-words-7 c = search needs
 
 add-zero-words-8 : tie.Need-add-zero-words-8
 add-zero-words-8 c = search needs
+
+mul-zero-words-8 : tie.Need-mul-zero-words-8
+mul-zero-words-8 c = search needs
 
 add-zero-words-9 : tie.Need-add-zero-words-9
 add-zero-words-9 c = search needs
@@ -87,12 +93,14 @@ clear-heads-spec =
     add-zero-words-4
     mul-zero-words-4
     add-zero-words-5
+    mul-zero-words-5
     add-zero-words-6
     zero-words-requires-2
-    mul-zero-words-5
-    add-zero-words-7
     mul-zero-words-6
+    add-zero-words-7
+    mul-zero-words-7
     add-zero-words-8
+    mul-zero-words-8
     add-zero-words-9
     zero-words-requires-3
     same-length

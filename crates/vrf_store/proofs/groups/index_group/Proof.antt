@@ -14,13 +14,13 @@ buckets-of-requires : tie.Need-buckets-of-requires
 buckets-of-requires c κs = search needs
 
 push-key-requires : tie.Need-push-key-requires
-push-key-requires c κs = let x = c .before .before .before .before .args in pushable 1 (x .g) (c .before .before .before .before .pre) (unwritten (now (x .m))) (omega (arith, c .before .before .before .before .pre .low)) (c .before .buckets-of .ensures .key) (key-below (storeOf (now (x .m))) (x .g))
+push-key-requires c κs = let x = c .before .before .before .before .args in pushable 1 (λ r. r + 1) (x .g) (c .before .before .before .before .pre) (unwritten (now (x .m))) (omega (arith, c .before .before .before .before .pre .low)) (c .before .buckets-of .ensures .key) (key-below (storeOf (now (x .m))) (x .g))
 
 mul-push-path : tie.Need-mul-push-path
 mul-push-path c = search needs
 
 push-path-requires : tie.Need-push-path-requires
-push-path-requires c κs = let x = c .before .before .before .before .before .before .before .before .args in pushable 3 (3 * x .g) (c .before .before .before .before .before .before .before .before .pre) (c .before .before .before .push-key .ensures) (omega (arith, c .before .before .before .before .before .before .before .before .pre .low)) (c .before .before .before .before .before .buckets-of .ensures .own) (path-below (storeOf (now (x .m))) (x .g) 0)
+push-path-requires c κs = let x = c .before .before .before .before .before .before .before .before .args in pushable 3 (λ r. 3 * r + 1) (3 * x .g) (c .before .before .before .before .before .before .before .before .pre) (c .before .before .before .push-key .ensures) (omega (arith, c .before .before .before .before .before .before .before .before .pre .low)) (c .before .before .before .before .before .buckets-of .ensures .own) (path-below (storeOf (now (x .m))) (x .g) 0)
 
 mul-push-path-2 : tie.Need-mul-push-path-2
 mul-push-path-2 c = search needs
@@ -29,7 +29,7 @@ add-push-path : tie.Need-add-push-path
 add-push-path c = search needs
 
 push-path-requires-2 : tie.Need-push-path-requires-2
-push-path-requires-2 c κs = let x = c .before .before .before .before .before .before .before .before .before .before .before .before .args in pushable 3 (3 * x .g + 1) (c .before .before .before .before .before .before .before .before .before .before .before .before .pre) (after (c .before .before .before .before .before .before .before .push-key .ensures) (c .before .before .before .push-path .ensures)) (omega (arith, c .before .before .before .before .before .before .before .before .before .before .before .before .pre .low)) (c .before .before .before .before .before .before .before .before .before .buckets-of .ensures .default) (path-below (storeOf (now (x .m))) (x .g) 1)
+push-path-requires-2 c κs = let x = c .before .before .before .before .before .before .before .before .before .before .before .before .args in pushable 3 (λ r. 3 * r + 1) (3 * x .g + 1) (c .before .before .before .before .before .before .before .before .before .before .before .before .pre) (after (c .before .before .before .before .before .before .before .push-key .ensures) (c .before .before .before .push-path .ensures)) (omega (arith, c .before .before .before .before .before .before .before .before .before .before .before .before .pre .low)) (c .before .before .before .before .before .before .before .before .before .buckets-of .ensures .default) (path-below (storeOf (now (x .m))) (x .g) 1)
 
 mul-push-path-3 : tie.Need-mul-push-path-3
 mul-push-path-3 c = search needs
@@ -38,10 +38,10 @@ add-push-path-2 : tie.Need-add-push-path-2
 add-push-path-2 c = search needs
 
 push-path-requires-3 : tie.Need-push-path-requires-3
-push-path-requires-3 c κs = let x = c .before .before .before .before .before .before .before .before .before .before .before .before .before .before .before .before .args in pushable 3 (3 * x .g + 2) (c .before .before .before .before .before .before .before .before .before .before .before .before .before .before .before .before .pre) (after (after (c .before .before .before .before .before .before .before .before .before .before .before .push-key .ensures) (c .before .before .before .before .before .before .before .push-path .ensures)) (c .before .before .before .push-path2 .ensures)) (omega (arith, c .before .before .before .before .before .before .before .before .before .before .before .before .before .before .before .before .pre .low)) (c .before .before .before .before .before .before .before .before .before .before .before .before .before .buckets-of .ensures .core) (path-below (storeOf (now (x .m))) (x .g) 2)
+push-path-requires-3 c κs = let x = c .before .before .before .before .before .before .before .before .before .before .before .before .before .before .before .before .args in pushable 3 (λ r. 3 * r + 1) (3 * x .g + 2) (c .before .before .before .before .before .before .before .before .before .before .before .before .before .before .before .before .pre) (after (after (c .before .before .before .before .before .before .before .before .before .before .before .push-key .ensures) (c .before .before .before .before .before .before .before .push-path .ensures)) (c .before .before .before .push-path2 .ensures)) (omega (arith, c .before .before .before .before .before .before .before .before .before .before .before .before .before .before .before .before .pre .low)) (c .before .before .before .before .before .before .before .before .before .before .before .before .before .buckets-of .ensures .core) (path-below (storeOf (now (x .m))) (x .g) 2)
 
 push-leaf-requires : tie.Need-push-leaf-requires
-push-leaf-requires c κs = let x = c .before .before .before .before .before .before .before .before .before .before .before .before .before .before .before .before .before .before .before .before .args in pushable 1 (x .g) (c .before .before .before .before .before .before .before .before .before .before .before .before .before .before .before .before .before .before .before .before .pre) (after (after (after (c .before .before .before .before .before .before .before .before .before .before .before .before .before .before .before .push-key .ensures) (c .before .before .before .before .before .before .before .before .before .before .before .push-path .ensures)) (c .before .before .before .before .before .before .before .push-path2 .ensures)) (c .before .before .before .push-path3 .ensures)) (omega (arith, c .before .before .before .before .before .before .before .before .before .before .before .before .before .before .before .before .before .before .before .before .pre .low)) (c .before .before .before .before .before .before .before .before .before .before .before .before .before .before .before .before .before .buckets-of .ensures .leaf) (leaf-below (storeOf (now (x .m))) (x .g))
+push-leaf-requires c κs = let x = c .before .before .before .before .before .before .before .before .before .before .before .before .before .before .before .before .before .before .before .before .args in pushable 1 (λ r. 2 * r + 1) (x .g) (c .before .before .before .before .before .before .before .before .before .before .before .before .before .before .before .before .before .before .before .before .pre) (after (after (after (c .before .before .before .before .before .before .before .before .before .before .before .before .before .before .before .push-key .ensures) (c .before .before .before .before .before .before .before .before .before .before .before .push-path .ensures)) (c .before .before .before .before .before .before .before .push-path2 .ensures)) (c .before .before .before .push-path3 .ensures)) (omega (arith, c .before .before .before .before .before .before .before .before .before .before .before .before .before .before .before .before .before .before .before .before .pre .low)) (c .before .before .before .before .before .before .before .before .before .before .before .before .before .before .before .before .before .buckets-of .ensures .leaf) (leaf-below (storeOf (now (x .m))) (x .g))
 
 same-length : tie.Need-same-length
 same-length c = search needs

@@ -25,6 +25,9 @@ mul-push-entry-2 c = search needs
 add-push-entry-2 : tie.Need-add-push-entry-2
 add-push-entry-2 c = search needs
 
+mul-push-entry-3 : tie.Need-mul-push-entry-3
+mul-push-entry-3 c = search needs
+
 add-push-entry-3 : tie.Need-add-push-entry-3
 add-push-entry-3 c = search needs
 
@@ -53,6 +56,7 @@ push-leaf-spec =
     add-push-entry
     mul-push-entry-2
     add-push-entry-2
+    mul-push-entry-3
     add-push-entry-3
     add-push-entry-4
     push-entry-requires

@@ -28,6 +28,9 @@ add-push-entry-2 c = search needs
 mul-push-entry-3 : tie.Need-mul-push-entry-3
 mul-push-entry-3 c = search needs
 
+mul-push-entry-4 : tie.Need-mul-push-entry-4
+mul-push-entry-4 c = search needs
+
 add-push-entry-3 : tie.Need-add-push-entry-3
 add-push-entry-3 c = search needs
 
@@ -57,6 +60,7 @@ push-path-spec =
     mul-push-entry-2
     add-push-entry-2
     mul-push-entry-3
+    mul-push-entry-4
     add-push-entry-3
     add-push-entry-4
     push-entry-requires

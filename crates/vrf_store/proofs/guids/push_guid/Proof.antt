@@ -23,14 +23,26 @@ mul-to c = search needs
 add-to : tie.Need-add-to
 add-to c = search needs
 
-add-to-2 : tie.Need-add-to-2
-add-to-2 c = search needs
-
 mul-to-2 : tie.Need-mul-to-2
 mul-to-2 c = search needs
 
+add-to-2 : tie.Need-add-to-2
+add-to-2 c = search needs
+
+mul-to-3 : tie.Need-mul-to-3
+mul-to-3 c = search needs
+
 add-to-3 : tie.Need-add-to-3
 add-to-3 c = search needs
+
+mul-b : tie.Need-mul-b
+mul-b c = search needs
+
+add-b : tie.Need-add-b
+add-b c = search needs
+
+cast-b : tie.Need-cast-b
+cast-b c = search needs
 
 sub-push-row : tie.Need-sub-push-row
 sub-push-row c = search needs
@@ -75,9 +87,13 @@ push-guid-spec =
     add-total
     mul-to
     add-to
-    add-to-2
     mul-to-2
+    add-to-2
+    mul-to-3
     add-to-3
+    mul-b
+    add-b
+    cast-b
     sub-push-row
     part-push-row-start
     part-push-row-end

@@ -29,11 +29,14 @@ mul-to c = search needs
 add-to : tie.Need-add-to
 add-to c = search needs
 
+mul-to-2 : tie.Need-mul-to-2
+mul-to-2 c = search needs
+
 add-to-2 : tie.Need-add-to-2
 add-to-2 c = search needs
 
-mul-to-2 : tie.Need-mul-to-2
-mul-to-2 c = search needs
+mul-to-3 : tie.Need-mul-to-3
+mul-to-3 c = search needs
 
 add-to-3 : tie.Need-add-to-3
 add-to-3 c = search needs
@@ -77,8 +80,9 @@ set-guid-spec =
     add-total
     mul-to
     add-to
-    add-to-2
     mul-to-2
+    add-to-2
+    mul-to-3
     add-to-3
     sub-put-text
     part-put-text-start

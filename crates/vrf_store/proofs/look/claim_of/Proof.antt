@@ -6,8 +6,8 @@ use Rattle.vrf_store.specs.GoodLaws.{leaf-walk}
 use Rattle.vrf_store.proofs.look.claim_of.Statement.{statement}
 use Rattle.vrf_store.proofs.look.claim_of.Tie as tie
 
-group-buckets-requires : tie.Need-group-buckets-requires
-group-buckets-requires c κs = search needs
+leaf-buckets-requires : tie.Need-leaf-buckets-requires
+leaf-buckets-requires c κs = search needs
 
 groups-requires : tie.Need-groups-requires
 groups-requires c κs = search needs
@@ -25,7 +25,7 @@ leaf-heads-requires : tie.Need-leaf-heads-requires
 leaf-heads-requires c κs = search needs
 
 leaf-claim-requires : tie.Need-leaf-claim-requires
-leaf-claim-requires c κs = leaf-walk (c .before .before .before .before .before .before .before .before .pre .0 .valid) (c .before .before .before .group-rows .ensures) (c .before .before .texts .ensures) (c .before .before .before .before .before .group-buckets .ensures) (c .before .before .before .before .groups .ensures) (c .before .leaf-links .ensures) (c .leaf-heads .ensures) (c .before .before .before .before .before .before .before .before .pre .1)
+leaf-claim-requires c κs = leaf-walk (c .before .before .before .before .before .before .before .before .pre .0 .valid) (c .before .before .before .group-rows .ensures) (c .before .before .texts .ensures) (c .before .before .before .before .groups .ensures) (now (c .before .before .before .before .before .before .before .before .args .leaf)) (c .before .before .before .before .before .leaf-buckets .ensures) (c .before .before .before .before .before .before .before .before .pre .1) (c .before .leaf-links .ensures) (c .leaf-heads .ensures) (c .before .before .before .before .before .before .before .before .pre .2)
 
 returns : tie.Need-returns
 returns c = cc (leaf-found (c .before .before .before .before .before .before .before .before .before .pre .0 .valid) (now (c .before .before .before .before .before .before .before .before .before .args .leaf)))
@@ -34,7 +34,7 @@ pub claim-of-spec : {M : Type 1} → statement M
 claim-of-spec =
     tie.close
     (tie.spec
-    group-buckets-requires
+    leaf-buckets-requires
     groups-requires
     group-rows-requires
     texts-requires

@@ -8,8 +8,8 @@ use Rattle.vrf_store.specs.GoodLaws.{path-walk}
 use Rattle.vrf_store.proofs.look.find_path_place.Statement.{statement}
 use Rattle.vrf_store.proofs.look.find_path_place.Tie as tie
 
-group-buckets-requires : tie.Need-group-buckets-requires
-group-buckets-requires c κs = search needs
+path-buckets-requires : tie.Need-path-buckets-requires
+path-buckets-requires c κs = search needs
 
 groups-requires : tie.Need-groups-requires
 groups-requires c κs = search needs
@@ -27,7 +27,7 @@ path-heads-requires : tie.Need-path-heads-requires
 path-heads-requires c κs = search needs
 
 find-path-requires : tie.Need-find-path-requires
-find-path-requires c κs = path-walk (c .before .before .before .before .before .before .before .before .pre .0 .valid) (c .before .before .before .group-rows .ensures) (c .before .before .texts .ensures) (c .before .before .before .before .before .group-buckets .ensures) (c .before .before .before .before .groups .ensures) (c .before .path-links .ensures) (c .path-heads .ensures) (c .before .before .before .before .before .before .before .before .pre .1)
+find-path-requires c κs = path-walk (c .before .before .before .before .before .before .before .before .pre .0 .valid) (c .before .before .before .group-rows .ensures) (c .before .before .texts .ensures) (c .before .before .before .before .groups .ensures) (c .before .before .before .before .before .path-buckets .ensures) (c .before .path-links .ensures) (c .path-heads .ensures) (c .before .before .before .before .before .before .before .before .pre .1)
 
 enum-known-e : tie.Need-enum-known-e
 enum-known-e c = search needs
@@ -53,7 +53,7 @@ pub find-path-place-spec : {M : Type 1} → statement M
 find-path-place-spec =
     tie.close
     (tie.spec
-    group-buckets-requires
+    path-buckets-requires
     groups-requires
     group-rows-requires
     texts-requires

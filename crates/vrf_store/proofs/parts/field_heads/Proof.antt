@@ -29,6 +29,9 @@ mul-words-3 c = search needs
 add-words-3 : tie.Need-add-words-3
 add-words-3 c = search needs
 
+mul-words-4 : tie.Need-mul-words-4
+mul-words-4 c = search needs
+
 add-words-4 : tie.Need-add-words-4
 add-words-4 c = search needs
 
@@ -51,6 +54,7 @@ field-heads-spec =
     add-words-2
     mul-words-3
     add-words-3
+    mul-words-4
     add-words-4
     words-requires
     returns)

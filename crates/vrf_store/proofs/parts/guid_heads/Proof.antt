@@ -11,6 +11,9 @@ mul-words c = search needs
 add-words : tie.Need-add-words
 add-words c = search needs
 
+mul-words-2 : tie.Need-mul-words-2
+mul-words-2 c = search needs
+
 add-words-2 : tie.Need-add-words-2
 add-words-2 c = search needs
 
@@ -23,4 +26,11 @@ returns c = cc
 pub guid-heads-spec : {M : Type 1} → statement M
 guid-heads-spec =
     tie.close
-    (tie.spec guids-allowed-requires mul-words add-words add-words-2 words-requires returns)
+    (tie.spec
+    guids-allowed-requires
+    mul-words
+    add-words
+    mul-words-2
+    add-words-2
+    words-requires
+    returns)

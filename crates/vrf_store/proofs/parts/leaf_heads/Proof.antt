@@ -20,6 +20,9 @@ mul-words-2 c = search needs
 add-words-2 : tie.Need-add-words-2
 add-words-2 c = search needs
 
+mul-words-3 : tie.Need-mul-words-3
+mul-words-3 c = search needs
+
 add-words-3 : tie.Need-add-words-3
 add-words-3 c = search needs
 
@@ -39,6 +42,7 @@ leaf-heads-spec =
     add-words
     mul-words-2
     add-words-2
+    mul-words-3
     add-words-3
     words-requires
     returns)

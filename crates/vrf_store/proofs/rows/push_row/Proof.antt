@@ -1,5 +1,4 @@
 -- `vrf_store::rows::push_row` meets its contract: the writes are those that `pushed` puts together.
-use Prim.Native.Nat.{_+_}
 use native.Mathlib.Numerals.{add-one}
 use native.Mathlib.Omega.{arith}
 use denote.Ref.{now}
@@ -12,12 +11,6 @@ use Rattle.vrf_store.proofs.rows.push_row.Tie as tie
 mul-head : tie.Need-mul-head
 mul-head c = search needs
 
-add-key-bucket : tie.Need-add-key-bucket
-add-key-bucket c = search needs
-
-cast-key-bucket : tie.Need-cast-key-bucket
-cast-key-bucket c = search needs
-
 key-bucket-requires : tie.Need-key-bucket-requires
 key-bucket-requires c κs = search needs
 
@@ -28,7 +21,7 @@ add-head : tie.Need-add-head
 add-head c = search needs
 
 get32-requires : tie.Need-get32-requires
-get32-requires c κs = omega (arith, keyBucket-lt (c .before .before .before .args .cap + 1) (c .before .before .before .args .k) (omega arith), c .before .key-bucket .ensures)
+get32-requires c κs = omega (arith, keyBucket-lt (c .before .before .before .args .b) (c .before .before .before .args .k) (c .before .before .before .pre .3), c .before .key-bucket .ensures)
 
 put-text-requires : tie.Need-put-text-requires
 put-text-requires c κs = search needs
@@ -40,7 +33,7 @@ add-put32 : tie.Need-add-put32
 add-put32 c = search needs
 
 put32-requires : tie.Need-put32-requires
-put32-requires c κs = let start = c .before .before .before .before .before .before .before .before .before .before .before .before .before in omega (arith, keyBucket-lt (start .args .cap + 1) (start .args .k) (omega arith), start .pre .0, c .before .before .before .before .before .before .before .before .before .before .before .key-bucket .ensures, c .before .before .before .put-key .kept .0, c .before .before .before .before .before .before .before .put-text .kept .0)
+put32-requires c κs = let start = c .before .before .before .before .before .before .before .before .before .before .before .before .before in omega (arith, keyBucket-lt (start .args .b) (start .args .k) (start .pre .3), start .pre .0, c .before .before .before .before .before .before .before .before .before .before .before .key-bucket .ensures, c .before .before .before .put-key .kept .0, c .before .before .before .before .before .before .before .put-text .kept .0)
 
 same-length : tie.Need-same-length
 same-length c = search needs
@@ -49,15 +42,13 @@ returns : tie.Need-returns
 returns c =
     let start = c .before .before .before .before .before .before .before .before .before .before .before .before .before .before .before .before in
     let args = start .args in
-    cc (pushed-by (now (args .t)) (args .cap) (start .pre .0) (args .n) (start .pre .1) (args .k) (args .at) (args .len) (args .info), add-one (args .n))
+    cc (pushed-by (now (args .t)) (args .cap) (args .b) (start .pre .0) (args .n) (start .pre .1) (start .pre .3) (args .k) (args .at) (args .len) (args .info), add-one (args .n))
 
 pub push-row-spec : {M : Type 1} → statement M
 push-row-spec =
     tie.close
     (tie.spec
     mul-head
-    add-key-bucket
-    cast-key-bucket
     key-bucket-requires
     cast-head
     add-head

@@ -9,7 +9,7 @@ use Rattle.vrf_store.proofs.texts.compact.Tie as tie
 
 -- what was read
 found : (c : tie.After-groups-allowed) → Found (now (c .before .before .before .before .before .before .before .before .before .before .before .before .before .before .before .before .before .args .m)) (c .before .before .before .before .before .before .before .before .before .before .before .before .before .before .half-at .result) (c .before .before .before .before .before .before .before .before .before .before .before .before .other-half-at .result) (c .before .before .before .before .before .before .before .before .guids .result) (c .before .before .before .before .before .before .groups .result) (c .before .before .before .before .fields .result)
-    (33 + 7 * c .before .before .guids-allowed .result) (33 + 7 * c .before .before .guids-allowed .result + 3 + 13 * c .groups-allowed .result)
+    (33 + 10 * c .before .before .guids-allowed .result) (33 + 10 * c .before .before .guids-allowed .result + 3 + 16 * c .groups-allowed .result)
 found c = record {
   old-half = c .before .before .before .before .before .before .before .before .before .before .before .before .before .before .half-at .ensures;
   new-half = c .before .before .before .before .before .before .before .before .before .before .before .before .other-half-at .ensures;

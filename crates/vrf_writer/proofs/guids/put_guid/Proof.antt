@@ -1,36 +1,39 @@
 -- `vrf_writer::guids::put_guid` meets its contract: each part is written behind those before it.
 use mathlib.Core.List.{List, [], _∷_}
-use mathlib.Core.Path.{_≡_, refl, ap, _∙_}
-use Prim.Native.Nat.{ℕ, _+_, _≤_}
+use mathlib.Core.Path.{refl, ap}
+use Prim.Native.Nat.{ℕ, _+_}
 use native.Mathlib.Omega.{arith}
 use denote.Ref.{now}
-use lib.ListN.{length, set}
+use lib.ListN.{set}
 use borrow.Author.Needs.{needs}
 use Rattle.vrf_bitio.specs.Number.{encodePacked}
 use Rattle.vrf_text.specs.Text.{encodeText}
 use Rattle.vrf_model.specs.Writer.{encodeGuid}
 use Rattle.vrf_model.specs.Book.{Guid}
-use Rattle.vrf_store.specs.Lookups.{guid-at}
-use Rattle.vrf_store.specs.Store.{storeOf, guidAt}
 use Rattle.vrf_writer.specs.GuidPuts.{outerOn, pathOn, guid-lent, guid-put}
 use Rattle.vrf_writer.specs.PutsLaws.{under-room, under-long, under-lent, under-next, under-byte, under-end}
 use Rattle.vrf_writer.specs.Puts.{Under, backFrom}
+use Rattle.vrf_writer.specs.Rows.{guidIn}
 use Rattle.vrf_writer.proofs.guids.put_guid.Statement.{statement}
 use Rattle.vrf_writer.proofs.guids.put_guid.Tie as tie
 
 -- the record
 abbrev its : tie.Start → Guid
-its c = guidAt (storeOf (now (c .args .m))) (c .args .i)
+its c = guidIn (now (c .args .rows)) (now (c .args .x)) (c .args .i)
 
-outer-is : (c : tie.After-guid-outer) → c .guid-outer .result ≡ its (c .before .before .before .before .before .before .before .before .before) .outer
-outer-is c = c .guid-outer .ensures ∙ guid-at (storeOf (now (c .before .before .before .before .before .before .before .before .before .args .m))) 0 (c .before .before .before .before .before .before .before .before .before .args .i) (λ g. g .outer) (c .before .before .before .before .before .before .before .before .before .pre .1)
+-- where the function began
+abbrev start : tie.After-put-packed → tie.Start
+start c = c .before .before .before .before .before .before
 
-path-is : (c : tie.After-guid-path) → now (c .guid-path .result) ≡ its (c .before .before .before .before .before .before .before .before .before .before .before .before .before .before) .path
-path-is c = c .guid-path .ensures ∙ guid-at (storeOf (now (c .before .before .before .before .before .before .before .before .before .before .before .before .before .before .args .m))) [] (c .before .before .before .before .before .before .before .before .before .before .before .before .before .before .args .i) (λ g. g .path) (c .before .before .before .before .before .before .before .before .before .before .before .before .before .before .pre .1)
+abbrev start2 : tie.After-put-packed2 → tie.Start
+start2 c = start (c .before .before .before .before .before)
+
+abbrev start3 : tie.After-put-text → tie.Start
+start3 c = start2 (c .before .before .before .before .before)
 
 -- what is written after each call
-first : (c : tie.After-put-packed) → Under (encodeGuid (its (c .before .before .before .before .before))) (now (c .before .before .before .before .before .args .out)) (c .put-packed .last .0) (c .put-packed .result) (outerOn (its (c .before .before .before .before .before)))
-first c = guid-put (its (c .before .before .before .before .before)) (now (c .before .before .before .before .before .args .out)) (c .before .before .before .before .before .pre .2) (c .before .guid-of .ensures) (c .put-packed .ensures)
+first : (c : tie.After-put-packed) → Under (encodeGuid (its (start c))) (now (start c .args .out)) (c .put-packed .last .0) (c .put-packed .result) (outerOn (its (start c)))
+first c = guid-put (its (start c)) (now (start c .args .out)) (start c .pre .1) (c .before .guid-of .ensures) (c .put-packed .ensures)
 
 abbrev out2 : tie.After-put-packed2 → List ℕ
 out2 c = backFrom (c .before .before .before .before .before .put-packed .last .0) (c .before .before .before .before .before .put-packed .result) (c .put-packed2 .last .0)
@@ -38,21 +41,17 @@ out2 c = backFrom (c .before .before .before .before .before .put-packed .last .
 abbrev at2 : tie.After-put-packed2 → ℕ
 at2 c = c .before .before .before .before .before .put-packed .result + c .put-packed2 .result
 
-second : (c : tie.After-put-packed2) → Under (encodeGuid (its (c .before .before .before .before .before .before .before .before .before .before))) (now (c .before .before .before .before .before .before .before .before .before .before .args .out)) (out2 c) (at2 c) (1 ∷ pathOn (its (c .before .before .before .before .before .before .before .before .before .before)))
-second c = under-next (encodePacked (its (c .before .before .before .before .before .before .before .before .before .before) .outer)) (1 ∷ pathOn (its (c .before .before .before .before .before .before .before .before .before .before))) (first (c .before .before .before .before .before)) (ap encodePacked (outer-is (c .before))) (c .put-packed2 .ensures)
+second : (c : tie.After-put-packed2) → Under (encodeGuid (its (start2 c))) (now (start2 c .args .out)) (out2 c) (at2 c) (1 ∷ pathOn (its (start2 c)))
+second c = under-next (encodePacked (its (start2 c) .outer)) (1 ∷ pathOn (its (start2 c))) (first (c .before .before .before .before .before)) (ap encodePacked (c .before .row-info .ensures)) (c .put-packed2 .ensures)
 
-third : (c : tie.After-put-text) → Under (encodeGuid (its (c .before .before .before .before .before .before .before .before .before .before .before .before .before .before .before))) (now (c .before .before .before .before .before .before .before .before .before .before .before .before .before .before .before .args .out)) (backFrom (set (out2 (c .before .before .before .before .before)) (at2 (c .before .before .before .before .before)) 1) (at2 (c .before .before .before .before .before) + 1) (c .put-text .last .0)) (at2 (c .before .before .before .before .before) + 1 + c .put-text .result) (0 ∷ [])
-third c = under-next (encodeText (its (c .before .before .before .before .before .before .before .before .before .before .before .before .before .before .before) .path)) (0 ∷ []) (under-byte 1 (second (c .before .before .before .before .before))) (ap encodeText (path-is (c .before))) (c .put-text .ensures)
-
-short : (c : tie.After-guid-path) → length (its (c .before .before .before .before .before .before .before .before .before .before .before .before .before .before) .path) ≤ 4096
-unfolding guidAt
-short c = c .before .before .before .before .before .before .before .before .before .before .before .before .before .before .pre .0 .valid .guidTable .texts (c .before .before .before .before .before .before .before .before .before .before .before .before .before .before .args .i) (c .before .before .before .before .before .before .before .before .before .before .before .before .before .before .pre .1) .isText .short
+third : (c : tie.After-put-text) → Under (encodeGuid (its (start3 c))) (now (start3 c .args .out)) (backFrom (set (out2 (c .before .before .before .before .before)) (at2 (c .before .before .before .before .before)) 1) (at2 (c .before .before .before .before .before) + 1) (c .put-text .last .0)) (at2 (c .before .before .before .before .before) + 1 + c .put-text .result) (0 ∷ [])
+third c = under-next (encodeText (its (start3 c) .path)) (0 ∷ []) (under-byte 1 (second (c .before .before .before .before .before))) (ap encodeText (c .before .row-text .ensures)) (c .put-text .ensures)
 
 guid-of-requires : tie.Need-guid-of-requires
-guid-of-requires c κs = search needs
+guid-of-requires c κs = let p = c .before .before .before .before .pre .0 in (p .texts .row, p .small)
 
 put-packed-requires : tie.Need-put-packed-requires
-put-packed-requires c κs = guid-lent (its (c .before .before .before .before)) (now (c .before .before .before .before .args .out)) (c .before .before .before .before .pre .2) (c .guid-of .ensures)
+put-packed-requires c κs = let s = c .before .before .before .before .before in guid-lent (its s) (now (s .args .out)) (s .pre .1) (c .guid-of .ensures)
 
 sub-put-packed : tie.Need-sub-put-packed
 sub-put-packed c = omega (arith, under-room (first (c .before .before)))
@@ -63,11 +62,11 @@ part-put-packed-start c = omega (arith, under-room (first (c .before .before)))
 part-put-packed-end : tie.Need-part-put-packed-end
 part-put-packed-end c = search needs
 
-guid-outer-requires : tie.Need-guid-outer-requires
-guid-outer-requires c κs = search needs
+row-info-requires : tie.Need-row-info-requires
+row-info-requires c κs = start (c .before .before .before) .pre .0 .texts .row
 
 put-packed-requires-2 : tie.Need-put-packed-requires-2
-put-packed-requires-2 c κs = under-lent (encodePacked (its (c .before .before .before .before .before .before .before .before .before) .outer)) (1 ∷ pathOn (its (c .before .before .before .before .before .before .before .before .before))) (first (c .before .before .before .before)) (ap encodePacked (outer-is c))
+put-packed-requires-2 c κs = let s = start (c .before .before .before .before) in under-lent (encodePacked (its s .outer)) (1 ∷ pathOn (its s)) (first (c .before .before .before .before)) (ap encodePacked (c .row-info .ensures))
 
 add-at : tie.Need-add-at
 add-at c = omega (arith, under-room (second (c .before .before)), under-long (second (c .before .before)))
@@ -87,11 +86,13 @@ part-put-text-start c = omega (arith, under-room (under-byte 1 (second (c .befor
 part-put-text-end : tie.Need-part-put-text-end
 part-put-text-end c = search needs
 
-guid-path-requires : tie.Need-guid-path-requires
-guid-path-requires c κs = search needs
+row-text-requires : tie.Need-row-text-requires
+row-text-requires c κs = let t = start2 (c .before .before .before) .pre .0 .texts in (t .row, t .inside)
 
 put-text-requires : tie.Need-put-text-requires
-put-text-requires c κs = (under-lent (encodeText (its (c .before .before .before .before .before .before .before .before .before .before .before .before .before .before) .path)) (0 ∷ []) (under-byte 1 (second (c .before .before .before .before))) (ap encodeText (path-is c)), rw (path-is c) (short c))
+put-text-requires c κs =
+    let s = start2 (c .before .before .before .before) in
+    (under-lent (encodeText (its s .path)) (0 ∷ []) (under-byte 1 (second (c .before .before .before .before))) (ap encodeText (c .row-text .ensures)), rw (c .row-text .ensures) (s .pre .0 .texts .short))
 
 add-at-3 : tie.Need-add-at-3
 add-at-3 c = omega (arith, under-room (third (c .before .before)), under-long (third (c .before .before)))
@@ -117,7 +118,7 @@ put-guid-spec =
     sub-put-packed
     part-put-packed-start
     part-put-packed-end
-    guid-outer-requires
+    row-info-requires
     put-packed-requires-2
     add-at
     slice-write-out
@@ -125,7 +126,7 @@ put-guid-spec =
     sub-put-text
     part-put-text-start
     part-put-text-end
-    guid-path-requires
+    row-text-requires
     put-text-requires
     add-at-3
     slice-write-out-2

@@ -25,8 +25,8 @@ cast-put-word c = search needs
 put-word-requires-2 : tie.Need-put-word-requires-2
 put-word-requires-2 c κs = let x = c .before .before .before .before .args in omega (arith, text-four (now (x .t)))
 
-put-bytes-requires : tie.Need-put-bytes-requires
-put-bytes-requires c κs = let x = c .before .before .before .before .before .before .before .before .args in omega (arith, text-room (now (x .t)) (now (x .out)) (λ z. omega (arith, z)) (omega arith))
+put-part-requires : tie.Need-put-part-requires
+put-part-requires c κs = let x = c .before .before .before .before .before .before .before .before .args in omega (arith, text-room (now (x .t)) (now (x .out)) (λ z. omega (arith, z)) (omega arith))
 
 add-out : tie.Need-add-out
 add-out c = search needs
@@ -44,7 +44,7 @@ same-length-2 : tie.Need-same-length-2
 same-length-2 c = simp length-set (omega arith)
 
 returns-2 : tie.Need-returns-2
-returns-2 c = let x = c .before .before .before .before .before .before .before .before .before .before .before .args in text-put (now (x .t)) (now (x .out)) (λ z. omega (arith, z)) (omega arith) (c .before .before .before .before .before .before .put-word2 .ensures) (c .before .before .put-bytes .ensures)
+returns-2 c = let x = c .before .before .before .before .before .before .before .before .before .before .before .args in text-put (now (x .t)) (now (x .out)) (λ z. omega (arith, z)) (omega arith) (c .before .before .before .before .before .before .put-word2 .ensures) (c .before .before .put-part .ensures)
 
 pub put-text-spec : {M : Type 1} → statement M
 put-text-spec =
@@ -56,7 +56,7 @@ put-text-spec =
     add-put-word
     cast-put-word
     put-word-requires-2
-    put-bytes-requires
+    put-part-requires
     add-out
     slice-write-out
     add-result

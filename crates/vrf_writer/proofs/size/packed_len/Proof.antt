@@ -1,24 +1,47 @@
 -- `vrf_writer::size::packed_len` meets its contract: a byte more at each power of 128.
-use mathlib.Core.Path.{sym}
 use native.Mathlib.Omega.{arith}
-use Rattle.vrf_writer.specs.NumberLengths.{packed-1, packed-2, packed-3, packed-4, packed-5}
+use borrow.Author.Needs.{needs}
+use Rattle.vrf_writer.specs.NumberLengths.{packed-sum}
 use Rattle.vrf_writer.proofs.size.packed_len.Statement.{statement}
 use Rattle.vrf_writer.proofs.size.packed_len.Tie as tie
 
+one-from-requires : tie.Need-one-from-requires
+one-from-requires c κs = search needs
+
+add-first : tie.Need-add-first
+add-first c = omega (arith, c .one-from .ensures .1)
+
+one-from-requires-2 : tie.Need-one-from-requires-2
+one-from-requires-2 c κs = search needs
+
+add-first-2 : tie.Need-add-first-2
+add-first-2 c = omega (arith, c .before .one-from .ensures .1, c .one-from2 .ensures .1)
+
+one-from-requires-3 : tie.Need-one-from-requires-3
+one-from-requires-3 c κs = search needs
+
+add-result : tie.Need-add-result
+add-result c = omega (arith, c .before .before .one-from .ensures .1, c .before .one-from2 .ensures .1, c .one-from3 .ensures .1)
+
+one-from-requires-4 : tie.Need-one-from-requires-4
+one-from-requires-4 c κs = search needs
+
+add-result-2 : tie.Need-add-result-2
+add-result-2 c = omega (arith, c .before .before .before .one-from .ensures .1, c .before .before .one-from2 .ensures .1, c .before .one-from3 .ensures .1, c .one-from4 .ensures .1)
+
 returns : tie.Need-returns
-returns c = sym (packed-1 (c .before .args .n) (omega arith))
-
-returns-2 : tie.Need-returns-2
-returns-2 c = sym (packed-2 (c .before .before .args .n) (omega arith) (omega arith))
-
-returns-3 : tie.Need-returns-3
-returns-3 c = sym (packed-3 (c .before .before .before .args .n) (omega arith) (omega arith))
-
-returns-4 : tie.Need-returns-4
-returns-4 c = sym (packed-4 (c .before .before .before .before .args .n) (omega arith) (omega arith))
-
-returns-5 : tie.Need-returns-5
-returns-5 c = sym (packed-5 (c .before .before .before .before .args .n) (omega arith))
+returns c = omega (arith, packed-sum (c .before .before .before .before .args .n), c .before .before .before .one-from .ensures .0, c .before .before .one-from2 .ensures .0, c .before .one-from3 .ensures .0, c .one-from4 .ensures .0)
 
 pub packed-len-spec : {M : Type 1} → statement M
-packed-len-spec = tie.close (tie.spec returns returns-2 returns-3 returns-4 returns-5)
+packed-len-spec =
+    tie.close
+    (tie.spec
+    one-from-requires
+    add-first
+    one-from-requires-2
+    add-first-2
+    one-from-requires-3
+    add-result
+    one-from-requires-4
+    add-result-2
+    returns)

@@ -117,7 +117,7 @@ impl Block {
     /// Memory for a book of these allowances, with a literal for each GUID:
     /// the need as docs/LAYOUT.md has it.
     fn memory([guids, groups, fields, text]: [u64; 4]) -> Vec<u8> {
-        let need = 4 * (37 + 8 * guids + 13 * groups + 7 * fields) + 2 * text;
+        let need = 4 * (37 + 11 * guids + 16 * groups + 10 * fields) + 2 * text;
         vec![0; need as usize]
     }
 

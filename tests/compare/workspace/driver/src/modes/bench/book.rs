@@ -92,7 +92,7 @@ impl Room {
         let [guids, groups, fields] = [SET_GUID, ADD_GROUP, SET_FIELD].map(|k| sheet.count(k));
         let text = sheet.texts.len() as u64;
         // The need as docs/LAYOUT.md has it.
-        let need = 4 * (37 + 7 * guids + 13 * groups + 7 * fields) + 2 * text;
+        let need = 4 * (37 + 10 * guids + 16 * groups + 10 * fields) + 2 * text;
         Room {
             allowances: [guids, groups, fields, text],
             memory: vec![0; need as usize],

@@ -1,0 +1,15 @@
+-- `vrf_writer::size::one_from` meets its contract.
+use mathlib.Core.Path.{sym}
+use native.Mathlib.Omega.{arith}
+use Rattle.vrf_writer.specs.NumberLengths.{below, from}
+use Rattle.vrf_writer.proofs.size.one_from.Statement.{statement}
+use Rattle.vrf_writer.proofs.size.one_from.Tie as tie
+
+returns : tie.Need-returns
+returns c = let x = c .before .args in (sym (below (x .least) (x .n) (omega arith)), omega arith)
+
+returns-2 : tie.Need-returns-2
+returns-2 c = let x = c .before .args in (sym (from (x .least) (x .n) (omega arith)), omega arith)
+
+pub one-from-spec : {M : Type 1} → statement M
+one-from-spec = tie.close (tie.spec returns returns-2)
