@@ -6,7 +6,10 @@ use mathlib.Core.List.{List, [], _∷_, _++_, append-assoc, append-nil, Option·
 use mathlib.Core.Option.{Option, none, some, Option·getD}
 use Prim.Native.Nat.{ℕ, zero, suc, _+_, _<_, _≤_}
 use native.Mathlib.Omega.{arith}
-use lib.ListN.{length}
+use lib.ListN.{length, take, drop, length-append, length-take}
+use lib.Seq.{take-at}
+use Rattle.vrf_bitio.specs.Pasted.{pasted}
+use Rattle.vrf_bitio.specs.PastedLaws.{pasted-front}
 use borrow.Author.Tests.{ne-eqb}
 use lib.Dec.{eqb}
 use Rattle.vrf_path.specs.Keys.{hasSeparator, keys, defaultAlias, coreAlias}
@@ -22,7 +25,7 @@ use Rattle.vrf_path.specs.declared.Stem.the-variants.{At as StemAt}
 use Rattle.vrf_model.specs.Book.{Group}
 use Rattle.vrf_model.specs.Lookup.{Claim, absent as noClaim, ambiguous, claimed, leafClaim, orNext, firstClaim, stemsLeaves, uniqueLeafMatch, resolveCnc, orElse, pathPlace, firstPath, findClassNetCacheKey}
 use Rattle.vrf_table.specs.Answers.{claim}
-use Rattle.vrf_cache.specs.Resolve.{decides, orLater, firstOf, withToggle, byAlias}
+use Rattle.vrf_cache.specs.Resolve.{decides, orLater, firstOf, longerClaim, withToggle, byAlias}
 
 -- ---- claims by their numbers
 
@@ -64,6 +67,18 @@ later-assoc noClaim b c = refl
 later-assoc ambiguous b c = refl
 later-assoc (claimed i) b c = refl
 
+later-decided : (a b : Claim) → decides a ≡ true → a ≡ orLater a b
+unfolding orLater decides
+later-decided noClaim b h = absurd (let z : _≡_ {A = ℕ} 0 1 = cc in omega arith)
+later-decided ambiguous b h = refl
+later-decided (claimed i) b h = refl
+
+later-passed : (a b : Claim) → decides a ≡ false → orLater a b ≡ b
+unfolding orLater decides
+later-passed noClaim b h = refl
+later-passed ambiguous b h = absurd (let z : _≡_ {A = ℕ} 0 1 = cc in omega arith)
+later-passed (claimed i) b h = absurd (let z : _≡_ {A = ℕ} 0 1 = cc in omega arith)
+
 module _ (groups : List Group) where
   -- three leaves, tried one after the other
   in-turn : {x y z : Claim} (a b c : List ℕ) → x ≡ leafClaim a groups → y ≡ orLater x (leafClaim b groups) → z ≡ orLater y (leafClaim c groups)
@@ -76,10 +91,14 @@ module _ (groups : List Group) where
   unfolding stemLeaves
   stem-in-turn s ex ey ez = in-turn (s ++ classNetCache) (s ++ (component ++ classNetCache)) (s ++ (underscoreC ++ classNetCache)) ex ey ez
 
-  pub name-in-turn : {x y z : Claim} (s : List ℕ) → x ≡ leafClaim s groups → y ≡ orLater x (leafClaim (s ++ component) groups)
-      → z ≡ orLater y (leafClaim (s ++ underscoreC) groups) → z ≡ firstOf groups (nameLeaves s)
-  unfolding nameLeaves
-  name-in-turn s ex ey ez = in-turn s (s ++ component) (s ++ underscoreC) ex ey ez
+  -- a name's own leaf, and then the two longer ones
+  pub name-decides : {x : Claim} (s : List ℕ) → x ≡ leafClaim s groups → decides x ≡ true → x ≡ firstOf groups (nameLeaves s)
+  unfolding nameLeaves firstOf
+  name-decides {x} s ex h = rw (← ex) (later-decided x _ h)
+
+  pub name-passes : {x z : Claim} (s : List ℕ) → x ≡ leafClaim s groups → decides x ≡ false → z ≡ longerClaim groups s → z ≡ firstOf groups (nameLeaves s)
+  unfolding nameLeaves firstOf longerClaim
+  name-passes {x} s ex h ez = rw (← ex, later-passed x _ h, later-absent) ez
 
   -- leaves before others
   first-append : (a b : List (List ℕ)) → firstClaim groups (a ++ b) ≡ orNext (firstOf groups a) (firstClaim groups b)
@@ -214,3 +233,24 @@ module _ (t : List ℕ) where
 
   pub core-fits : (k : Key) → spelled t k ≡ coreAlias t → length (keyBytes t k) ≤ length t + 9
   core-fits k e = shorter (spelled t k) (λ l h. ⊎-elim (λ a. omega arith) (λ a. omega arith) (core-length t (sym e ∙ h)))
+
+-- ---- a room with a text at its front
+
+module _ (l v : List ℕ) (n : ℕ) (fits : n + length v ≤ length l) {x : List ℕ} (e : x ≡ pasted l n v) where
+  front-long : length (take n l) ≡ n
+  front-long = rw length-take (omega arith)
+
+  -- the text and what is put behind it
+  pub put-behind : take (n + length v) x ≡ take n l ++ v
+  unfolding pasted
+  put-behind =
+      let size : length (take n l ++ v) ≡ n + length v = rw (length-append, front-long) in
+      rw (e, ← append-assoc (take n l) v (drop (n + length v) l)) (take-at (take n l ++ v) (drop (n + length v) l) (n + length v) size)
+
+  pub put-keeps : take n x ≡ take n l
+  unfolding pasted
+  put-keeps = rw e (take-at (take n l) (v ++ drop (n + length v) l) n front-long)
+
+-- a text alone
+pub put-front : (l t : List ℕ) {x : List ℕ} → x ≡ pasted l 0 t → take (length t) x ≡ t
+put-front l t e = rw (e, pasted-front) (take-at t (drop (length t) l) (length t) refl)

@@ -18,11 +18,12 @@ use vrf_table::Claim;
 use vrf_table::Entry;
 use vrf_table::spell::join;
 use vrf_table::spell::spell;
+use vrf_words::put_part;
 ghost use mathlib.Core.Path.{_≡_};
 ghost use mathlib.Core.List.{_++_, Option·toList};
 ghost use mathlib.Core.Option.{none, some};
 ghost use Prim.Native.Nat.{_+_, _≤_};
-ghost use lib.ListN.{length};
+ghost use lib.ListN.{length, take};
 ghost use Rattle.vrf_path.specs.Toggle.{toggle};
 ghost use Rattle.vrf_path.specs.Stems.{stemLeaves};
 ghost use Rattle.vrf_path.specs.Answers.{spelled, keyBytes};
@@ -30,53 +31,25 @@ ghost use Rattle.vrf_model.specs.Lookup.{leafClaim, orNext, pathPlace, firstPat
 ghost use Rattle.vrf_table.specs.Answers.{entry, claim};
 ghost use Rattle.vrf_store.specs.Good.{Good};
 ghost use Rattle.vrf_store.specs.Stepped.{held};
-ghost use Rattle.vrf_cache.specs.Resolve.{Bare, decides, orLater, firstOf, withToggle, byAlias};
+ghost use Rattle.vrf_cache.specs.Resolve.{Bare, decides, orLater, firstOf, longerClaim, withToggle, byAlias, Tried};
 
-// The claim of a leaf that two texts make, joined in a room.
-fn claim_in(room: &mut [u8], m: &[u8], a: &[u8], b: &[u8]) -> Claim
-    requires { ⌜ Good (now m) × Bare (now a) × Bare (now b) × (length (now a) + length (now b) ≤ length (now room)) × (length (now a) + length (now b) ≤ 4119) ⌝ }
-    ensures { λ r. ⌜ claim r ≡ leafClaim (now (a .entry) ++ now (b .entry)) (held (now (m .entry)) .groups) ⌝ }
+// The claim of the leaf that the first n bytes of a room make with a suffix, which is put behind them.
+fn claim_behind(room: &mut [u8], m: &[u8], n: usize, suffix: &[u8]) -> Claim
+    requires { ⌜ Good (now m) × Bare (take n (now room)) × Bare (now suffix) × (n + length (now suffix) ≤ length (now room)) × (length (now room) ≤ 4119) ⌝ }
+    ensures { λ r. ⌜ Tried n (now (room .entry)) (now (room .exit)) (leafClaim (take n (now (room .entry)) ++ now (suffix .entry)) (held (now (m .entry)) .groups)) r ⌝ }
 {
-    let n = join(room, a, b);
-    claim_of(m, &room[..n])
+    put_part(room, n, &suffix[..]);
+    let end = n + suffix.len();
+    claim_of(m, &room[..end])
 }
 
-// In a room that most leaves fit.
-fn claim_short(m: &[u8], a: &[u8], b: &[u8]) -> Claim
-    requires { ⌜ Good (now m) × Bare (now a) × Bare (now b) × (length (now a) + length (now b) ≤ 128) ⌝ }
-    ensures { λ r. ⌜ claim r ≡ leafClaim (now (a .entry) ++ now (b .entry)) (held (now (m .entry)) .groups) ⌝ }
-{
-    let mut room = [0u8; 128];
-    claim_in(&mut room, m, a, b)
-}
-
-// In a room that all leaves fit: a name's 4096 bytes and the 23 of `Component_ClassNetCache`.
-fn claim_long(m: &[u8], a: &[u8], b: &[u8]) -> Claim
-    requires { ⌜ Good (now m) × Bare (now a) × Bare (now b) × (length (now a) + length (now b) ≤ 4119) ⌝ }
-    ensures { λ r. ⌜ claim r ≡ leafClaim (now (a .entry) ++ now (b .entry)) (held (now (m .entry)) .groups) ⌝ }
-{
-    let mut room = [0u8; 4119];
-    claim_in(&mut room, m, a, b)
-}
-
-// The claim of a leaf that two texts make. A room is cleared before it is written, so a short leaf has a small one.
-fn claim_joined(m: &[u8], a: &[u8], b: &[u8]) -> Claim
-    requires { ⌜ Good (now m) × Bare (now a) × Bare (now b) × (length (now a) + length (now b) ≤ 4119) ⌝ }
-    ensures { λ r. ⌜ claim r ≡ leafClaim (now (a .entry) ++ now (b .entry)) (held (now (m .entry)) .groups) ⌝ }
-{
-    if a.len() + b.len() <= 128 {
-        return claim_short(m, a, b);
-    }
-    claim_long(m, a, b)
-}
-
-// An earlier candidate's claim, or where that is absent the one of this stem and suffix.
-fn or_joined(m: &[u8], earlier: Claim, stem: &[u8], suffix: &[u8]) -> Claim
-    requires { ⌜ Good (now m) × Bare (now stem) × Bare (now suffix) × (length (now stem) + length (now suffix) ≤ 4119) ⌝ }
-    ensures { λ r. ⌜ claim r ≡ orLater (claim earlier) (leafClaim (now (stem .entry) ++ now (suffix .entry)) (held (now (m .entry)) .groups)) ⌝ }
+// An earlier candidate's claim, or where that is absent the one with this suffix.
+fn or_behind(room: &mut [u8], m: &[u8], earlier: Claim, n: usize, suffix: &[u8]) -> Claim
+    requires { ⌜ Good (now m) × Bare (take n (now room)) × Bare (now suffix) × (n + length (now suffix) ≤ length (now room)) × (length (now room) ≤ 4119) ⌝ }
+    ensures { λ r. ⌜ Tried n (now (room .entry)) (now (room .exit)) (orLater (claim earlier) (leafClaim (take n (now (room .entry)) ++ now (suffix .entry)) (held (now (m .entry)) .groups))) r ⌝ }
 {
     if earlier == ABSENT {
-        return claim_joined(m, stem, suffix);
+        return claim_behind(room, m, n, suffix);
     }
     earlier
 }
@@ -101,6 +74,43 @@ fn decides(c: Claim) -> bool
     c != ABSENT
 }
 
+// The first claim among a name's two longer leaves. The name is written into the room once for both.
+fn longer_claims(room: &mut [u8], m: &[u8], name: &[u8]) -> Claim
+    requires { ⌜ Good (now m) × Bare (now name) × (length (now name) + 9 ≤ length (now room)) × (length (now room) ≤ 4119) ⌝ }
+    ensures { λ r. ⌜ claim r ≡ longerClaim (held (now (m .entry)) .groups) (now (name .entry)) ⌝ }
+{
+    put_part(room, 0, &name[..]);
+    let component = claim_behind(room, m, name.len(), b"Component");
+    or_behind(room, m, component, name.len(), b"_C")
+}
+
+fn longer_short(m: &[u8], name: &[u8]) -> Claim
+    requires { ⌜ Good (now m) × Bare (now name) × (length (now name) ≤ 105) ⌝ }
+    ensures { λ r. ⌜ claim r ≡ longerClaim (held (now (m .entry)) .groups) (now (name .entry)) ⌝ }
+{
+    let mut room = [0u8; 128];
+    longer_claims(&mut room, m, name)
+}
+
+fn longer_long(m: &[u8], name: &[u8]) -> Claim
+    requires { ⌜ Good (now m) × Bare (now name) × (length (now name) ≤ 4096) ⌝ }
+    ensures { λ r. ⌜ claim r ≡ longerClaim (held (now (m .entry)) .groups) (now (name .entry)) ⌝ }
+{
+    let mut room = [0u8; 4119];
+    longer_claims(&mut room, m, name)
+}
+
+// The same, in a small room where the name is short: a room is cleared before it is written.
+fn longer(m: &[u8], name: &[u8]) -> Claim
+    requires { ⌜ Good (now m) × Bare (now name) × (length (now name) ≤ 4096) ⌝ }
+    ensures { λ r. ⌜ claim r ≡ longerClaim (held (now (m .entry)) .groups) (now (name .entry)) ⌝ }
+{
+    if name.len() <= 105 {
+        return longer_short(m, name);
+    }
+    longer_long(m, name)
+}
+
 // The group whose path ends in a bare name, or else in the name with `Component` or with `_C` behind it.
 pub fn unique_leaf_match(m: &[u8], name: &[u8]) -> Entry
     requires { ⌜ Good (now m) × (length (now name) ≤ 4096) ⌝ }
@@ -110,18 +120,48 @@ pub fn unique_leaf_match(m: &[u8], name: &[u8]) -> Entry
         return Entry::Nowhere;
     }
     let itself = claim_of(m, &name[..]);
-    let component = or_joined(m, itself, name, b"Component");
-    claimed(or_joined(m, component, name, b"_C"))
+    if decides(itself) {
+        return claimed(itself);
+    }
+    claimed(longer(m, name))
 }
 
-// The first claim among a stem's three leaves.
+// The first claim among a stem's three leaves. The stem is written into the room once for all.
+fn cnc_claims(room: &mut [u8], m: &[u8], stem: &[u8]) -> Claim
+    requires { ⌜ Good (now m) × Bare (now stem) × (length (now stem) + 23 ≤ length (now room)) × (length (now room) ≤ 4119) ⌝ }
+    ensures { λ r. ⌜ claim r ≡ firstOf (held (now (m .entry)) .groups) (stemLeaves (now (stem .entry))) ⌝ }
+{
+    put_part(room, 0, &stem[..]);
+    let plain = claim_behind(room, m, stem.len(), b"_ClassNetCache");
+    let component = or_behind(room, m, plain, stem.len(), b"Component_ClassNetCache");
+    or_behind(room, m, component, stem.len(), b"_C_ClassNetCache")
+}
+
+fn cnc_short(m: &[u8], stem: &[u8]) -> Claim
+    requires { ⌜ Good (now m) × Bare (now stem) × (length (now stem) ≤ 105) ⌝ }
+    ensures { λ r. ⌜ claim r ≡ firstOf (held (now (m .entry)) .groups) (stemLeaves (now (stem .entry))) ⌝ }
+{
+    let mut room = [0u8; 128];
+    cnc_claims(&mut room, m, stem)
+}
+
+fn cnc_long(m: &[u8], stem: &[u8]) -> Claim
+    requires { ⌜ Good (now m) × Bare (now stem) × (length (now stem) ≤ 4096) ⌝ }
+    ensures { λ r. ⌜ claim r ≡ firstOf (held (now (m .entry)) .groups) (stemLeaves (now (stem .entry))) ⌝ }
+{
+    let mut room = [0u8; 4119];
+    cnc_claims(&mut room, m, stem)
+}
+
+// The same, in a small room where the stem is short.
 fn try_cnc_leaf_candidates(m: &[u8], stem: &[u8]) -> Claim
     requires { ⌜ Good (now m) × Bare (now stem) × (length (now stem) ≤ 4096) ⌝ }
     ensures { λ r. ⌜ claim r ≡ firstOf (held (now (m .entry)) .groups) (stemLeaves (now (stem .entry))) ⌝ }
 {
-    let plain = claim_joined(m, stem, b"_ClassNetCache");
-    let component = or_joined(m, plain, stem, b"Component_ClassNetCache");
-    or_joined(m, component, stem, b"_C_ClassNetCache")
+    if stem.len() <= 105 {
+        return cnc_short(m, stem);
+    }
+    cnc_long(m, stem)
 }
 
 // The ClassNetCache group of a bare instance name: of the first of its stems that has a claim.
