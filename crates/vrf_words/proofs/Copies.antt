@@ -64,6 +64,20 @@ module _ (l t : List ℕ) (at a : ℕ) where
       let e7 = byte-more 6 (omega arith) (omega arith) e6 in
       byte-more 7 (omega arith) (omega arith) e7
 
+  pub sixteen : a + 16 ≤ length t → at + 16 ≤ length l
+      → set (set (set (set (set (set (set (set (set (set (set (set (set (set (set (set l at (getD t a 0)) (at + 1) (getD t (a + 1) 0)) (at + 2) (getD t (a + 2) 0)) (at + 3) (getD t (a + 3) 0)) (at + 4) (getD t (a + 4) 0)) (at + 5) (getD t (a + 5) 0)) (at + 6) (getD t (a + 6) 0)) (at + 7) (getD t (a + 7) 0)) (at + 8) (getD t (a + 8) 0)) (at + 9) (getD t (a + 9) 0)) (at + 10) (getD t (a + 10) 0)) (at + 11) (getD t (a + 11) 0)) (at + 12) (getD t (a + 12) 0)) (at + 13) (getD t (a + 13) 0)) (at + 14) (getD t (a + 14) 0)) (at + 15) (getD t (a + 15) 0)
+      ≡ pasted l at (part t a 16)
+  sixteen ht hl =
+      let e8 = eight (omega arith) (omega arith) in
+      let e9 = byte-more 8 (omega arith) (omega arith) e8 in
+      let e10 = byte-more 9 (omega arith) (omega arith) e9 in
+      let e11 = byte-more 10 (omega arith) (omega arith) e10 in
+      let e12 = byte-more 11 (omega arith) (omega arith) e11 in
+      let e13 = byte-more 12 (omega arith) (omega arith) e12 in
+      let e14 = byte-more 13 (omega arith) (omega arith) e13 in
+      let e15 = byte-more 14 (omega arith) (omega arith) e14 in
+      byte-more 15 (omega arith) (omega arith) e15
+
 -- ---- a part behind the first j bytes, or over the last of them
 
 module _ (l t : List ℕ) (at k j n : ℕ) (hk : k ≤ j) (hj : j ≤ k + n) (ht : k + n ≤ length t) (hl : at + length t ≤ length l) where

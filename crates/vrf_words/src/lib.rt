@@ -96,15 +96,53 @@ fn put_eight(m: &mut [u8], at: usize, t: &[u8], k: usize)
     m[to + 7] = b7;
 }
 
+// Sixteen bytes of t, likewise.
+fn put_sixteen(m: &mut [u8], at: usize, t: &[u8], k: usize)
+    requires { ⌜ (k + 16 ≤ length (now t)) × (at + length (now t) ≤ length (now m)) ⌝ }
+    ensures { λ _. ⌜ now (m .exit) ≡ pasted (now (m .entry)) (at + k) (part (now (t .entry)) k 16) ⌝ }
+{
+    let b0 = t[k];
+    let b1 = t[k + 1];
+    let b2 = t[k + 2];
+    let b3 = t[k + 3];
+    let b4 = t[k + 4];
+    let b5 = t[k + 5];
+    let b6 = t[k + 6];
+    let b7 = t[k + 7];
+    let b8 = t[k + 8];
+    let b9 = t[k + 9];
+    let b10 = t[k + 10];
+    let b11 = t[k + 11];
+    let b12 = t[k + 12];
+    let b13 = t[k + 13];
+    let b14 = t[k + 14];
+    let b15 = t[k + 15];
+    let to = at + k;
+    m[to] = b0;
+    m[to + 1] = b1;
+    m[to + 2] = b2;
+    m[to + 3] = b3;
+    m[to + 4] = b4;
+    m[to + 5] = b5;
+    m[to + 6] = b6;
+    m[to + 7] = b7;
+    m[to + 8] = b8;
+    m[to + 9] = b9;
+    m[to + 10] = b10;
+    m[to + 11] = b11;
+    m[to + 12] = b12;
+    m[to + 13] = b13;
+    m[to + 14] = b14;
+    m[to + 15] = b15;
+}
+
 // 32 bytes of t, from byte k on.
 fn put_many(m: &mut [u8], at: usize, t: &[u8], k: usize)
     requires { ⌜ (k + 32 ≤ length (now t)) × (at + length (now t) ≤ length (now m)) ⌝ }
     ensures { λ _. ⌜ now (m .exit) ≡ pasted (now (m .entry)) (at + k) (part (now (t .entry)) k 32) ⌝ }
 {
-    put_eight(m, at, t, k);
-    put_eight(m, at, t, k + 8);
-    put_eight(m, at, t, k + 16);
-    put_eight(m, at, t, k + 24);
+    put_sixteen(m, at, t, k);
+    put_sixteen(m, at, t, k + 16);
 }
 
 fn lower(a: usize, b: usize) -> usize
@@ -139,18 +177,17 @@ fn put_long(m: &mut [u8], at: usize, t: &[u8])
     put_many(m, at, t, last);
 }
 
-// A text of 32 bytes or more: 32 bytes a turn, and then the last.
+// A text of 32 bytes or more: 32 bytes a turn, in the last turn those that end it.
 fn put_longest(m: &mut [u8], at: usize, t: &[u8])
     requires { ⌜ (32 ≤ length (now t)) × (at + length (now t) ≤ length (now m)) ⌝ }
     ensures { λ _. ⌜ now (m .exit) ≡ pasted (now (m .entry)) at (now (t .entry)) ⌝ }
 {
     let last = t.len() - 32;
     let mut k = 0;
-    while k < last {
-        put_many(m, at, t, k);
+    while k < t.len() {
+        put_many(m, at, t, lower(k, last));
         k += 32;
     }
-    put_many(m, at, t, last);
 }
 
 // Writes t into m, from byte at on. The last part of a text ends where the text does, and lies over what already stands of it; so may others
