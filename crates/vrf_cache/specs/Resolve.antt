@@ -1,16 +1,14 @@
 -- What the parts of the resolutions answer: the code goes by claims and keys one after the other, the model by lists of them.
 use mathlib.Core.Path.{_≡_}
 use mathlib.Core.Bool.{Bool, true, false}
-use mathlib.Core.List.{List, [], _∷_, _++_, Option·toList}
+use mathlib.Core.List.{List, [], _∷_, Option·toList}
 use mathlib.Core.Option.{Option}
 use Prim.Native.Nat.{ℕ}
-use lib.ListN.{length, take}
 use Rattle.vrf_path.specs.Keys.{hasSeparator, defaultAlias, coreAlias}
-use Rattle.vrf_path.specs.Stems.{component, underscoreC}
 use Rattle.vrf_path.specs.Toggle.{withToggles}
 use Rattle.vrf_model.specs.Book.{Group}
 use Rattle.vrf_model.specs.Lookup.{Claim, absent, ambiguous, claimed, leafClaim, orElse, firstPath}
-use Rattle.vrf_table.specs.Answers.{claim}
+use Rattle.vrf_table.specs.Index.{orLater}
 
 -- a bare name, or what is put behind one: it has none of `/ . :`, and so is no path
 abbrev pub Bare : List ℕ → Type 0
@@ -22,26 +20,10 @@ decides absent = false
 decides ambiguous = true
 decides (claimed i) = true
 
--- a claim, or the next one where it is absent
-unfoldable pub orLater : Claim → Claim → Claim
-orLater absent next = next
-orLater ambiguous next = ambiguous
-orLater (claimed i) next = claimed i
-
 -- the first claim among some leaves
 unfoldable pub firstOf : List Group → List (List ℕ) → Claim
 firstOf groups [] = absent
 firstOf groups (l ∷ ls) = orLater (leafClaim l groups) (firstOf groups ls)
-
--- the first claim among the leaves that a name makes with `Component` and `_C`
-unfoldable pub longerClaim : List Group → List ℕ → Claim
-longerClaim groups name = orLater (leafClaim (name ++ component) groups) (leafClaim (name ++ underscoreC) groups)
-
--- a claim r that is due, tried in a room whose first n bytes stay
-pub record Tried (n : ℕ) (before after : List ℕ) (due : Claim) (r : ℕ) : Type 0 where
-  pub answer : claim r ≡ due
-  pub kept : take n after ≡ take n before
-  pub long : length after ≡ length before
 
 -- the group of a key that may be missing, or else of its toggle
 unfoldable pub withToggle : List Group → Option (List ℕ) → Option ℕ

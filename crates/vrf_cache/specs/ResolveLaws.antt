@@ -6,34 +6,29 @@ use mathlib.Core.List.{List, [], _∷_, _++_, append-assoc, append-nil, Option·
 use mathlib.Core.Option.{Option, none, some, Option·getD}
 use Prim.Native.Nat.{ℕ, zero, suc, _+_, _<_, _≤_}
 use native.Mathlib.Omega.{arith}
-use lib.ListN.{length, take, drop, length-append, length-take}
-use lib.Seq.{take-at}
-use Rattle.vrf_bitio.specs.Pasted.{pasted}
-use Rattle.vrf_bitio.specs.PastedLaws.{pasted-front}
+use lib.ListN.{length}
 use borrow.Author.Tests.{ne-eqb}
 use lib.Dec.{eqb}
-use Rattle.vrf_path.specs.Keys.{hasSeparator, keys, defaultAlias, coreAlias}
+use Rattle.vrf_path.specs.Keys.{isSeparator, hasSeparator, keys, defaultAlias, coreAlias}
 use Rattle.vrf_path.specs.KeysLaws.{default-length, core-length}
+use Rattle.vrf_path.specs.LeafLaws.{separatorless, separators-append}
+use Rattle.vrf_path.specs.Base.{classBase, leafBase}
+use Rattle.vrf_path.specs.BaseLaws.{base-component, base-underscore, base-cache, base-component-cache, base-underscore-cache}
 use Rattle.vrf_path.specs.Toggle.{classNetCache, toggle, withToggles, classNetCacheKeys}
 use Rattle.vrf_path.specs.Stems.{stems, component, underscoreC, stemLeaves, nameLeaves}
-use Rattle.vrf_path.specs.Answers.{spelled, absent, keyBytes, stemsAfter, stemsFrom}
+use Rattle.vrf_path.specs.Answers.{Front, spelled, keyBytes, stemsAfter, stemsFrom}
 use Rattle.vrf_path.specs.declared.Key.{Key}
-use Rattle.vrf_path.specs.declared.Key.the-variants.{Itself, Stripped, Prefixed, Cut, Inserted, Absent}
 use Rattle.vrf_path.specs.declared.Phase.{Phase}
 use Rattle.vrf_path.specs.declared.Stem.{Stem}
 use Rattle.vrf_path.specs.declared.Stem.the-variants.{At as StemAt}
 use Rattle.vrf_model.specs.Book.{Group}
 use Rattle.vrf_model.specs.Lookup.{Claim, absent as noClaim, ambiguous, claimed, leafClaim, orNext, firstClaim, stemsLeaves, uniqueLeafMatch, resolveCnc, orElse, pathPlace, firstPath, findClassNetCacheKey}
-use Rattle.vrf_table.specs.Answers.{claim}
-use Rattle.vrf_cache.specs.Resolve.{decides, orLater, firstOf, longerClaim, withToggle, byAlias}
+use Rattle.vrf_table.specs.Index.{orLater}
+use Rattle.vrf_table.specs.Answers.{claim, Suffixed}
+use Rattle.vrf_store.specs.Answers.{Leaves}
+use Rattle.vrf_cache.specs.Resolve.{decides, firstOf, withToggle, byAlias}
 
 -- ---- claims by their numbers
-
-pub later-found : (r : ℕ) (next : Claim) → (r ≡ 0 → ⊥) → claim r ≡ orLater (claim r) next
-unfolding orLater
-later-found zero next h = absurd (h refl)
-later-found (suc zero) next h = refl
-later-found (suc (suc e)) next h = refl
 
 pub decides-found : (r : ℕ) → not (eqb r 0) ≡ decides (claim r)
 unfolding decides
@@ -61,44 +56,19 @@ later-absent noClaim = refl
 later-absent ambiguous = refl
 later-absent (claimed i) = refl
 
-later-assoc : (a b c : Claim) → orLater (orLater a b) c ≡ orLater a (orLater b c)
-unfolding orLater
-later-assoc noClaim b c = refl
-later-assoc ambiguous b c = refl
-later-assoc (claimed i) b c = refl
-
-later-decided : (a b : Claim) → decides a ≡ true → a ≡ orLater a b
-unfolding orLater decides
-later-decided noClaim b h = absurd (let z : _≡_ {A = ℕ} 0 1 = cc in omega arith)
-later-decided ambiguous b h = refl
-later-decided (claimed i) b h = refl
-
-later-passed : (a b : Claim) → decides a ≡ false → orLater a b ≡ b
-unfolding orLater decides
-later-passed noClaim b h = refl
-later-passed ambiguous b h = absurd (let z : _≡_ {A = ℕ} 0 1 = cc in omega arith)
-later-passed (claimed i) b h = absurd (let z : _≡_ {A = ℕ} 0 1 = cc in omega arith)
-
 module _ (groups : List Group) where
   -- three leaves, tried one after the other
-  in-turn : {x y z : Claim} (a b c : List ℕ) → x ≡ leafClaim a groups → y ≡ orLater x (leafClaim b groups) → z ≡ orLater y (leafClaim c groups)
-      → z ≡ firstOf groups (a ∷ b ∷ c ∷ [])
+  in-turn : {c : Claim} (s t u : List ℕ) → c ≡ orLater (leafClaim s groups) (orLater (leafClaim t groups) (leafClaim u groups)) → c ≡ firstOf groups (s ∷ t ∷ u ∷ [])
   unfolding firstOf
-  in-turn a b c ex ey ez = rw (ez, ey, ex, later-assoc, later-absent)
+  in-turn s t u e = e ∙ rw (later-absent (leafClaim u groups))
 
-  pub stem-in-turn : {x y z : Claim} (s : List ℕ) → x ≡ leafClaim (s ++ classNetCache) groups → y ≡ orLater x (leafClaim (s ++ (component ++ classNetCache)) groups)
-      → z ≡ orLater y (leafClaim (s ++ (underscoreC ++ classNetCache)) groups) → z ≡ firstOf groups (stemLeaves s)
+  pub stem-in-turn : {c : Claim} (s : List ℕ) → c ≡ orLater (leafClaim (s ++ classNetCache) groups) (orLater (leafClaim (s ++ (component ++ classNetCache)) groups) (leafClaim (s ++ (underscoreC ++ classNetCache)) groups)) → c ≡ firstOf groups (stemLeaves s)
   unfolding stemLeaves
-  stem-in-turn s ex ey ez = in-turn (s ++ classNetCache) (s ++ (component ++ classNetCache)) (s ++ (underscoreC ++ classNetCache)) ex ey ez
+  stem-in-turn s e = in-turn (s ++ classNetCache) (s ++ (component ++ classNetCache)) (s ++ (underscoreC ++ classNetCache)) e
 
-  -- a name's own leaf, and then the two longer ones
-  pub name-decides : {x : Claim} (s : List ℕ) → x ≡ leafClaim s groups → decides x ≡ true → x ≡ firstOf groups (nameLeaves s)
-  unfolding nameLeaves firstOf
-  name-decides {x} s ex h = rw (← ex) (later-decided x _ h)
-
-  pub name-passes : {x z : Claim} (s : List ℕ) → x ≡ leafClaim s groups → decides x ≡ false → z ≡ longerClaim groups s → z ≡ firstOf groups (nameLeaves s)
-  unfolding nameLeaves firstOf longerClaim
-  name-passes {x} s ex h ez = rw (← ex, later-passed x _ h, later-absent) ez
+  pub name-in-turn : {c : Claim} (s : List ℕ) → c ≡ orLater (leafClaim (s ++ []) groups) (orLater (leafClaim (s ++ component) groups) (leafClaim (s ++ underscoreC) groups)) → c ≡ firstOf groups (nameLeaves s)
+  unfolding nameLeaves
+  name-in-turn s e = in-turn s (s ++ component) (s ++ underscoreC) (rw (append-nil s) at e)
 
   -- leaves before others
   first-append : (a b : List (List ℕ)) → firstClaim groups (a ++ b) ≡ orNext (firstOf groups a) (firstClaim groups b)
@@ -207,22 +177,8 @@ module _ (groups : List Group) where
       ∙ path-append (withToggles (path ∷ [])) (withToggles (d ++ c))
       ∙ rw (toggles-append d c, path-append (withToggles d) (withToggles c))
 
--- a key that the code spells, unless it has none
+-- how long a key is that the code spells
 module _ (t : List ℕ) where
-  spelled-by : (k : Key) → spelled t k ≡ cond (absent k) none (some (keyBytes t k))
-  spelled-by Itself = refl
-  spelled-by Stripped = refl
-  spelled-by Prefixed = refl
-  spelled-by (Cut i) = refl
-  spelled-by Inserted = refl
-  spelled-by Absent = refl
-
-  pub spelled-none : (k : Key) → absent k ≡ true → spelled t k ≡ none
-  spelled-none k h = spelled-by k ∙ rw h
-
-  pub spelled-some : (k : Key) → absent k ≡ false → spelled t k ≡ some (keyBytes t k)
-  spelled-some k h = spelled-by k ∙ rw h
-
   -- an alias is at most 9 bytes longer than the path
   shorter : (o : Option (List ℕ)) → ((k : List ℕ) → o ≡ some k → length k ≤ length t + 9) → length (Option·getD o []) ≤ length t + 9
   shorter none h = omega arith
@@ -234,23 +190,34 @@ module _ (t : List ℕ) where
   pub core-fits : (k : Key) → spelled t k ≡ coreAlias t → length (keyBytes t k) ≤ length t + 9
   core-fits k e = shorter (spelled t k) (λ l h. ⊎-elim (λ a. omega arith) (λ a. omega arith) (core-length t (sym e ∙ h)))
 
--- ---- a room with a text at its front
+-- ---- the leaves that a name and a stem are tried as
 
-module _ (l v : List ℕ) (n : ℕ) (fits : n + length v ≤ length l) {x : List ℕ} (e : x ≡ pasted l n v) where
-  front-long : length (take n l) ≡ n
-  front-long = rw length-take (omega arith)
+module _ (s : List ℕ) (bare : hasSeparator s ≡ false) (few : length s ≤ 4096) where
+  suffixed : (t : List ℕ) → hasSeparator t ≡ false → length t ≤ 23 → Suffixed s t
+  suffixed t h k = (separatorless (s ++ t) (separators-append s t bare h), omega arith)
 
-  -- the text and what is put behind it
-  pub put-behind : take (n + length v) x ≡ take n l ++ v
-  unfolding pasted
-  put-behind =
-      let size : length (take n l ++ v) ≡ n + length v = rw (length-append, front-long) in
-      rw (e, ← append-assoc (take n l) v (drop (n + length v) l)) (take-at (take n l ++ v) (drop (n + length v) l) (n + length v) size)
+  pub name-leaves : {n : ℕ} → Front (leafBase s) s n → Leaves s n [] component underscoreC
+  unfolding hasSeparator isSeparator component underscoreC
+  name-leaves f = record {
+    first = suffixed [] refl (omega arith);
+    second = suffixed component refl (omega arith);
+    third = suffixed underscoreC refl (omega arith);
+    within = f .1;
+    short = omega arith;
+    base-first = f .0 ∙ ap leafBase (sym (append-nil s));
+    base-second = sym (base-component s);
+    base-third = sym (base-underscore s);
+  }
 
-  pub put-keeps : take n x ≡ take n l
-  unfolding pasted
-  put-keeps = rw e (take-at (take n l) (v ++ drop (n + length v) l) n front-long)
-
--- a text alone
-pub put-front : (l t : List ℕ) {x : List ℕ} → x ≡ pasted l 0 t → take (length t) x ≡ t
-put-front l t e = rw (e, pasted-front) (take-at t (drop (length t) l) (length t) refl)
+  pub stem-leaves : {n : ℕ} → Front (classBase s) s n → Leaves s n classNetCache (component ++ classNetCache) (underscoreC ++ classNetCache)
+  unfolding hasSeparator isSeparator component underscoreC classNetCache
+  stem-leaves f = record {
+    first = suffixed classNetCache refl (omega arith);
+    second = suffixed (component ++ classNetCache) refl (omega arith);
+    third = suffixed (underscoreC ++ classNetCache) refl (omega arith);
+    within = f .1;
+    short = omega arith;
+    base-first = f .0 ∙ sym (base-cache s);
+    base-second = sym (base-component-cache s);
+    base-third = sym (base-underscore-cache s);
+  }

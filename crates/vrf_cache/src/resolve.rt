@@ -2,12 +2,14 @@
 use vrf_path::Key;
 use vrf_path::Stem;
 use vrf_path::Toggle;
+use vrf_path::class_base;
 use vrf_path::core_alias;
 use vrf_path::default_object_alias;
 use vrf_path::first_stem;
 use vrf_path::has_path_separator;
 use vrf_path::is_absent;
 use vrf_path::key_len;
+use vrf_path::leaf_base;
 use vrf_path::next_stem;
 use vrf_path::strip_class_net_cache;
 use vrf_store::look::claim_of;
@@ -18,41 +20,19 @@ use vrf_table::Claim;
 use vrf_table::Entry;
 use vrf_table::spell::join;
 use vrf_table::spell::spell;
-use vrf_words::put_part;
 ghost use mathlib.Core.Path.{_≡_};
 ghost use mathlib.Core.List.{_++_, Option·toList};
 ghost use mathlib.Core.Option.{none, some};
 ghost use Prim.Native.Nat.{_+_, _≤_};
-ghost use lib.ListN.{length, take};
+ghost use lib.ListN.{length};
 ghost use Rattle.vrf_path.specs.Toggle.{toggle};
 ghost use Rattle.vrf_path.specs.Stems.{stemLeaves};
 ghost use Rattle.vrf_path.specs.Answers.{spelled, keyBytes};
-ghost use Rattle.vrf_model.specs.Lookup.{leafClaim, orNext, pathPlace, firstPath, uniqueLeafMatch, resolveCnc, findClassNetCacheKey};
+ghost use Rattle.vrf_model.specs.Lookup.{orNext, pathPlace, firstPath, uniqueLeafMatch, resolveCnc, findClassNetCacheKey};
 ghost use Rattle.vrf_table.specs.Answers.{entry, claim};
 ghost use Rattle.vrf_store.specs.Good.{Good};
 ghost use Rattle.vrf_store.specs.Stepped.{held};
-ghost use Rattle.vrf_cache.specs.Resolve.{Bare, decides, orLater, firstOf, longerClaim, withToggle, byAlias, Tried};
-
-// The claim of the leaf that the first n bytes of a room make with a suffix, which is put behind them.
-fn claim_behind(room: &mut [u8], m: &[u8], n: usize, suffix: &[u8]) -> Claim
-    requires { ⌜ Good (now m) × Bare (take n (now room)) × Bare (now suffix) × (n + length (now suffix) ≤ length (now room)) × (length (now room) ≤ 4119) ⌝ }
-    ensures { λ r. ⌜ Tried n (now (room .entry)) (now (room .exit)) (leafClaim (take n (now (room .entry)) ++ now (suffix .entry)) (held (now (m .entry)) .groups)) r ⌝ }
-{
-    put_part(room, n, &suffix[..]);
-    let end = n + suffix.len();
-    claim_of(m, &room[..end])
-}
-
-// An earlier candidate's claim, or where that is absent the one with this suffix.
-fn or_behind(room: &mut [u8], m: &[u8], earlier: Claim, n: usize, suffix: &[u8]) -> Claim
-    requires { ⌜ Good (now m) × Bare (take n (now room)) × Bare (now suffix) × (n + length (now suffix) ≤ length (now room)) × (length (now room) ≤ 4119) ⌝ }
-    ensures { λ r. ⌜ Tried n (now (room .entry)) (now (room .exit)) (orLater (claim earlier) (leafClaim (take n (now (room .entry)) ++ now (suffix .entry)) (held (now (m .entry)) .groups))) r ⌝ }
-{
-    if earlier == ABSENT {
-        return claim_behind(room, m, n, suffix);
-    }
-    earlier
-}
+ghost use Rattle.vrf_cache.specs.Resolve.{Bare, decides, firstOf, withToggle, byAlias};
 
 // The group that a claim names, if it names one.
 fn claimed(c: Claim) -> Entry
@@ -74,43 +54,6 @@ fn decides(c: Claim) -> bool
     c != ABSENT
 }
 
-// The first claim among a name's two longer leaves. The name is written into the room once for both.
-fn longer_claims(room: &mut [u8], m: &[u8], name: &[u8]) -> Claim
-    requires { ⌜ Good (now m) × Bare (now name) × (length (now name) + 9 ≤ length (now room)) × (length (now room) ≤ 4119) ⌝ }
-    ensures { λ r. ⌜ claim r ≡ longerClaim (held (now (m .entry)) .groups) (now (name .entry)) ⌝ }
-{
-    put_part(room, 0, &name[..]);
-    let component = claim_behind(room, m, name.len(), b"Component");
-    or_behind(room, m, component, name.len(), b"_C")
-}
-
-fn longer_short(m: &[u8], name: &[u8]) -> Claim
-    requires { ⌜ Good (now m) × Bare (now name) × (length (now name) ≤ 105) ⌝ }
-    ensures { λ r. ⌜ claim r ≡ longerClaim (held (now (m .entry)) .groups) (now (name .entry)) ⌝ }
-{
-    let mut room = [0u8; 128];
-    longer_claims(&mut room, m, name)
-}
-
-fn longer_long(m: &[u8], name: &[u8]) -> Claim
-    requires { ⌜ Good (now m) × Bare (now name) × (length (now name) ≤ 4096) ⌝ }
-    ensures { λ r. ⌜ claim r ≡ longerClaim (held (now (m .entry)) .groups) (now (name .entry)) ⌝ }
-{
-    let mut room = [0u8; 4119];
-    longer_claims(&mut room, m, name)
-}
-
-// The same, in a small room where the name is short: a room is cleared before it is written.
-fn longer(m: &[u8], name: &[u8]) -> Claim
-    requires { ⌜ Good (now m) × Bare (now name) × (length (now name) ≤ 4096) ⌝ }
-    ensures { λ r. ⌜ claim r ≡ longerClaim (held (now (m .entry)) .groups) (now (name .entry)) ⌝ }
-{
-    if name.len() <= 105 {
-        return longer_short(m, name);
-    }
-    longer_long(m, name)
-}
-
 // The group whose path ends in a bare name, or else in the name with `Component` or with `_C` behind it.
 pub fn unique_leaf_match(m: &[u8], name: &[u8]) -> Entry
     requires { ⌜ Good (now m) × (length (now name) ≤ 4096) ⌝ }
@@ -119,49 +62,22 @@ pub fn unique_leaf_match(m: &[u8], name: &[u8]) -> Entry
     if has_path_separator(name) {
         return Entry::Nowhere;
     }
-    let itself = claim_of(m, &name[..]);
-    if decides(itself) {
-        return claimed(itself);
-    }
-    claimed(longer(m, name))
+    claimed(claim_of(m, name, leaf_base(name), b"", b"Component", b"_C"))
 }
 
-// The first claim among a stem's three leaves. The stem is written into the room once for all.
-fn cnc_claims(room: &mut [u8], m: &[u8], stem: &[u8]) -> Claim
-    requires { ⌜ Good (now m) × Bare (now stem) × (length (now stem) + 23 ≤ length (now room)) × (length (now room) ≤ 4119) ⌝ }
-    ensures { λ r. ⌜ claim r ≡ firstOf (held (now (m .entry)) .groups) (stemLeaves (now (stem .entry))) ⌝ }
-{
-    put_part(room, 0, &stem[..]);
-    let plain = claim_behind(room, m, stem.len(), b"_ClassNetCache");
-    let component = or_behind(room, m, plain, stem.len(), b"Component_ClassNetCache");
-    or_behind(room, m, component, stem.len(), b"_C_ClassNetCache")
-}
-
-fn cnc_short(m: &[u8], stem: &[u8]) -> Claim
-    requires { ⌜ Good (now m) × Bare (now stem) × (length (now stem) ≤ 105) ⌝ }
-    ensures { λ r. ⌜ claim r ≡ firstOf (held (now (m .entry)) .groups) (stemLeaves (now (stem .entry))) ⌝ }
-{
-    let mut room = [0u8; 128];
-    cnc_claims(&mut room, m, stem)
-}
-
-fn cnc_long(m: &[u8], stem: &[u8]) -> Claim
-    requires { ⌜ Good (now m) × Bare (now stem) × (length (now stem) ≤ 4096) ⌝ }
-    ensures { λ r. ⌜ claim r ≡ firstOf (held (now (m .entry)) .groups) (stemLeaves (now (stem .entry))) ⌝ }
-{
-    let mut room = [0u8; 4119];
-    cnc_claims(&mut room, m, stem)
-}
-
-// The same, in a small room where the stem is short.
+// The first claim among a stem's three leaves.
 fn try_cnc_leaf_candidates(m: &[u8], stem: &[u8]) -> Claim
     requires { ⌜ Good (now m) × Bare (now stem) × (length (now stem) ≤ 4096) ⌝ }
     ensures { λ r. ⌜ claim r ≡ firstOf (held (now (m .entry)) .groups) (stemLeaves (now (stem .entry))) ⌝ }
 {
-    if stem.len() <= 105 {
-        return cnc_short(m, stem);
-    }
-    cnc_long(m, stem)
+    claim_of(
+        m,
+        stem,
+        class_base(stem),
+        b"_ClassNetCache",
+        b"Component_ClassNetCache",
+        b"_C_ClassNetCache",
+    )
 }
 
 // The ClassNetCache group of a bare instance name: of the first of its stems that has a claim.

@@ -1,6 +1,6 @@
 -- What the searches in texts need.
 use mathlib.Core.Path.{_≡_, refl, sym, ap, _∙_}
-use mathlib.Core.Bool.{Bool, true, false, not}
+use mathlib.Core.Bool.{Bool, true, false, not, _||_}
 use mathlib.Core.List.{List}
 use mathlib.Core.Option.{none}
 use Prim.Native.Nat.{ℕ, _-_, _≤_}
@@ -33,10 +33,13 @@ eight-told s t i = by (eqb (eight s i) (eight t i)) refl
     by true e = eqb-true (eight s i) (eight t i) e
     by false e = differ-eight s t i (eqb-false (eight s i) (eight t i) e)
 
--- what a comparison tells where it was the last of several
-pub differ-so : (s t : List ℕ) {P Q : Type 0} (r : Bool) → Differ s t P r → (P → Q) → Differ s t Q r
-differ-so s t true d f = d
-differ-so s t false d f = f d
+-- what four comparisons tell
+pub differ-four : (s t : List ℕ) {P Q R S T : Type 0} (x y z w : Bool) → Differ s t P x → Differ s t Q y → Differ s t R z → Differ s t S w → (P → Q → R → S → T) → Differ s t T (((x || y) || z) || w)
+differ-four s t true y z w a b c d f = a
+differ-four s t false true z w a b c d f = b
+differ-four s t false false true w a b c d f = c
+differ-four s t false false false true a b c d f = d
+differ-four s t false false false false a b c d f = f a b c d
 
 -- nothing stands below place 0
 pub last-ended : (b : ℕ) (t : List ℕ) (i : ℕ) → i ≤ 0 → lastBelow b t i ≡ none

@@ -33,6 +33,10 @@ abbrev pub Differ : List ℕ → List ℕ → Type 0 → Bool → Type 0
 Differ s t P true = same s t ≡ false
 Differ s t P false = P
 
+-- a text at the front of t, so many bytes long
+abbrev pub Front : List ℕ → List ℕ → ℕ → Type 0
+Front s t n = (take n t ≡ s) × (n ≤ length t)
+
 -- the key of the path t that is spelled so
 abbrev pub spelled : List ℕ → Key → Option (List ℕ)
 spelled t Itself = some t

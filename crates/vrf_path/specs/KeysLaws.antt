@@ -1,31 +1,75 @@
 -- Laws of keys: the aliases by cases, their lengths, and what is a key of a path.
 use mathlib.Core.Path.{_≡_, refl, sym, ap, _∙_}
-use mathlib.Core.Bool.{Bool, true, false, _||_, or-false, or-true}
+use mathlib.Core.Bool.{Bool, true, false, _||_, or-false}
 use mathlib.Core.Logic.{_⊎_, inl, inr, ⊎-elim}
-use mathlib.Core.List.{List, _∷_, _++_, Option·toList}
+use mathlib.Core.List.{List, [], _∷_, _++_, Option·toList}
 use mathlib.Core.Option.{Option, none, some}
-use Prim.Native.Nat.{ℕ, _+_, _<_, _≤_}
+use Prim.Native.Nat.{ℕ, zero, suc, _+_, _-_, _<_, _≤_}
 use native.Mathlib.Numerals.{add-one}
 use native.Mathlib.Omega.{arith}
 use lib.ListN.{length, getD, take, drop, drop-of-length-le, length-append, length-take, length-drop}
-use lib.Seq.{drop-cons}
+use lib.Seq.{drop-cons, drop-drop}
 use Rattle.vrf_path.specs.Text.{same, startsWith, firstFrom}
 use Rattle.vrf_path.specs.Keys.{isSeparator, hasSeparator, defaultPrefix, charactersRoot, charactersCore, coreSegment, defaultAlias, coreAliasAt, coreAlias, keys, isOneOf, hasKey, isThe}
 use Rattle.vrf_path.specs.TextLaws.{same-lengths, same-refl, same-true, starts-length, first-within}
 
 -- separators from a place on
-module _ (t : List ℕ) (i : ℕ) (h : i < length t) where
-  pub separator-here : isSeparator (getD t i 0) ≡ true → hasSeparator (drop i t) ≡ true
+module _ (t : List ℕ) (i : ℕ) where
+  pub separator-next : i < length t → hasSeparator (drop i t) ≡ (isSeparator (getD t i 0) || hasSeparator (drop (i + 1) t))
   unfolding hasSeparator
-  separator-here e = rw (drop-cons t i 0 h, e)
+  separator-next h = rw (add-one, drop-cons t i 0 h)
 
-  pub separator-later : isSeparator (getD t i 0) ≡ false → hasSeparator (drop i t) ≡ hasSeparator (drop (i + 1) t)
+  pub separator-nowhere : length t ≤ i → hasSeparator (drop i t) ≡ false
   unfolding hasSeparator
-  separator-later e = rw (add-one, drop-cons t i 0 h, e)
+  separator-nowhere h = rw (drop-of-length-le t h)
 
-pub separator-nowhere : (t : List ℕ) (i : ℕ) → length t ≤ i → hasSeparator (drop i t) ≡ false
+-- what is found first, or next, or later
+pub or-joined : {a b : Bool} (x y c : Bool) → a ≡ (x || b) → b ≡ (y || c) → a ≡ ((x || y) || c)
+or-joined true y c ea eb = ea
+or-joined false y c ea eb = ea ∙ eb
+
+pub four-next : (t : List ℕ) (i : ℕ) → i + 4 ≤ length t → {a b c d : Bool} → a ≡ isSeparator (getD t i 0) → b ≡ isSeparator (getD t (i + 1) 0)
+    → c ≡ isSeparator (getD t (i + 2) 0) → d ≡ isSeparator (getD t (i + 3) 0) → hasSeparator (drop i t) ≡ ((((a || b) || c) || d) || hasSeparator (drop (i + 4) t))
+four-next t i h {a} {b} {c} {d} ea eb ec ed =
+    let z2 : i + 1 + 1 ≡ i + 2 = omega arith in
+    let z3 : i + 2 + 1 ≡ i + 3 = omega arith in
+    let z4 : i + 3 + 1 ≡ i + 4 = omega arith in
+    or-joined ((a || b) || c) d _
+    (or-joined (a || b) c _
+    (or-joined a b _
+    (rw (← ea) at (separator-next t i (omega arith)))
+    (rw (← eb, z2) at (separator-next t (i + 1) (omega arith))))
+    (rw (← ec, z3) at (separator-next t (i + 2) (omega arith))))
+    (rw (← ed, z4) at (separator-next t (i + 3) (omega arith)))
+
+pub neither : (x y : Bool) → (x || y) ≡ false → (x ≡ false) × (y ≡ false)
+neither true y e = absurd (let z : _≡_ {A = ℕ} 0 1 = cc in omega arith)
+neither false y e = (refl, e)
+
+separators-drop : (n : ℕ) (t : List ℕ) → hasSeparator t ≡ false → hasSeparator (drop n t) ≡ false
 unfolding hasSeparator
-separator-nowhere t i h = rw (drop-of-length-le t h)
+separators-drop zero t h = h
+separators-drop (suc n) [] h = h
+separators-drop (suc n) (b ∷ t) h = separators-drop n t (neither (isSeparator b) (hasSeparator t) h .1)
+
+-- from place i on, the end of the text from a place p before it decides where none stands before i
+module _ (t : List ℕ) (i p j : ℕ) (hp : i ≤ p) (hj : p ≤ j) where
+  from-later : (a b : ℕ) → a ≤ b → hasSeparator (drop a t) ≡ false → hasSeparator (drop b t) ≡ false
+  from-later a b h e =
+      let behind : a + (b - a) ≡ b = omega arith in
+      ap hasSeparator (sym (drop-drop (b - a) a t ∙ ap (λ (k : ℕ). drop k t) behind)) ∙ separators-drop (b - a) (drop a t) e
+
+  pub separators-end : hasSeparator (drop i t) ≡ hasSeparator (drop j t) → (x : Bool) → hasSeparator (drop p t) ≡ x → hasSeparator (drop i t) ≡ x
+  separators-end before true e = by (hasSeparator (drop i t)) refl
+    where
+      by : (y : Bool) → hasSeparator (drop i t) ≡ y → y ≡ true
+      by true ey = refl
+      by false ey = sym (from-later i p hp ey) ∙ e
+  separators-end before false e = before ∙ from-later p j hj e
+
+  pub separators-or : (x y : Bool) → hasSeparator (drop i t) ≡ (x || hasSeparator (drop j t)) → hasSeparator (drop p t) ≡ y → hasSeparator (drop i t) ≡ (x || y)
+  separators-or true y e ey = e
+  separators-or false y e ey = separators-end e y ey
 
 -- the default alias by cases
 module _ (t : List ℕ) where
@@ -114,10 +158,6 @@ unfolding isThe
 the-true none k h = absurd (let z : _≡_ {A = ℕ} 0 1 = cc in omega arith)
 the-true (some s) k h = ap some (same-true s k h)
 
-the-some : {o : Option (List ℕ)} (k : List ℕ) → o ≡ some k → isThe o k ≡ true
-unfolding isThe
-the-some k e = rw e (same-refl k)
-
 module _ (t k : List ℕ) where
   pub has-cases : hasKey t k ≡ true → (t ≡ k) ⊎ ((defaultAlias t ≡ some k) ⊎ (coreAlias t ≡ some k))
   has-cases e = by (same t k) refl (isThe (defaultAlias t) k) refl (isThe (coreAlias t) k) refl
@@ -128,22 +168,3 @@ module _ (t k : List ℕ) where
       by false ex true ey z ez = inr (inl (the-true (defaultAlias t) k ey))
       by false ex false ey true ez = inr (inr (the-true (coreAlias t) k ez))
       by false ex false ey false ez = absurd (let n : _≡_ {A = ℕ} 0 1 = cc (sym (rw (ex, ey, ez) at (has-by-parts t k)) ∙ e) in omega arith)
-
-  pub has-itself : t ≡ k → hasKey t k ≡ true
-  has-itself e = has-by-parts t k ∙ rw (e, same-refl k)
-
-  pub has-default : defaultAlias t ≡ some k → hasKey t k ≡ true
-  has-default e = has-by-parts t k ∙ rw (the-some k e) (or-true (same t k))
-
-  pub has-core : coreAlias t ≡ some k → hasKey t k ≡ true
-  has-core e = has-by-parts t k ∙ rw (the-some k e, or-true (isThe (defaultAlias t) k)) (or-true (same t k))
-
-  -- a key is at most 9 bytes longer than the path
-  pub key-length : hasKey t k ≡ true → length k ≤ length t + 9
-  key-length e = ⊎-elim (λ h. omega (arith, ap length h)) (⊎-elim by-default by-core) (has-cases e)
-    where
-      by-default : defaultAlias t ≡ some k → length k ≤ length t + 9
-      by-default h = ⊎-elim (λ a. omega arith) (λ a. omega arith) (default-length t h)
-
-      by-core : coreAlias t ≡ some k → length k ≤ length t + 9
-      by-core h = ⊎-elim (λ a. omega arith) (λ a. omega arith) (core-length t h)

@@ -1,6 +1,6 @@
 -- Laws of leaves: by what the search for the last dot found, and what makes a text the leaf of a path.
 use mathlib.Core.Path.{_≡_, refl, sym, ap, _∙_}
-use mathlib.Core.Bool.{Bool, true, false, cond, _||_}
+use mathlib.Core.Bool.{Bool, true, false, cond}
 use mathlib.Core.List.{List, [], _∷_, _++_}
 use mathlib.Core.Option.{Option, none, some}
 use Prim.Native.Nat.{ℕ, zero, suc, _+_, _-_, _<_, _≤_}
@@ -11,6 +11,7 @@ use lib.ListN.{length, getD, take, drop, length-drop}
 use lib.Seq.{getD-drop}
 use Rattle.vrf_path.specs.Text.{lastBelow}
 use Rattle.vrf_path.specs.Keys.{isSeparator, hasSeparator}
+use Rattle.vrf_path.specs.KeysLaws.{neither}
 use Rattle.vrf_path.specs.Leaf.{leafAfter, leaf, Dotless}
 use Rattle.vrf_path.specs.TextLaws.{non-empty, all-empty, last-here}
 
@@ -40,10 +41,6 @@ in-order {P} a b f g = by (leb a b) refl
     by : (x : Bool) → leb a b ≡ x → P
     by true e = f (leb-true a b e)
     by false e = g (leb-false a b e)
-
-neither : (x y : Bool) → (x || y) ≡ false → (x ≡ false) × (y ≡ false)
-neither true y e = absurd (let z : _≡_ {A = ℕ} 0 1 = cc in omega arith)
-neither false y e = (refl, e)
 
 pub separatorless : (t : List ℕ) → hasSeparator t ≡ false → Dotless t
 unfolding hasSeparator isSeparator

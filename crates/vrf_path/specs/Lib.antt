@@ -4,6 +4,7 @@ pub mod Keys
 pub mod Leaf
 pub mod Toggle
 pub mod Stems
+pub mod Base
 pub mod Answers
 pub mod Examples
 pub mod TextLaws
@@ -11,4 +12,5 @@ pub mod KeysLaws
 pub mod LeafLaws
 pub mod ToggleLaws
 pub mod StemsLaws
+pub mod BaseLaws
 pub mod AnswersLaws

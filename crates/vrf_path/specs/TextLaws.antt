@@ -1,15 +1,15 @@
 -- Laws of texts: when two are the same, and how the searches go, place by place.
 use mathlib.Core.Path.{_≡_, refl, sym, ap, _∙_}
 use mathlib.Core.Bool.{Bool, true, false, cond, _&&_}
-use mathlib.Core.List.{List, [], _∷_}
+use mathlib.Core.List.{List, [], _∷_, _++_}
 use mathlib.Core.Option.{none, some}
 use Prim.Native.Nat.{ℕ, zero, suc, _+_, _-_, _*_, _^_, _<_, _≤_}
 use native.Mathlib.Numerals.{add-one}
 use native.Mathlib.Omega.{arith}
 use borrow.Author.Tests.{eq-eqb, ne-eqb, eqb-true}
 use lib.Dec.{eqb}
-use lib.ListN.{length, getD, take, drop, length-take, length-drop, drop-of-length-le}
-use lib.Seq.{drop-cons, drop-drop}
+use lib.ListN.{length, getD, take, drop, length-take, length-drop, length-append, drop-of-length-le}
+use lib.Seq.{drop-cons, drop-drop, drop-at, getD-drop, getD-append-add}
 use Rattle.vrf_path.specs.Text.{same, four, eight, startsWith, endsWith, firstFrom, lastBelow, nonEmpty}
 
 -- texts of different lengths differ
@@ -141,6 +141,36 @@ pub starts-other : (p t : List ℕ) (i : ℕ) → 0 < length p → i < length t 
 unfolding startsWith same
 starts-other [] t i h k ne = absurd (omega arith)
 starts-other (q ∷ p) t i h k ne = rw (drop-cons t i 0 k, ne-eqb (getD t i 0) q ne)
+
+pub ends-length : (p t : List ℕ) → endsWith p t ≡ true → length p ≤ length t
+unfolding endsWith
+ends-length p t e = omega (arith, rw length-drop at (ap length (same-true (drop (length t - length p) t) p e)))
+
+-- nor does one end with it whose last byte is another
+pub ends-other : (p t : List ℕ) → 0 < length p → (getD t (length t - 1) 0 ≡ getD p (length p - 1) 0 → ⊥) → endsWith p t ≡ false
+unfolding endsWith
+ends-other p t h ne = by (same (drop (length t - length p) t) p) refl
+  where
+    by : (x : Bool) → same (drop (length t - length p) t) p ≡ x → x ≡ false
+    by false e = refl
+    by true e =
+        let tail : drop (length t - length p) t ≡ p = same-true (drop (length t - length p) t) p e in
+        let size : length t - (length t - length p) ≡ length p = sym (length-drop (length t - length p) t) ∙ ap length tail in
+        let last : length t - length p + (length p - 1) ≡ length t - 1 = omega arith in
+        absurd (ne (ap (λ (i : ℕ). getD t i 0) (sym last) ∙ sym (getD-drop (length t - length p) t (length p - 1) 0) ∙ ap (λ (u : List ℕ). getD u (length p - 1) 0) tail))
+
+-- what stands behind a text is its end, and no text is that has another last byte
+module _ (s q : List ℕ) where
+  pub ends-behind : endsWith q (s ++ q) ≡ true
+  unfolding endsWith
+  ends-behind =
+      let before : length (s ++ q) - length q ≡ length s = rw length-append (omega arith) in
+      rw (before, drop-at s q (length s) refl) (same-refl q)
+
+  pub ends-not : (p : List ℕ) → 0 < length p → 0 < length q → (getD q (length q - 1) 0 ≡ getD p (length p - 1) 0 → ⊥) → endsWith p (s ++ q) ≡ false
+  ends-not p hp hq ne =
+      let last : length (s ++ q) - 1 ≡ length s + (length q - 1) = rw length-append (omega arith) in
+      ends-other p (s ++ q) hp (λ e. ne (sym (getD-append-add s q (length q - 1) 0) ∙ ap (λ (i : ℕ). getD (s ++ q) i 0) (sym last) ∙ e))
 
 -- the search for p, from a place on
 module _ (p t : List ℕ) (i : ℕ) where

@@ -1,14 +1,16 @@
 // Path keys, leaves and stems of document 01. Names follow path.rs and resolve.rs.
 ghost use mathlib.Core.Path.{_≡_};
-ghost use mathlib.Core.Bool.{true};
+ghost use mathlib.Core.Bool.{true, _||_};
 ghost use Prim.Native.Nat.{_+_, _-_, _^_, _<_, _≤_};
 ghost use lib.ListN.{length, getD, drop};
 ghost use Rattle.vrf_path.specs.Text.{same, four, eight, startsWith, endsWith, firstFrom, lastBelow};
 ghost use Rattle.vrf_path.specs.Keys.{isSeparator, hasSeparator, defaultAlias, coreAlias, hasKey, isThe};
 ghost use Rattle.vrf_path.specs.Stems.{isDigit, isCapital, digitsFrom, digitStems, capitalStems, stems};
+ghost use Rattle.vrf_path.specs.Base.{cutAt, classBase, leafBase};
 ghost use Rattle.vrf_path.specs.Answers.{
   place,
   Differ,
+  Front,
   spelled,
   keyBytes,
   absent,
@@ -112,21 +114,15 @@ fn eight_differ(a: &[u8], b: &[u8], i: usize) -> bool
     eight(a, i) != eight(b, i)
 }
 
-// Whether 32 bytes of two texts, from i on, differ.
+// Whether 32 bytes of two texts, from i on, differ. All words are compared, with no branch between them.
 fn four_differ(a: &[u8], b: &[u8], i: usize) -> bool
     requires { ⌜ (i + 32 ≤ length (now a)) × (i + 32 ≤ length (now b)) ⌝ }
     ensures { λ r. ⌜ Differ (now (a .entry)) (now (b .entry)) (same (drop i (now (a .entry))) (drop i (now (b .entry))) ≡ same (drop (i + 32) (now (a .entry))) (drop (i + 32) (now (b .entry)))) r ⌝ }
 {
-    if eight_differ(a, b, i) {
-        return true;
-    }
-    if eight_differ(a, b, i + 8) {
-        return true;
-    }
-    if eight_differ(a, b, i + 16) {
-        return true;
-    }
-    eight_differ(a, b, i + 24)
+    eight_differ(a, b, i)
+        | eight_differ(a, b, i + 8)
+        | eight_differ(a, b, i + 16)
+        | eight_differ(a, b, i + 24)
 }
 
 // Whether the last 32 bytes of two texts of one length differ, or all if there are fewer: four words, which then overlap.
@@ -135,16 +131,10 @@ fn last_differ(a: &[u8], b: &[u8]) -> bool
     ensures { λ r. ⌜ Differ (now (a .entry)) (now (b .entry)) (same (drop (length (now (a .entry)) - 32) (now (a .entry))) (drop (length (now (a .entry)) - 32) (now (b .entry))) ≡ true) r ⌝ }
 {
     let n = a.len();
-    if eight_differ(a, b, n - 8) {
-        return true;
-    }
-    if eight_differ(a, b, left(n, 16)) {
-        return true;
-    }
-    if eight_differ(a, b, left(n, 24)) {
-        return true;
-    }
-    eight_differ(a, b, left(n, 32))
+    eight_differ(a, b, n - 8)
+        | eight_differ(a, b, left(n, 16))
+        | eight_differ(a, b, left(n, 24))
+        | eight_differ(a, b, left(n, 32))
 }
 
 // Whether two texts of one length, at least eight bytes, are the same: 32 bytes a turn, and then the last 32.
@@ -238,17 +228,27 @@ fn rfind(text: &[u8], b: u8, n: usize) -> Found
 fn is_separator(b: u8) -> bool
     ensures { λ r. ⌜ r ≡ isSeparator b ⌝ }
 {
-    if b == b'/' {
-        return true;
-    }
-    if b == b'.' {
-        return true;
-    }
-    b == b':'
+    (b == b'/') | ((b == b'.') | (b == b':'))
 }
 
-// Whether a text is a qualified path and no bare name.
-pub fn has_path_separator(text: &[u8]) -> bool
+// Whether one of four bytes, from i on, is a separator.
+fn four_separators(t: &[u8], i: usize) -> bool
+    requires { ⌜ i + 4 ≤ length (now t) ⌝ }
+    ensures { λ r. ⌜ hasSeparator (drop i (now (t .entry))) ≡ (r || hasSeparator (drop (i + 4) (now (t .entry)))) ⌝ }
+{
+    is_separator(t[i]) | is_separator(t[i + 1]) | is_separator(t[i + 2]) | is_separator(t[i + 3])
+}
+
+// Of eight bytes. All are tested, with no branch between them: one load and a few comparisons.
+fn eight_separators(t: &[u8], i: usize) -> bool
+    requires { ⌜ i + 8 ≤ length (now t) ⌝ }
+    ensures { λ r. ⌜ hasSeparator (drop i (now (t .entry))) ≡ (r || hasSeparator (drop (i + 8) (now (t .entry)))) ⌝ }
+{
+    four_separators(t, i) | four_separators(t, i + 4)
+}
+
+// Whether a text has a separator, byte by byte.
+fn few_separators(text: &[u8]) -> bool
     ensures { λ r. ⌜ r ≡ hasSeparator (now (text .entry)) ⌝ }
 {
     let mut i = 0;
@@ -259,6 +259,41 @@ pub fn has_path_separator(text: &[u8]) -> bool
         i += 1;
     }
     false
+}
+
+// Whether the last 16 bytes of a text have one, or all if there are fewer: two words, which then overlap.
+fn last_separators(t: &[u8]) -> bool
+    requires { ⌜ 8 ≤ length (now t) ⌝ }
+    ensures { λ r. ⌜ hasSeparator (drop (length (now (t .entry)) - 16) (now (t .entry))) ≡ r ⌝ }
+{
+    let n = t.len();
+    eight_separators(t, left(n, 16)) | eight_separators(t, n - 8)
+}
+
+// Whether a text of at least eight bytes has a separator: 16 bytes a turn, and then the last 16.
+fn many_separators(text: &[u8]) -> bool
+    requires { ⌜ 8 ≤ length (now text) ⌝ }
+    ensures { λ r. ⌜ r ≡ hasSeparator (now (text .entry)) ⌝ }
+{
+    let n = text.len();
+    let mut i = 0;
+    while 16 < n - i {
+        if eight_separators(text, i) | eight_separators(text, i + 8) {
+            return true;
+        }
+        i += 16;
+    }
+    last_separators(text)
+}
+
+// Whether a text is a qualified path and no bare name.
+pub fn has_path_separator(text: &[u8]) -> bool
+    ensures { λ r. ⌜ r ≡ hasSeparator (now (text .entry)) ⌝ }
+{
+    if text.len() < 8 {
+        return few_separators(text);
+    }
+    many_separators(text)
 }
 
 // The default alias: the `Default__` prefix toggled.
@@ -462,6 +497,49 @@ pub fn strip_class_net_cache(key: &[u8]) -> Toggle
         return Toggle::Absent;
     }
     Toggle::Appended
+}
+
+// The last byte of a text, 0 where it is empty.
+fn last_byte(t: &[u8]) -> u8
+    ensures { λ r. ⌜ r ≡ getD (now (t .entry)) (length (now (t .entry)) - 1) 0 ⌝ }
+{
+    if t.len() == 0 {
+        return 0;
+    }
+    t[t.len() - 1]
+}
+
+// How many bytes a text has before p, where it ends with p; all where it does not.
+fn cut_at(t: &[u8], p: &[u8]) -> usize
+    ensures { λ r. ⌜ Front (cutAt (now (p .entry)) (now (t .entry))) (now (t .entry)) r ⌝ }
+{
+    if ends_with(t, p) {
+        return t.len() - p.len();
+    }
+    t.len()
+}
+
+// How many bytes of a class's name stand before a closing `Component` or `_C`: its base. The last byte tells which of them it can be.
+pub fn class_base(t: &[u8]) -> usize
+    ensures { λ r. ⌜ Front (classBase (now (t .entry))) (now (t .entry)) r ⌝ }
+{
+    match last_byte(t) {
+        b't' => cut_at(t, b"Component"),
+        b'C' => cut_at(t, b"_C"),
+        _ => t.len(),
+    }
+}
+
+// How many bytes of a leaf are its base. The leaves that a name is tried as have one base, the name, but for the first where it has such
+// an end itself.
+pub fn leaf_base(l: &[u8]) -> usize
+    ensures { λ r. ⌜ Front (leafBase (now (l .entry))) (now (l .entry)) r ⌝ }
+{
+    if last_byte(l) == b'e' {
+        let n = cut_at(l, b"_ClassNetCache");
+        return class_base(&l[..n]);
+    }
+    class_base(l)
 }
 
 // An ASCII digit.

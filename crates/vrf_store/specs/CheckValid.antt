@@ -15,7 +15,7 @@ use Rattle.vrf_model.specs.Book.{Allowances}
 use Rattle.vrf_table.specs.ChainLaws.{by-equal}
 use Rattle.vrf_table.specs.Index.{Latest, Claims}
 use Rattle.vrf_table.specs.Table.{text}
-use Rattle.vrf_table.specs.TextIndex.{numbered, pathHit, findPath, leafHit, claimOf, textStart}
+use Rattle.vrf_table.specs.TextIndex.{textStart, numbered, pathHit, findPath, leafHit, leafStart, claimOf}
 use Rattle.vrf_store.specs.UpToLaws.{and-true}
 use Rattle.vrf_store.specs.Layout
 use Rattle.vrf_store.specs.Store.{Header, Store, allowancesOf, headerOf, halfAt, words, storeBy, storeOf}
@@ -44,9 +44,9 @@ module _ (s : Store) where
 
   -- the test of the leaves says that each is claimed rightly
   leaves-iff : ((e : ℕ) → e < s .header .groups → leafOk s e ≡ true)
-      ↔ Claims (leafHit (s .groupRows) (s .texts)) (word (s .leafLinks)) (textStart (s .leafHeads) (Layout.leafBuckets (s .header .allowed))) (s .header .groups)
+      ↔ Claims (leafHit (s .groupRows) (s .texts)) (word (s .leafLinks)) (leafStart (s .leafHeads) (Layout.leafBuckets (s .header .allowed))) (s .header .groups)
   unfolding leafOk claimOf leafHit
-  leaves-iff = settle-iff (λ e. leaf (text (s .groupRows) (s .texts) e)) (word (s .leafLinks)) (textStart (s .leafHeads) (Layout.leafBuckets (s .header .allowed))) (s .header .groups)
+  leaves-iff = settle-iff (λ e. leaf (text (s .groupRows) (s .texts) e)) (word (s .leafLinks)) (leafStart (s .leafHeads) (Layout.leafBuckets (s .header .allowed))) (s .header .groups)
 
   pub ok-valid : Shaped s → GoodHeader (s .header) → storeOk s ≡ true → Valid s
   unfolding storeOk guidOk is32 groupOk fieldOk slotOk

@@ -4,12 +4,12 @@ use mathlib.Core.List.{List}
 use Prim.Native.Nat.{ℕ, _+_, _*_, _^_, _<_, _≤_}
 use native.Mathlib.Omega.{arith}
 use lib.ListN.{length}
-use Rattle.vrf_path.specs.Leaf.{Dotless}
 use Rattle.vrf_table.specs.Table.{at, len}
-use Rattle.vrf_table.specs.Answers.{Texts}
+use Rattle.vrf_table.specs.Answers.{Suffixed, Texts}
 use Rattle.vrf_store.specs.Layout
 use Rattle.vrf_store.specs.Store.{Store}
 use Rattle.vrf_store.specs.Valid.{GoodTable, Valid}
+use Rattle.vrf_store.specs.Answers.{Leaves}
 use Rattle.vrf_store.specs.CheckValid.{valid-fits}
 
 module _ {s : Store} (v : Valid s) where
@@ -56,5 +56,5 @@ module _ {s : Store} (v : Valid s) where
     pub path-walk : {b : ℕ} → b ≡ Layout.pathBuckets (s .header .allowed) → {links heads : List ℕ} {k : ℕ} → links ≡ s .pathLinks → heads ≡ s .pathHeads → k < 2 ^ 31 → (24 * n ≤ length r) × (12 * n ≤ length links) × (4 * b ≤ length heads) × (0 < b) × (n ≤ 100000) × Texts r x n × (k < 2 ^ 31)
     path-walk eb el eh h = let lr = ap length er in let ll = ap length el in let lh = ap length eh in (omega arith, omega arith, omega arith, omega arith, omega arith, group-texts, h)
 
-    pub leaf-walk : (l : List ℕ) {b : ℕ} → b ≡ Layout.leafBuckets (s .header .allowed) → {links heads : List ℕ} → Dotless l → links ≡ s .leafLinks → heads ≡ s .leafHeads → length l < 2 ^ 31 → Dotless l × (24 * n ≤ length r) × (4 * n ≤ length links) × (4 * b ≤ length heads) × (0 < b) × (n ≤ 100000) × Texts r x n × (length l < 2 ^ 31)
-    leaf-walk l eb d el eh h = let lr = ap length er in let ll = ap length el in let lh = ap length eh in (d, omega arith, omega arith, omega arith, omega arith, omega arith, group-texts, h)
+    pub leaf-walk : {name : List ℕ} {k : ℕ} {a b c : List ℕ} → Leaves name k a b c → {links : List ℕ} → links ≡ s .leafLinks → Suffixed name a × Suffixed name b × Suffixed name c × (24 * n ≤ length r) × (4 * n ≤ length links) × (n ≤ 100000) × Texts r x n
+    leaf-walk l el = let lr = ap length er in let ll = ap length el in (l .first, l .second, l .third, omega arith, omega arith, omega arith, group-texts)

@@ -9,14 +9,14 @@ use Rattle.vrf_path.specs.Leaf.{leaf}
 use Rattle.vrf_model.specs.Lawful.{Is32}
 use Rattle.vrf_table.specs.Index.{Latest, Claims}
 use Rattle.vrf_table.specs.Table.{key, link, at, len, info, text, keyHit, keyBucket, keyStart}
-use Rattle.vrf_table.specs.TextIndex.{numbered, pathHit, leafHit, textStart}
+use Rattle.vrf_table.specs.TextIndex.{textBucket, textStart, numbered, pathHit, leafHit, leafBucket, leafStart, claimOf}
 use Rattle.vrf_store.specs.Layout
 use Rattle.vrf_store.specs.Store.{Store, allowancesOf, countersOf, storeOf}
 use Rattle.vrf_store.specs.Check.{textSum}
 use Rattle.vrf_store.specs.Good.{Enough}
 use Rattle.vrf_store.specs.Valid.{Shaped, GoodHeader, GoodText, GoodTable, GoodSlotKey}
 use Rattle.vrf_store.specs.MemoryLaws.{withGroupTable, withPathIndex, withLeafIndex}
-use Rattle.vrf_store.specs.TextMoves.{bucketOf, linked, headed, Below}
+use Rattle.vrf_store.specs.TextMoves.{bucketOf, joinedBy, linked, headed, Below}
 
 -- ---- valid, in two halves
 
@@ -24,7 +24,7 @@ use Rattle.vrf_store.specs.TextMoves.{bucketOf, linked, headed, Below}
 pub record Indexed (s : Store) (n : ℕ) : Type 0 where
   pub keys : Latest (keyHit (s .groupRows)) (link (s .groupRows)) (keyStart (s .groupHeads) (Layout.groupBuckets (s .header .allowed))) n
   pub paths : Latest (pathHit (s .groupRows) (s .texts)) (word (s .pathLinks)) (textStart (s .pathHeads) (Layout.pathBuckets (s .header .allowed))) (3 * n)
-  pub leaves : Claims (leafHit (s .groupRows) (s .texts)) (word (s .leafLinks)) (textStart (s .leafHeads) (Layout.leafBuckets (s .header .allowed))) n
+  pub leaves : Claims (leafHit (s .groupRows) (s .texts)) (word (s .leafLinks)) (leafStart (s .leafHeads) (Layout.leafBuckets (s .header .allowed))) n
 
 -- all is valid but for these indexes, of which nothing is said
 pub record Unindexed (s : Store) : Type 0 where
@@ -56,10 +56,10 @@ abbrev pub keyOf : Store → ℕ → Option ℕ
 keyOf s g = some (keyBucket (Layout.groupBuckets (s .header .allowed)) (key (s .groupRows) g))
 
 abbrev pub pathOf : Store → ℕ → ℕ → Option ℕ
-pathOf s g j = bucketOf (Layout.pathBuckets (s .header .allowed)) (numbered (text (s .groupRows) (s .texts) g) j)
+pathOf s g j = bucketOf (textBucket (Layout.pathBuckets (s .header .allowed))) (numbered (text (s .groupRows) (s .texts) g) j)
 
 abbrev pub leafOf : Store → ℕ → Option ℕ
-leafOf s g = bucketOf (Layout.leafBuckets (s .header .allowed)) (leaf (text (s .groupRows) (s .texts) g))
+leafOf s g = joinedBy (claimOf (s .groupRows) (s .texts) (s .leafLinks) (s .leafHeads) (Layout.leafBuckets (s .header .allowed)) g) (leafBucket (Layout.leafBuckets (s .header .allowed))) (leaf (text (s .groupRows) (s .texts) g))
 
 unfoldable pub indexGroup : Store → ℕ → Store
 indexGroup s g = pushLeaf (pushPath (pushPath (pushPath (pushKey s g (keyOf s g)) (3 * g) (pathOf s g 0)) (3 * g + 1) (pathOf s g 1)) (3 * g + 2) (pathOf s g 2)) g (leafOf s g)
@@ -86,13 +86,13 @@ pub record Relinked (s s′ : Store) : Type 0 where
   pub leafLinks : length (s′ .leafLinks) ≡ length (s .leafLinks)
   pub leafHeads : length (s′ .leafHeads) ≡ length (s .leafHeads)
 
--- group g of a memory can join the indexes: there is such a row, and its text lies in the half of the texts
+-- group g of a memory can join the indexes: there is such a row, and its text and those before it lie in the half of the texts
 pub record Indexable (m : List ℕ) (g : ℕ) : Type 0 where
   pub enough : Enough m
   pub few : allowancesOf m .groups ≤ 100000
   pub low : g < allowancesOf m .groups
-  pub within : at (storeOf m .groupRows) g + len (storeOf m .groupRows) g ≤ allowancesOf m .text
-  pub short : len (storeOf m .groupRows) g ≤ 4096
+  pub within : (e : ℕ) → e ≤ g → at (storeOf m .groupRows) e + len (storeOf m .groupRows) e ≤ allowancesOf m .text
+  pub short : (e : ℕ) → e ≤ g → len (storeOf m .groupRows) e ≤ 4096
 
 -- entry e, of n for each group, can be put at the front of the chain of a bucket, of which there are b
 pub record Pushable (m : List ℕ) (n b e : ℕ) (o : Option ℕ) : Type 0 where

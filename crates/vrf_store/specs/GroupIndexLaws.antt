@@ -2,7 +2,7 @@
 use mathlib.Core.Path.{_≡_, refl, sym, ap, subst, _∙_}
 use mathlib.Core.Logic.{_≢_}
 use mathlib.Core.List.{List}
-use mathlib.Core.Option.{Option}
+use mathlib.Core.Option.{Option, none, some}
 use Prim.Native.Nat.{ℕ, suc, _+_, _*_, _^_, _<_, _≤_}
 use native.Mathlib.Omega.{arith}
 use lib.ListN.{length}
@@ -13,18 +13,19 @@ use Rattle.vrf_words.specs.WordsLaws.{length-setWord, word-setWord-same, word-s
 use Rattle.vrf_path.specs.Keys.{isThe}
 use Rattle.vrf_path.specs.Leaf.{leaf}
 use Rattle.vrf_model.specs.Book.{Allowances}
+use Rattle.vrf_model.specs.Lookup.{Claim, absent, ambiguous, claimed}
 use Rattle.vrf_table.specs.Chain.{walk, lastBelow}
 use Rattle.vrf_table.specs.ChainLaws.{by-equal}
 use Rattle.vrf_table.specs.Index.{Latest, Claims, claimBelow, claimWalk, claimFrom}
 use Rattle.vrf_table.specs.IndexLaws.{Chained, kept, newest, latest-grown}
 use Rattle.vrf_table.specs.Table.{key, link, at, len, info, text, keyHit, keyBucket, keyStart}
 use Rattle.vrf_table.specs.TableLaws.{keyBucket-lt}
-use Rattle.vrf_table.specs.TextIndex.{numbered, pathHit, leafHit, textStart}
+use Rattle.vrf_table.specs.TextIndex.{textBucket, textStart, numbered, pathHit, leafHit, leafBucket, leafStart, claimOf}
 use Rattle.vrf_store.specs.Layout
 use Rattle.vrf_store.specs.Store.{Store}
 use Rattle.vrf_store.specs.Valid.{Shaped, Valid}
 use Rattle.vrf_store.specs.Lookups.{path-entry}
-use Rattle.vrf_store.specs.TextMoves.{same-paths, same-leaves, bucketOf, linked, headed, length-linked, NewEntry, latest-entry, claims-entry, next-entry}
+use Rattle.vrf_store.specs.TextMoves.{same-paths, same-leaves, bucketOf, linked, headed, length-linked, by-text, by-base, unlessShared, joinedBy, NewEntry, latest-entry, claims-entry, claims-shared, next-entry}
 use Rattle.vrf_store.specs.GroupIndex.{Indexed, Unindexed, pushKey, pushPath, pushLeaf, indexGroup, SameRows}
 
 -- ---- the two halves of valid
@@ -141,22 +142,22 @@ module _ (r x l0 h0 : List ℕ) (b n : ℕ) (room : 12 * n + 12 ≤ length l0) (
   key-of j = numbered (text r x n) j
 
   abbrev l1 : List ℕ
-  l1 = linked l0 h0 (3 * n) (bucketOf b (key-of 0))
+  l1 = linked l0 h0 (3 * n) (bucketOf (textBucket b) (key-of 0))
 
   abbrev h1 : List ℕ
-  h1 = headed h0 (3 * n + 1) (bucketOf b (key-of 0))
+  h1 = headed h0 (3 * n + 1) (bucketOf (textBucket b) (key-of 0))
 
   abbrev l2 : List ℕ
-  l2 = linked l1 h1 (3 * n + 1) (bucketOf b (key-of 1))
+  l2 = linked l1 h1 (3 * n + 1) (bucketOf (textBucket b) (key-of 1))
 
   abbrev h2 : List ℕ
-  h2 = headed h1 (3 * n + 1 + 1) (bucketOf b (key-of 1))
+  h2 = headed h1 (3 * n + 1 + 1) (bucketOf (textBucket b) (key-of 1))
 
   abbrev l3 : List ℕ
-  l3 = linked l2 h2 (3 * n + 2) (bucketOf b (key-of 2))
+  l3 = linked l2 h2 (3 * n + 2) (bucketOf (textBucket b) (key-of 2))
 
   abbrev h3 : List ℕ
-  h3 = headed h2 (3 * n + 2 + 1) (bucketOf b (key-of 2))
+  h3 = headed h2 (3 * n + 2 + 1) (bucketOf (textBucket b) (key-of 2))
 
   entry : (e j : ℕ) → e ≡ 3 * n + j → j < 3 → (t : List ℕ) → pathHit r x t e ≡ isThe (key-of j) t
   entry e j q k t = ap (pathHit r x t) q ∙ path-entry r x t n j k
@@ -166,23 +167,39 @@ module _ (r x l0 h0 : List ℕ) (b n : ℕ) (room : 12 * n + 12 ≤ length l0) (
       let e0 = entry (3 * n) 0 (omega arith) (omega arith) in
       let e1 = entry (3 * n + 1) 1 refl (omega arith) in
       let e2 = entry (3 * n + 2) 2 refl (omega arith) in
-      let w0 : NewEntry l0 h0 b (3 * n) = record { fits = omega arith; buckets = buckets; some-bucket = some-bucket; few = omega arith; bytes = bytes } in
-      let w1 = next-entry (pathHit r x) l0 h0 b (3 * n) w0 (key-of 0) e0 (omega arith) (omega arith) in
+      let go = by-text b some-bucket in
+      let w0 : NewEntry l0 h0 b (3 * n) = record { fits = omega arith; buckets = buckets; few = omega arith; bytes = bytes } in
+      let w1 = next-entry go (pathHit r x) l0 h0 (3 * n) w0 (key-of 0) e0 (omega arith) (omega arith) in
       let two : 3 * n + 1 + 1 ≡ 3 * n + 2 = omega arith in
-      let w2 = subst (λ (e : ℕ). NewEntry l2 h2 b e) two (next-entry (pathHit r x) l1 h1 b (3 * n + 1) w1 (key-of 1) e1 (omega (arith, length-linked l0 h0 (3 * n) (w0 .fits) (bucketOf b (key-of 0)))) (omega arith)) in
+      let w2 = subst (λ (e : ℕ). NewEntry l2 h2 b e) two (next-entry go (pathHit r x) l1 h1 (3 * n + 1) w1 (key-of 1) e1 (omega (arith, length-linked l0 h0 (3 * n) (w0 .fits) (bucketOf (textBucket b) (key-of 0)))) (omega arith)) in
       let one : suc (3 * n) ≡ 3 * n + 1 = omega arith in
       let next : suc (3 * n + 1) ≡ 3 * n + 2 = omega arith in
       let three : suc (3 * n + 2) ≡ 3 * suc n = omega arith in
-      let k1 = subst (λ (e : ℕ). Latest (pathHit r x) (word l1) (textStart h1 b) e) one (latest-entry (pathHit r x) l0 h0 b (3 * n) w0 (key-of 0) e0 known) in
-      let k2 = subst (λ (e : ℕ). Latest (pathHit r x) (word l2) (textStart h2 b) e) next (latest-entry (pathHit r x) l1 h1 b (3 * n + 1) w1 (key-of 1) e1 k1) in
-      subst (λ (e : ℕ). Latest (pathHit r x) (word l3) (textStart h3 b) e) three (latest-entry (pathHit r x) l2 h2 b (3 * n + 2) w2 (key-of 2) e2 k2)
+      let k1 = subst (λ (e : ℕ). Latest (pathHit r x) (word l1) (textStart h1 b) e) one (latest-entry go (pathHit r x) l0 h0 (3 * n) w0 (key-of 0) e0 known) in
+      let k2 = subst (λ (e : ℕ). Latest (pathHit r x) (word l2) (textStart h2 b) e) next (latest-entry go (pathHit r x) l1 h1 (3 * n + 1) w1 (key-of 1) e1 k1) in
+      subst (λ (e : ℕ). Latest (pathHit r x) (word l3) (textStart h3 b) e) three (latest-entry go (pathHit r x) l2 h2 (3 * n + 2) w2 (key-of 2) e2 k2)
 
 -- ---- the leaf of group n
 
 module _ (r x links heads : List ℕ) (b n : ℕ) (fits : 4 * n + 4 ≤ length links) (buckets : 4 * b ≤ length heads) (some-bucket : 0 < b) (few : n + 1 < 2 ^ 32) (bytes : Bytes heads) where
-  claims-leaf : Claims (leafHit r x) (word links) (textStart heads b) n → Claims (leafHit r x) (word (linked links heads n (bucketOf b (leaf (text r x n))))) (textStart (headed heads (n + 1) (bucketOf b (leaf (text r x n)))) b) (suc n)
-  unfolding leafHit
-  claims-leaf = claims-entry (leafHit r x) links heads b n (record { fits = fits; buckets = buckets; some-bucket = some-bucket; few = few; bytes = bytes }) (leaf (text r x n)) (λ t. refl)
+  abbrev join : Option (List ℕ) → Option ℕ
+  join o = joinedBy (claimOf r x links heads b n) (leafBucket b) o
+
+  claims-leaf : Claims (leafHit r x) (word links) (leafStart heads b) n → Claims (leafHit r x) (word (linked links heads n (join (leaf (text r x n))))) (leafStart (headed heads (n + 1) (join (leaf (text r x n)))) b) (suc n)
+  unfolding leafHit joinedBy bucketOf unlessShared linked headed claimOf
+  claims-leaf known = go (leaf (text r x n)) (λ t. refl)
+    where
+      entry : (o : Option (List ℕ)) → ((t : List ℕ) → leafHit r x t n ≡ isThe o t) → Claims (leafHit r x) (word (linked links heads n (bucketOf (leafBucket b) o))) (leafStart (headed heads (n + 1) (bucketOf (leafBucket b) o)) b) (suc n)
+      entry o h = claims-entry (by-base b some-bucket) (leafHit r x) links heads n (record { fits = fits; buckets = buckets; few = few; bytes = bytes }) o h known
+
+      go : (o : Option (List ℕ)) → ((t : List ℕ) → leafHit r x t n ≡ isThe o t) → Claims (leafHit r x) (word (linked links heads n (join o))) (leafStart (headed heads (n + 1) (join o)) b) (suc n)
+      go none h = entry none h
+      go (some l) h = by (claimOf r x links heads b n l) refl
+        where
+          by : (c : Claim) → claimOf r x links heads b n l ≡ c → Claims (leafHit r x) (word (linked links heads n (unlessShared c (leafBucket b l)))) (leafStart (headed heads (n + 1) (unlessShared c (leafBucket b l))) b) (suc n)
+          by absent e = entry (some l) h
+          by (claimed i) e = entry (some l) h
+          by ambiguous e = claims-shared (leafHit r x) (word links) (leafStart heads b) n l h e known
 
 -- ---- all of them
 

@@ -10,7 +10,7 @@ use Rattle.vrf_path.specs.Leaf.{leaf}
 use Rattle.vrf_model.specs.Book.{Group, Allowances}
 use Rattle.vrf_table.specs.Table.{key, len, text}
 use Rattle.vrf_table.specs.TableLaws.{keyBucket-lt}
-use Rattle.vrf_table.specs.TextIndex.{numbered}
+use Rattle.vrf_table.specs.TextIndex.{numbered, claimOf}
 use Rattle.vrf_store.specs.UpTo.{upTo}
 use Rattle.vrf_store.specs.UpToLaws.{upTo-ext, sumBelow-ext}
 use Rattle.vrf_store.specs.Layout
@@ -18,7 +18,7 @@ use Rattle.vrf_store.specs.Store.{Store, guidAt, fieldAt, slotBy, groupB
 use Rattle.vrf_store.specs.Check.{textSum}
 use Rattle.vrf_store.specs.Valid.{Shaped}
 use Rattle.vrf_store.specs.TableMoves.{good-text}
-use Rattle.vrf_store.specs.TextMoves.{linked, Below, bucketOf-below, length-linked, length-headed}
+use Rattle.vrf_store.specs.TextMoves.{linked, Below, by-text, by-base, bucketOf-below, joinedBy-below, length-linked, length-headed}
 use Rattle.vrf_store.specs.GroupIndex.{Unindexed, pushKey, pushPath, pushLeaf, keyOf, pathOf, leafOf, indexGroup, SameRows, withLinks, Relinked}
 use Rattle.vrf_store.specs.GroupIndexLaws.{same-text, link-rows}
 
@@ -158,10 +158,10 @@ module _ (s : Store) (g : ℕ) where
   key-below = keyBucket-lt (Layout.groupBuckets a) (key (s .groupRows) g) (omega arith)
 
   pub path-below : (j : ℕ) → Below (Layout.pathBuckets a) (pathOf s g j)
-  path-below j = bucketOf-below (Layout.pathBuckets a) (numbered (text (s .groupRows) (s .texts) g) j) (omega arith)
+  path-below j = bucketOf-below (by-text (Layout.pathBuckets a) (omega arith)) (numbered (text (s .groupRows) (s .texts) g) j)
 
   pub leaf-below : Below (Layout.leafBuckets a) (leafOf s g)
-  leaf-below = bucketOf-below (Layout.leafBuckets a) (leaf (text (s .groupRows) (s .texts) g)) (omega arith)
+  leaf-below = joinedBy-below (claimOf (s .groupRows) (s .texts) (s .leafLinks) (s .leafHeads) (Layout.leafBuckets a) g) (by-base (Layout.leafBuckets a) (omega arith)) (leaf (text (s .groupRows) (s .texts) g))
 
 module _ (s : Store) (g : ℕ) (shaped : Shaped s) (low : g < s .header .allowed .groups) where
   pub index-relinked : Relinked s (indexGroup s g)

@@ -11,14 +11,17 @@ use Rattle.vrf_bitio.specs.Pasted.{pasted}
 use Rattle.vrf_words.specs.WordsLaws.{length-part, bytes-part}
 use Rattle.vrf_table.specs.Table.{at, len, text}
 use Rattle.vrf_model.specs.Book.{Allowances}
+use Rattle.vrf_path.specs.Leaf.{leaf}
+use Rattle.vrf_table.specs.TextIndex.{leafBucket, claimOf}
 use Rattle.vrf_store.specs.Layout
 use Rattle.vrf_store.specs.Store.{Store, Header, allowancesOf, headerOf, words, storeBy, storeOf}
 use Rattle.vrf_store.specs.CheckValid.{need-shaped}
+use Rattle.vrf_store.specs.CheckSteps.{Walked}
 use Rattle.vrf_store.specs.Valid.{Shaped}
 use Rattle.vrf_store.specs.Good.{Enough}
 use Rattle.vrf_store.specs.Written.{Written, unwritten, wrote-groupTable, wrote-pathIndex, wrote-leafIndex}
-use Rattle.vrf_store.specs.TextMoves.{linked, headed, Below, length-linked, length-headed}
-use Rattle.vrf_store.specs.GroupIndex.{pushKey, pushPath, pushLeaf, indexGroup, Indexed, Relinked, Indexable, Pushable, Joined}
+use Rattle.vrf_store.specs.TextMoves.{joinedBy, linked, headed, Below, length-linked, length-headed}
+use Rattle.vrf_store.specs.GroupIndex.{pushKey, pushPath, pushLeaf, leafOf, indexGroup, Indexed, Relinked, Indexable, Pushable, Joined}
 use Rattle.vrf_store.specs.declared.groups.Buckets.{Buckets}
 use Rattle.vrf_store.specs.GroupBuckets.{bucketed, BucketsOf}
 use Rattle.vrf_store.specs.GroupIndexLaws.{Heads, index-indexed}
@@ -70,10 +73,28 @@ module _ {m : List ℕ} {g : ℕ} (i : Indexable m g) where
   row-inside = omega (arith, need-shaped (headerOf m) m (i .enough) .groupRows, i .low)
 
   pub path-inside : at (storeOf m .groupRows) g + len (storeOf m .groupRows) g ≤ length (storeOf m .texts)
-  path-inside = omega (arith, need-shaped (headerOf m) m (i .enough) .texts, i .within)
+  path-inside = omega (arith, need-shaped (headerOf m) m (i .enough) .texts, i .within g (omega arith))
 
   pub path-short : length (text (storeOf m .groupRows) (storeOf m .texts) g) ≤ 4096
-  path-short = omega (arith, text-long (storeOf m .groupRows) (storeOf m .texts) g path-inside, i .short)
+  path-short = omega (arith, text-long (storeOf m .groupRows) (storeOf m .texts) g path-inside, i .short g (omega arith))
+
+-- so do those of the groups before it, whose leaves can be looked up
+module _ {m : List ℕ} {g : ℕ} (i : Indexable m g) {r x l h : List ℕ} {b : ℕ} (er : r ≡ storeOf m .groupRows) (ex : x ≡ storeOf m .texts) (el : l ≡ storeOf m .leafLinks) (eh : h ≡ storeOf m .leafHeads) (eb : b ≡ Layout.leafBuckets (allowancesOf m)) where
+  pub leaves-walked : Walked r x l h 4 b (g + 1)
+  leaves-walked =
+      let shaped = need-shaped (headerOf m) m (i .enough) in
+      record {
+        rows = omega (arith, ap length er, shaped .groupRows, i .low);
+        links = omega (arith, ap length el, shaped .leafLinks, i .low);
+        heads = omega (arith, ap length eh, eb, shaped .leafHeads);
+        buckets = omega (arith, eb);
+        few = omega (arith, i .low, i .few);
+        texts = λ e k. rw er (omega (arith, ap length ex, shaped .texts, i .within e (omega (arith, k))));
+        short = λ e k. rw er (i .short e (omega (arith, k)));
+      }
+
+  pub leaf-joined : joinedBy (claimOf r x l h b g) (leafBucket b) (leaf (text r x g)) ≡ leafOf (storeOf m) g
+  leaf-joined = rw (er, ex, el, eh, eb)
 
 -- writes, and writes after them
 pub then : {m m′ m″ : List ℕ} {s : Store} (f : Store → Store) → Written m m′ s → Written m′ m″ (f (storeOf m′)) → Written m m″ (f s)

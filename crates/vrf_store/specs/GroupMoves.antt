@@ -205,14 +205,13 @@ pub indexable : {m m′ : List ℕ} {s : Store} (g : ℕ) → Enough m → Writt
 indexable {m} {m′} {s} g enough w u low =
     let v : Unindexed (storeOf m′) = subst (λ (z : Store). Unindexed z) (sym (w .store)) u in
     let below : g < headerOf m′ .groups = subst (λ (z : Store). g < z .header .groups) (sym (w .store)) low in
-    let path = v .texts g below in
-    let inside : at (storeOf m′ .groupRows) g + len (storeOf m′ .groupRows) g ≤ length (storeOf m′ .texts) = omega (arith, path .within, v .header .used, v .shaped .texts) in
+    let inside : (e : ℕ) → e ≤ g → at (storeOf m′ .groupRows) e + len (storeOf m′ .groupRows) e ≤ headerOf m′ .used = λ e h. v .texts e (omega (arith, h, below)) .within in
     record {
       enough = omega (arith, ap Layout.need (w .allowed), w .long, enough);
       few = v .header .tops .groups;
       low = omega (arith, below, v .header .groups);
-      within = omega (arith, path .within, v .header .used);
-      short = omega (arith, text-long (storeOf m′ .groupRows) (storeOf m′ .texts) g inside, path .isText .short);
+      within = λ e h. omega (arith, inside e h, v .header .used);
+      short = λ e h. omega (arith, text-long (storeOf m′ .groupRows) (storeOf m′ .texts) e (omega (arith, inside e h, v .header .used, v .shaped .texts)), v .texts e (omega (arith, h, below)) .isText .short);
     }
 
 -- all groups have joined the indexes

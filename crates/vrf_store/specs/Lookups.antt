@@ -6,26 +6,28 @@ use mathlib.Core.Option.{Option, none, some}
 use Prim.Native.Nat.{ℕ, zero, suc, _+_, _*_, _/_, _%_, _<_, _≤_}
 use native.Mathlib.Nat.{not-suc-le-zero, le-of-suc-le-suc, add-zero}
 use native.Mathlib.Omega.{arith}
-use lib.ListN.{length, getD, List·getD-eq-default}
+use lib.ListN.{length, getD, take, List·getD-eq-default}
 use borrow.Author.Tests.{eqb-true}
 use Rattle.vrf_text.specs.Cases.{by-cond}
 use Rattle.vrf_path.specs.Keys.{hasKey, isThe}
 use Rattle.vrf_path.specs.KeysLaws.{has-by-parts}
 use Rattle.vrf_path.specs.Leaf.{leaf}
+use Rattle.vrf_path.specs.Base.{leafBase}
 use Rattle.vrf_model.specs.Book.{Guid, Group, empty}
 use Rattle.vrf_model.specs.Lookup.{placeOr, pathPlace, indexPlace, guidPlace, slotAt, Claim, absent, ambiguous, claimed, hasLeaf, withHead, leafClaim}
 use Rattle.vrf_model.specs.Lookup
 use Rattle.vrf_model.specs.PlaceLaws.{placeOr-at}
 use Rattle.vrf_table.specs.Chain.{lastBelow}
 use Rattle.vrf_table.specs.ChainLaws.{Passes, lastBelow-passes}
-use Rattle.vrf_table.specs.Index.{unlessAgain, claimFrom, claimBelow}
+use Rattle.vrf_table.specs.Index.{unlessAgain, claimFrom, claimBelow, orLater}
 use Rattle.vrf_table.specs.Table.{key, info, text, keyHit, findKey}
-use Rattle.vrf_table.specs.TextIndex.{numbered, pathHit, findPath, leafHit, claimOf}
+use Rattle.vrf_table.specs.TextIndex.{textStart, numbered, pathHit, findPath, leafHit, leafStart, claimAt, claimOf, firstAt}
 use Rattle.vrf_store.specs.UpTo.{upTo}
 use Rattle.vrf_store.specs.UpToLaws.{length-upTo, getD-upTo, lastPlace-upTo}
 use Rattle.vrf_store.specs.Layout
 use Rattle.vrf_store.specs.Store.{Store, guidAt, fieldAt, orEmpty, slotKey, slotBy, groupBy, contentOf}
 use Rattle.vrf_store.specs.Valid.{Valid}
+use Rattle.vrf_store.specs.Answers.{Leaves}
 
 -- ---- what stands at a place
 
@@ -190,6 +192,21 @@ module _ {s : Store} (v : Valid s) where
       leafClaim-upTo l (groupBy s (s .header .fields)) (s .header .groups)
       ∙ ap (λ (hit : ℕ → Bool). claimBelow hit (s .header .groups)) (fun-ext (λ g. the-same l (leaf (text (s .groupRows) (s .texts) g))))
       ∙ sym (v .leaves l)
+
+  -- by the chain of the leaf's base, and so for three leaves
+  abbrev chain : List ℕ → ℕ
+  chain base = textStart (s .leafHeads) (Layout.leafBuckets (s .header .allowed)) base
+
+  base-found : (l : List ℕ) {p : ℕ} {base : List ℕ} → p ≡ chain base → base ≡ leafBase l → claimAt (s .groupRows) (s .texts) (s .leafLinks) (s .header .groups) p l ≡ leafClaim l (contentOf s .groups)
+  unfolding claimOf leafStart
+  base-found l ep eb = ap (λ (i : ℕ). claimAt (s .groupRows) (s .texts) (s .leafLinks) (s .header .groups) i l) (ep ∙ ap chain eb) ∙ sym (leaf-found l)
+
+  pub first-found : {name a b c : List ℕ} {n p q : ℕ} → Leaves name n a b c → p ≡ chain (take n name) → q ≡ chain name
+      → firstAt (s .groupRows) (s .texts) (s .leafLinks) (s .header .groups) p q (name ++ a) (name ++ b) (name ++ c)
+      ≡ orLater (leafClaim (name ++ a) (contentOf s .groups)) (orLater (leafClaim (name ++ b) (contentOf s .groups)) (leafClaim (name ++ c) (contentOf s .groups)))
+  unfolding firstAt
+  first-found {name} {a} {b} {c} l ep eq =
+      ap₂ orLater (base-found (name ++ a) ep (l .base-first)) (ap₂ orLater (base-found (name ++ b) eq (l .base-second)) (base-found (name ++ c) eq (l .base-third)))
 
 -- ---- slots
 

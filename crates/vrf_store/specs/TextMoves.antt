@@ -1,6 +1,6 @@
 -- The indexes by text stay right with an entry more, and where the texts are the same.
-use mathlib.Core.Path.{_≡_, refl, sym, ap, _∙_}
-use mathlib.Core.Bool.{Bool}
+use mathlib.Core.Path.{_≡_, refl, sym, ap, subst, _∙_}
+use mathlib.Core.Bool.{Bool, true, false, cond}
 use mathlib.Core.List.{List}
 use mathlib.Core.Option.{Option, none, some}
 use Prim.Native.Nat.{ℕ, suc, _+_, _*_, _/_, _%_, _^_, _<_, _≤_}
@@ -12,17 +12,31 @@ use Rattle.vrf_words.specs.WordsLaws.{length-setWord, word-setWord-same, word-s
 use Rattle.vrf_path.specs.Keys.{isThe}
 use Rattle.vrf_path.specs.KeysLaws.{the-true}
 use Rattle.vrf_path.specs.Leaf.{leaf}
-use Rattle.vrf_table.specs.ChainLaws.{by-equal}
-use Rattle.vrf_table.specs.Index.{Latest, Claims}
+use Rattle.vrf_path.specs.Base.{leafBase}
+use Rattle.vrf_text.specs.Cases.{by-order, clash}
+use Rattle.vrf_model.specs.Lookup.{Claim, absent, ambiguous, claimed}
+use Rattle.vrf_table.specs.Chain.{walk, lastBelow}
+use Rattle.vrf_table.specs.ChainLaws.{by-equal, walk-past, walk-skip, lastBelow-suc}
+use Rattle.vrf_table.specs.Index.{unlessAgain, claimFrom, claimBelow, claimWalk, Latest, Claims}
 use Rattle.vrf_table.specs.IndexLaws.{kept, newest, by-true, Grown, latest-grown, claims-grown, latest-alike, claims-alike}
 use Rattle.vrf_table.specs.TableLaws.{textBucket-lt}
 use Rattle.vrf_table.specs.Table.{text}
-use Rattle.vrf_table.specs.TextIndex.{textBucket, textStart, numbered, pathHit, leafHit}
+use Rattle.vrf_table.specs.TextIndex.{textBucket, textStart, numbered, pathHit, leafHit, leafBucket, leafStart}
 
 -- the bucket of a text, if there is one
-unfoldable pub bucketOf : ℕ → Option (List ℕ) → Option ℕ
-bucketOf b none = none
-bucketOf b (some t) = some (textBucket b t)
+unfoldable pub bucketOf : (List ℕ → ℕ) → Option (List ℕ) → Option ℕ
+bucketOf β none = none
+bucketOf β (some t) = some (β t)
+
+-- the bucket that a text joins, if there is one: none where its claim is ambiguous already. So a chain has each text twice at most
+unfoldable pub unlessShared : Claim → ℕ → Option ℕ
+unlessShared absent h = some h
+unlessShared ambiguous h = none
+unlessShared (claimed e) h = some h
+
+unfoldable pub joinedBy : (List ℕ → Claim) → (List ℕ → ℕ) → Option (List ℕ) → Option ℕ
+joinedBy claim β none = none
+joinedBy claim β (some t) = unlessShared (claim t) (β t)
 
 -- the links and the heads with an entry at the front of the chain of its bucket, if it has one: word i is its link, and p points to it
 unfoldable pub linked : List ℕ → List ℕ → ℕ → Option ℕ → List ℕ
@@ -38,10 +52,34 @@ abbrev pub Below : ℕ → Option ℕ → Type 0
 Below b none = Unit {0}
 Below b (some h) = h < b
 
-pub bucketOf-below : (b : ℕ) (o : Option (List ℕ)) → 0 < b → Below b (bucketOf b o)
+-- texts go by their own buckets, of b, or by those of their bases: the chain of a text starts at the head of its bucket
+pub record Bucketed (b : ℕ) (β : List ℕ → ℕ) (start : List ℕ → List ℕ → ℕ) : Type 0 where
+  pub below : (t : List ℕ) → β t < b
+  pub at-head : (heads t : List ℕ) → start heads t ≡ word heads (β t)
+
+module _ (b : ℕ) (some-bucket : 0 < b) where
+  pub by-text : Bucketed b (textBucket b) (λ heads. textStart heads b)
+  unfolding textStart
+  by-text = record { below = λ t. textBucket-lt b t some-bucket; at-head = λ heads t. refl }
+
+  pub by-base : Bucketed b (leafBucket b) (λ heads. leafStart heads b)
+  unfolding leafBucket leafStart textStart
+  by-base = record { below = λ t. textBucket-lt b (leafBase t) some-bucket; at-head = λ heads t. refl }
+
+pub bucketOf-below : {b : ℕ} {β : List ℕ → ℕ} {start : List ℕ → List ℕ → ℕ} → Bucketed b β start → (o : Option (List ℕ)) → Below b (bucketOf β o)
 unfolding bucketOf
-bucketOf-below b none h = tt
-bucketOf-below b (some t) h = textBucket-lt b t h
+bucketOf-below k none = tt
+bucketOf-below k (some t) = k .below t
+
+pub joinedBy-below : (claim : List ℕ → Claim) {b : ℕ} {β : List ℕ → ℕ} {start : List ℕ → List ℕ → ℕ} → Bucketed b β start → (o : Option (List ℕ)) → Below b (joinedBy claim β o)
+unfolding joinedBy unlessShared
+joinedBy-below claim k none = tt
+joinedBy-below claim {b} {β} k (some t) = go (claim t)
+  where
+    go : (c : Claim) → Below b (unlessShared c (β t))
+    go absent = k .below t
+    go ambiguous = tt
+    go (claimed e) = k .below t
 
 module _ (links heads : List ℕ) (i : ℕ) (fits : 4 * i + 4 ≤ length links) where
   pub length-linked : (o : Option ℕ) → length (linked links heads i o) ≡ length links
@@ -64,53 +102,82 @@ module _ (heads : List ℕ) (b p : ℕ) (buckets : 4 * b ≤ length heads) where
 pub record NewEntry (links heads : List ℕ) (b e : ℕ) : Type 0 where
   pub fits : 4 * e + 4 ≤ length links
   pub buckets : 4 * b ≤ length heads
-  pub some-bucket : 0 < b
   pub few : e + 1 < 2 ^ 32
   pub bytes : Bytes heads
 
-module _ (hit : List ℕ → ℕ → Bool) (links heads : List ℕ) (b e : ℕ) (w : NewEntry links heads b e) (o : Option (List ℕ)) (h : (t : List ℕ) → hit t e ≡ isThe o t) where
+module _ {b : ℕ} {β : List ℕ → ℕ} {start : List ℕ → List ℕ → ℕ} (by-bucket : Bucketed b β start) (hit : List ℕ → ℕ → Bool) (links heads : List ℕ) (e : ℕ) (w : NewEntry links heads b e) (o : Option (List ℕ)) (h : (t : List ℕ) → hit t e ≡ isThe o t) where
   abbrev links′ : List ℕ
-  links′ = linked links heads e (bucketOf b o)
+  links′ = linked links heads e (bucketOf β o)
 
   abbrev heads′ : List ℕ
-  heads′ = headed heads (e + 1) (bucketOf b o)
+  heads′ = headed heads (e + 1) (bucketOf β o)
 
-  entry-grown : Grown hit hit (word links) (word links′) (textStart heads b) (textStart heads′ b) e
-  unfolding linked headed bucketOf textStart isThe
+  entry-grown : Grown hit hit (word links) (word links′) (start heads) (start heads′) e
+  unfolding linked headed bucketOf isThe
   entry-grown = go o h
     where
-      in-heads : (t : List ℕ) → 4 * textBucket b t + 4 ≤ length heads
-      in-heads t = omega (arith, textBucket-lt b t (w .some-bucket), w .buckets)
+      in-heads : (t : List ℕ) → 4 * β t + 4 ≤ length heads
+      in-heads t = omega (arith, by-bucket .below t, w .buckets)
 
-      go : (o : Option (List ℕ)) → ((t : List ℕ) → hit t e ≡ isThe o t) → Grown hit hit (word links) (word (linked links heads e (bucketOf b o))) (textStart heads b) (textStart (headed heads (e + 1) (bucketOf b o)) b) e
+      go : (o : Option (List ℕ)) → ((t : List ℕ) → hit t e ≡ isThe o t) → Grown hit hit (word links) (word (linked links heads e (bucketOf β o))) (start heads) (start (headed heads (e + 1) (bucketOf β o))) e
       go none h = record { hits = λ y i k. refl; links = λ i k. refl; chains = λ y. kept (h y) refl }
       go (some t) h = record {
         hits = λ y i k. refl;
-        links = λ i k. sym (word-setWord-other links e (textStart heads b t) i (w .fits) (λ q. omega (arith, k, q)));
-        chains = λ y. by-equal (textBucket b y) (textBucket b t)
-            (λ q. newest (ap (word (setWord heads (textBucket b t) (e + 1))) q ∙ word-setWord-same heads (textBucket b t) (e + 1) (in-heads t) (w .few) ∙ omega arith)
-            (word-setWord-same links e (textStart heads b t) (w .fits) (word-bound heads (textBucket b t) (w .bytes)) ∙ ap (word heads) (sym q)))
-            (λ q. kept (by-true (hit y e) (λ z. let same : some t ≡ some y = the-true (some t) y (sym (h y) ∙ z) in q (ap (textBucket b) (let r : y ≡ t = cc in r))))
-            (word-setWord-other heads (textBucket b t) (e + 1) (textBucket b y) (in-heads t) q));
+        links = λ i k. sym (word-setWord-other links e (word heads (β t)) i (w .fits) (λ q. omega (arith, k, q)));
+        chains = λ y. by-equal (β y) (β t)
+            (λ q. newest (by-bucket .at-head _ y ∙ ap (word (setWord heads (β t) (e + 1))) q ∙ word-setWord-same heads (β t) (e + 1) (in-heads t) (w .few) ∙ omega arith)
+            (word-setWord-same links e (word heads (β t)) (w .fits) (word-bound heads (β t) (w .bytes)) ∙ ap (word heads) (sym q) ∙ sym (by-bucket .at-head heads y)))
+            (λ q. kept (by-true (hit y e) (λ z. let same : some t ≡ some y = the-true (some t) y (sym (h y) ∙ z) in q (ap β (let r : y ≡ t = cc in r))))
+            (by-bucket .at-head _ y ∙ word-setWord-other heads (β t) (e + 1) (β y) (in-heads t) q ∙ sym (by-bucket .at-head heads y)));
       }
 
-  pub latest-entry : Latest hit (word links) (textStart heads b) e → Latest hit (word links′) (textStart heads′ b) (suc e)
-  latest-entry = latest-grown hit hit (word links) (word links′) (textStart heads b) (textStart heads′ b) e entry-grown
+  pub latest-entry : Latest hit (word links) (start heads) e → Latest hit (word links′) (start heads′) (suc e)
+  latest-entry = latest-grown hit hit (word links) (word links′) (start heads) (start heads′) e entry-grown
 
-  pub claims-entry : Claims hit (word links) (textStart heads b) e → Claims hit (word links′) (textStart heads′ b) (suc e)
-  claims-entry = claims-grown hit hit (word links) (word links′) (textStart heads b) (textStart heads′ b) e entry-grown
+  pub claims-entry : Claims hit (word links) (start heads) e → Claims hit (word links′) (start heads′) (suc e)
+  claims-entry = claims-grown hit hit (word links) (word links′) (start heads) (start heads′) e entry-grown
 
   -- a next entry is one too
   pub next-entry : 4 * (e + 1) + 4 ≤ length links → e + 2 < 2 ^ 32 → NewEntry links′ heads′ b (e + 1)
   next-entry more few =
-      let below = bucketOf-below b o (w .some-bucket) in
+      let below = bucketOf-below by-bucket o in
       record {
-        fits = rw (length-linked links heads e (w .fits) (bucketOf b o)) more;
-        buckets = rw (length-headed heads b (e + 1) (w .buckets) (bucketOf b o) below) (w .buckets);
-        some-bucket = w .some-bucket;
+        fits = rw (length-linked links heads e (w .fits) (bucketOf β o)) more;
+        buckets = rw (length-headed heads b (e + 1) (w .buckets) (bucketOf β o) below) (w .buckets);
         few = omega (arith, few);
-        bytes = bytes-headed heads b (e + 1) (w .buckets) (w .bytes) (bucketOf b o) below;
+        bytes = bytes-headed heads b (e + 1) (w .buckets) (w .bytes) (bucketOf β o) below;
       }
+
+-- a third entry with a key need not join: two tell that it is ambiguous
+module _ (hit : List ℕ → ℕ → Bool) (link : ℕ → ℕ) (start : List ℕ → ℕ) (e : ℕ) (l : List ℕ) (h : (t : List ℕ) → hit t e ≡ isThe (some l) t) (shared : claimWalk (hit l) link e (start l) ≡ ambiguous) where
+  again : (f : ℕ → Option ℕ) (o : Option ℕ) (n : ℕ) → claimFrom f o ≡ ambiguous → unlessAgain n o ≡ ambiguous
+  unfolding claimFrom unlessAgain
+  again f none n c = clash cc
+  again f (some i) n c = refl
+
+  -- the walk of l does not go by entry e
+  walk-more : walk (hit l) link (suc e) (start l) ≡ walk (hit l) link e (start l)
+  unfolding claimWalk claimFrom
+  walk-more = by-order (start l) e
+      (λ k. walk-skip (hit l) link (suc e) (start l) (omega (arith, k)) ∙ sym (walk-skip (hit l) link e (start l) k))
+      (λ k. clash (let gone = walk-past (hit l) link e (start l) k in let z : absent ≡ ambiguous = rw gone at shared in cc))
+
+  shared-still : Claims hit link start e → hit l e ≡ true → claimWalk (hit l) link (suc e) (start l) ≡ claimBelow (hit l) (suc e)
+  unfolding claimWalk claimBelow claimFrom
+  shared-still known q =
+      let last : lastBelow (hit l) (suc e) ≡ some e = lastBelow-suc (hit l) e ∙ ap (λ (b : Bool). cond b (some e) (lastBelow (hit l) e)) q in
+      ap (claimFrom (λ i. walk (hit l) link i (link i))) walk-more ∙ shared
+      ∙ sym (ap (claimFrom (lastBelow (hit l))) last ∙ again (lastBelow (hit l)) (lastBelow (hit l) e) e (sym (known l) ∙ shared))
+
+  pub claims-shared : Claims hit link start e → Claims hit link start (suc e)
+  claims-shared known y = by (hit y e) refl
+    where
+      by : (b : Bool) → hit y e ≡ b → claimWalk (hit y) link (suc e) (start y) ≡ claimBelow (hit y) (suc e)
+      by true q =
+          let same : some l ≡ some y = the-true (some l) y (sym (h y) ∙ q) in
+          let is : l ≡ y = cc in
+          subst (λ (z : List ℕ). claimWalk (hit z) link (suc e) (start z) ≡ claimBelow (hit z) (suc e)) is (shared-still known (rw is q))
+      by false q = claims-grown {K = Unit {0}} (λ _. hit y) (λ _. hit y) link link (λ _. start y) (λ _. start y) e (record { hits = λ _ i k. refl; links = λ i k. refl; chains = λ _. kept q refl }) (λ _. known y) tt
 
 -- ---- the same texts
 
@@ -120,7 +187,7 @@ module _ (r x r′ y : List ℕ) (n : ℕ) (same : (e : ℕ) → e < n → text 
   same-paths = latest-alike (pathHit r x) (pathHit r′ y) (word links) (word links) (textStart heads b) (textStart heads b) (3 * n)
       (record { hits = λ k e h. ap (λ (t : List ℕ). isThe (numbered t (e % 3)) k) (sym (same (e / 3) (omega (arith, h)))); links = λ e h. refl; starts = λ k. refl })
 
-  pub same-leaves : Claims (leafHit r x) (word links) (textStart heads b) n → Claims (leafHit r′ y) (word links) (textStart heads b) n
+  pub same-leaves : Claims (leafHit r x) (word links) (leafStart heads b) n → Claims (leafHit r′ y) (word links) (leafStart heads b) n
   unfolding leafHit
-  same-leaves = claims-alike (leafHit r x) (leafHit r′ y) (word links) (word links) (textStart heads b) (textStart heads b) n
+  same-leaves = claims-alike (leafHit r x) (leafHit r′ y) (word links) (word links) (leafStart heads b) (leafStart heads b) n
       (record { hits = λ l e h. ap (λ (t : List ℕ). isThe (leaf t) l) (sym (same e h)); links = λ e h. refl; starts = λ l. refl })

@@ -8,7 +8,7 @@ use Rattle.vrf_words.specs.Words.{word}
 use Rattle.vrf_model.specs.Lawful.{Is32, Allowed}
 use Rattle.vrf_table.specs.Index.{Latest, Claims}
 use Rattle.vrf_table.specs.Table.{key, link, at, len, info, text, keyHit, keyStart}
-use Rattle.vrf_table.specs.TextIndex.{pathHit, leafHit, textStart}
+use Rattle.vrf_table.specs.TextIndex.{textStart, pathHit, leafHit, leafStart}
 use Rattle.vrf_store.specs.Layout
 use Rattle.vrf_store.specs.Store.{Header, Store}
 use Rattle.vrf_store.specs.Check.{textSum}
@@ -60,7 +60,7 @@ pub record Valid (s : Store) : Type 0 where
   pub groupTable : GoodTable (s .header .used) (s .texts) (s .groupRows) (s .groupHeads) (Layout.groupBuckets (s .header .allowed)) (s .header .groups)
   pub groups : (e : ℕ) → e < s .header .groups → Is32 (key (s .groupRows) e) × (info (s .groupRows) e ≤ 65536)
   pub paths : Latest (pathHit (s .groupRows) (s .texts)) (word (s .pathLinks)) (textStart (s .pathHeads) (Layout.pathBuckets (s .header .allowed))) (3 * s .header .groups)
-  pub leaves : Claims (leafHit (s .groupRows) (s .texts)) (word (s .leafLinks)) (textStart (s .leafHeads) (Layout.leafBuckets (s .header .allowed))) (s .header .groups)
+  pub leaves : Claims (leafHit (s .groupRows) (s .texts)) (word (s .leafLinks)) (leafStart (s .leafHeads) (Layout.leafBuckets (s .header .allowed))) (s .header .groups)
   pub fieldTable : GoodTable (s .header .used) (s .texts) (s .fieldRows) (s .fieldHeads) (Layout.fieldBuckets (s .header .allowed)) (s .header .fields)
   pub fields : (e : ℕ) → e < s .header .fields → GoodSlotKey s (key (s .fieldRows) e) × Is32 (info (s .fieldRows) e)
   pub total : textSum s ≡ s .header .held

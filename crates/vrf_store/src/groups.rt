@@ -4,6 +4,8 @@ use crate::parts::groups;
 use crate::parts::groups_allowed;
 use crate::parts::guids_allowed;
 use crate::parts::held;
+use crate::parts::leaf_heads;
+use crate::parts::leaf_links;
 use crate::parts::row_text;
 use crate::parts::texts;
 use crate::rows::text_len;
@@ -13,7 +15,10 @@ use vrf_path::core_alias;
 use vrf_path::default_object_alias;
 use vrf_path::is_absent;
 use vrf_path::leaf_at;
+use vrf_table::AMBIGUOUS;
 use vrf_table::key_bucket;
+use vrf_table::leaf_bucket;
+use vrf_table::leaf_claim;
 use vrf_table::put_key;
 use vrf_table::put_text;
 use vrf_table::spell::spell;
@@ -24,22 +29,24 @@ use vrf_words::put32;
 use vrf_words::zero_words;
 ghost use mathlib.Core.Path.{_≡_};
 ghost use mathlib.Core.List.{[], _∷_, _++_};
-ghost use Prim.Native.Nat.{_+_, _-_, _*_, _<_, _≤_};
+ghost use Prim.Native.Nat.{_+_, _-_, _*_, _^_, _<_, _≤_};
 ghost use lib.ListN.{length, set};
 ghost use Rattle.vrf_bitio.specs.Pasted.{pasted};
 ghost use Rattle.vrf_path.specs.Answers.{spelled, keyBytes};
-ghost use Rattle.vrf_path.specs.Leaf.{leaf};
+ghost use Rattle.vrf_path.specs.Leaf.{leaf, Dotless};
 ghost use Rattle.vrf_words.specs.Words.{part};
 ghost use Rattle.vrf_model.specs.Setting.{withGroups, newGroup, mergedGroup};
-ghost use Rattle.vrf_table.specs.Table.{info};
-ghost use Rattle.vrf_table.specs.TextIndex.{textBucket};
+ghost use Rattle.vrf_table.specs.Table.{info, text};
+ghost use Rattle.vrf_table.specs.TextIndex.{textBucket, leafBucket, claimOf};
+ghost use Rattle.vrf_table.specs.Answers.{Texts};
 ghost use Rattle.vrf_store.specs.Store.{allowancesOf, headerOf, storeOf, words};
 ghost use Rattle.vrf_store.specs.Good.{Enough, Good};
+ghost use Rattle.vrf_store.specs.CheckSteps.{Walked};
 ghost use Rattle.vrf_store.specs.Stepped.{Stepped, held};
 ghost use Rattle.vrf_store.specs.Written.{Written};
 ghost use Rattle.vrf_store.specs.TableMoves.{pushRow};
-ghost use Rattle.vrf_store.specs.TextMoves.{bucketOf, linked, headed, Below};
-ghost use Rattle.vrf_store.specs.GroupIndex.{pushKey, pushPath, pushLeaf, Unindexed, Indexable, Pushable, Joined};
+ghost use Rattle.vrf_store.specs.TextMoves.{bucketOf, unlessShared, joinedBy, linked, headed, Below};
+ghost use Rattle.vrf_store.specs.GroupIndex.{pushKey, pushPath, pushLeaf, leafOf, Unindexed, Indexable, Pushable, Joined};
 ghost use Rattle.vrf_store.specs.GroupBuckets.{bucketed, BucketsOf};
 ghost use Rattle.vrf_store.specs.FieldMoves.{withGroup};
 ghost use Rattle.vrf_store.specs.GroupMoves.{putGroup, NewGroup};
@@ -74,7 +81,7 @@ fn spelled_bucket(path: &[u8], key: Key, b: u32) -> u32
 // The bucket of a key that a path may have, among b.
 fn alias_bucket(path: &[u8], key: Key, b: u32) -> Bucket
     requires { ⌜ length (now path) ≤ 4096 ⌝ }
-    ensures { λ r. ⌜ bucketed r ≡ bucketOf b (spelled (now (path .entry)) key) ⌝ }
+    ensures { λ r. ⌜ bucketed r ≡ bucketOf (textBucket b) (spelled (now (path .entry)) key) ⌝ }
 {
     if is_absent(key) {
         return Bucket::Absent;
@@ -82,15 +89,45 @@ fn alias_bucket(path: &[u8], key: Key, b: u32) -> Bucket
     Bucket::Of(spelled_bucket(path, key, b))
 }
 
-// The bucket of a path's leaf among b.
-fn leaf_bucket(path: &[u8], b: u32) -> Bucket
-    requires { ⌜ length (now path) ≤ 4096 ⌝ }
-    ensures { λ r. ⌜ bucketed r ≡ bucketOf b (leaf (now (path .entry))) ⌝ }
+// The bucket that a leaf joins among b, unless two of n groups have it already: it is ambiguous then, and stays so. So a chain has each
+// leaf twice at most, and no walk goes by many groups with another leaf of the same base.
+fn joined_bucket(
+    rows: &[u8],
+    x: &[u8],
+    links: &[u8],
+    heads: &[u8],
+    b: u32,
+    n: u32,
+    l: &[u8],
+) -> Bucket
+    requires { ⌜ Dotless (now l) × (24 * n ≤ length (now rows)) × (4 * n ≤ length (now links)) × (4 * b ≤ length (now heads)) × (0 < b) × (n ≤ 100000) × Texts (now rows) (now x) n × (length (now l) < 2 ^ 31) ⌝ }
+    ensures { λ r. ⌜ bucketed r ≡ unlessShared (claimOf (now (rows .entry)) (now (x .entry)) (now (links .entry)) (now (heads .entry)) b n (now (l .entry))) (leafBucket b (now (l .entry))) ⌝ }
 {
+    if leaf_claim(rows, x, links, heads, b, n, l) == AMBIGUOUS {
+        return Bucket::Absent;
+    }
+    Bucket::Of(leaf_bucket(l, b))
+}
+
+// The bucket that the leaf of group g joins among b, if it has a leaf.
+fn leaf_bucket_of(rows: &[u8], x: &[u8], links: &[u8], heads: &[u8], b: u32, g: u32) -> Bucket
+    requires { ⌜ Walked (now rows) (now x) (now links) (now heads) 4 b (g + 1) ⌝ }
+    ensures { λ r. ⌜ bucketed r ≡ joinedBy (claimOf (now (rows .entry)) (now (x .entry)) (now (links .entry)) (now (heads .entry)) b g) (leafBucket b) (leaf (text (now (rows .entry)) (now (x .entry)) g)) ⌝ }
+{
+    let path = row_text(rows, x, g);
     match leaf_at(path) {
-        Leaf::At(i) => Bucket::Of(text_bucket(&path[i..], b)),
+        Leaf::At(i) => joined_bucket(rows, x, links, heads, b, g, &path[i..]),
         Leaf::Absent => Bucket::Absent,
     }
+}
+
+// The same of a memory.
+fn leaf_bucket_in(m: &[u8], g: u32) -> Bucket
+    requires { ⌜ Indexable (now m) g ⌝ }
+    ensures { λ r. ⌜ bucketed r ≡ leafOf (storeOf (now (m .entry))) g ⌝ }
+{
+    let b = (2 * groups_allowed(m) + 1) as u32;
+    leaf_bucket_of(group_rows(m), texts(m), leaf_links(m), leaf_heads(m), b, g)
 }
 
 // Puts an entry at the front of the chain of a bucket, if it has one. From word `at` on stand n words, of which word i is its link,
@@ -159,7 +196,7 @@ fn buckets_of(m: &[u8], g: u32) -> Buckets
         own: Bucket::Of(text_bucket(path, b)),
         default: alias_bucket(path, default_object_alias(path), b),
         core: alias_bucket(path, core_alias(path), b),
-        leaf: leaf_bucket(path, 2 * r + 1),
+        leaf: leaf_bucket_in(m, g),
     }
 }
 

@@ -22,26 +22,28 @@ use vrf_table::Claim;
 use vrf_table::Entry;
 use vrf_table::find_key;
 use vrf_table::find_path;
-use vrf_table::leaf_claim;
+use vrf_table::first_claim;
+use vrf_table::text_bucket;
 use vrf_words::get32;
 use vrf_words::get64;
 ghost use mathlib.Core.Path.{_≡_};
 ghost use mathlib.Core.Bool.{cond};
-ghost use mathlib.Core.List.{[]};
+ghost use mathlib.Core.List.{[], _++_};
 ghost use mathlib.Core.Option.{none, some};
 ghost use Prim.Native.Nat.{_+_, _*_, _<_, _≤_, _^_};
 ghost use lib.Dec.{eqb};
-ghost use lib.ListN.{length};
+ghost use lib.ListN.{length, take};
 ghost use Rattle.vrf_model.specs.Book.{Guid, Group};
 ghost use Rattle.vrf_model.specs.Lookup.{placeOr, pathPlace, indexPlace, guidPlace, slotChecksum, slotName, slotAt, leafClaim, outerGuid, outerPath, ifFilled, gameplayTag};
-ghost use Rattle.vrf_path.specs.Leaf.{Dotless};
 ghost use Rattle.vrf_table.specs.Table.{key, info};
+ghost use Rattle.vrf_table.specs.TextIndex.{textStart};
+ghost use Rattle.vrf_table.specs.Index.{orLater};
 ghost use Rattle.vrf_table.specs.Answers.{entry, claim};
 ghost use Rattle.vrf_store.specs.Layout;
 ghost use Rattle.vrf_store.specs.Store.{allowancesOf, storeOf, slotKey, contentOf};
 ghost use Rattle.vrf_store.specs.Good.{Good};
 ghost use Rattle.vrf_store.specs.SlotRow.{fieldFound, slotRow};
-ghost use Rattle.vrf_store.specs.Answers.{found};
+ghost use Rattle.vrf_store.specs.Answers.{found, Leaves};
 
 // How many buckets each index has.
 pub fn guid_buckets(m: &[u8]) -> u32
@@ -144,22 +146,37 @@ pub fn find_path_place(m: &[u8], k: &[u8]) -> Entry
     }
 }
 
-// Which group has a leaf, if only one does. A leaf has no dot.
-pub fn claim_of(m: &[u8], leaf: &[u8]) -> Claim
-    requires { ⌜ Good (now m) × Dotless (now leaf) × (length (now leaf) < 2 ^ 31) ⌝ }
-    ensures { λ r. ⌜ claim r ≡ leafClaim (now (leaf .entry)) (contentOf (storeOf (now (m .entry))) .groups) ⌝ }
+// Where the chain of the leaves with a base starts.
+fn leaf_start(m: &[u8], base: &[u8]) -> u32
+    requires { ⌜ Good (now m) × (length (now base) < 2 ^ 31) ⌝ }
+    ensures { λ r. ⌜ r ≡ textStart (storeOf (now (m .entry)) .leafHeads) (Layout.leafBuckets (allowancesOf (now (m .entry)))) (now (base .entry)) ⌝ }
 {
     let b = leaf_buckets(m);
-    let n = groups(m);
-    leaf_claim(
-        group_rows(m),
-        texts(m),
-        leaf_links(m),
-        leaf_heads(m),
-        b,
-        n,
-        &leaf[..],
-    )
+    get32(leaf_heads(m), text_bucket(&base[..], b) as usize)
+}
+
+// The same for the first n bytes of a name, whose own chain starts at q: mostly they are all.
+fn front_start(m: &[u8], name: &[u8], n: usize, q: u32) -> u32
+    requires { ⌜ Good (now m) × (length (now name) < 2 ^ 31) × (n ≤ length (now name)) × (q ≡ textStart (storeOf (now m) .leafHeads) (Layout.leafBuckets (allowancesOf (now m))) (now name)) ⌝ }
+    ensures { λ r. ⌜ r ≡ textStart (storeOf (now (m .entry)) .leafHeads) (Layout.leafBuckets (allowancesOf (now (m .entry)))) (take n (now (name .entry))) ⌝ }
+{
+    if n == name.len() {
+        return q;
+    }
+    leaf_start(m, &name[..n])
+}
+
+// The first claim among the leaves that a name makes with three suffixes. The name is the base of the last two, and its first n bytes
+// that of the first.
+pub fn claim_of(m: &[u8], name: &[u8], n: usize, s: &[u8], t: &[u8], u: &[u8]) -> Claim
+    requires { ⌜ Good (now m) × Leaves (now name) n (now s) (now t) (now u) ⌝ }
+    ensures { λ r. ⌜ claim r ≡ orLater (leafClaim (now (name .entry) ++ now (s .entry)) (contentOf (storeOf (now (m .entry))) .groups)) (orLater (leafClaim (now (name .entry) ++ now (t .entry)) (contentOf (storeOf (now (m .entry))) .groups)) (leafClaim (now (name .entry) ++ now (u .entry)) (contentOf (storeOf (now (m .entry))) .groups))) ⌝ }
+{
+    let q = leaf_start(m, name);
+    let p = front_start(m, name, n, q);
+    let rows = group_rows(m);
+    let x = texts(m);
+    first_claim(rows, x, leaf_links(m), groups(m), p, q, name, s, t, u)
 }
 
 // The row of the field whose key is that of a group's slot, of any two numbers.

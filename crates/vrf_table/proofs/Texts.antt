@@ -1,11 +1,12 @@
 -- What the texts need: the part of the memory that a row's text is, the keys by their numbers, and leaves.
 use mathlib.Core.Path.{_≡_, refl, sym, ap, _∙_}
-use mathlib.Core.Bool.{Bool, true, false}
-use mathlib.Core.List.{List}
+use mathlib.Core.Bool.{Bool, true, false, _&&_, and-true, and-false}
+use mathlib.Core.List.{List, [], _∷_, _++_}
 use Prim.Native.Nat.{ℕ, zero, suc, _+_, _-_, _<_}
 use native.Mathlib.Omega.{arith}
-use lib.ListN.{length, getD, take, drop, length-drop}
-use lib.Seq.{take-all}
+use lib.Dec.{eqb}
+use lib.ListN.{length, getD, take, drop, length-take, length-drop, take-append-drop}
+use lib.Seq.{take-all, drop-drop}
 use Rattle.vrf_text.specs.Cases.{clash}
 use Rattle.vrf_words.specs.Words.{part}
 use Rattle.vrf_path.specs.Text.{same}
@@ -47,6 +48,36 @@ module _ (t l : List ℕ) (dotless : Dotless l) (some-bytes : 0 < length l) (sho
       rw (is-leaf t l is, same-refl l)
   decides false e = sym (leaf-not t l (λ is. clash (let z : true ≡ false = sym (same-refl l) ∙ rw (is .tail) at e in cc)))
 
-  -- the part `&t[from..]`, as the slice rule gives it
-  pub leaf-end : {r : Bool} → r ≡ same (take (length t - (length t - length l)) (drop (length t - length l) t)) l → r ≡ isThe (leaf t) l
-  leaf-end er = er ∙ ap (λ (s : List ℕ). same s l) (take-all (length t - (length t - length l)) (drop (length t - length l) t) (rw length-drop (omega arith))) ∙ decides (same (drop (length t - length l) t) l) refl
+  pub leaf-end : {r : Bool} → r ≡ same (drop (length t - length l) t) l → r ≡ isThe (leaf t) l
+  leaf-end er = er ∙ decides (same (drop (length t - length l) t) l) refl
+
+-- two texts, each in two parts
+same-parts : (a b c d : List ℕ) → length a ≡ length c → same (a ++ b) (c ++ d) ≡ (same a c && same b d)
+unfolding same
+same-parts [] b [] d h = refl
+same-parts [] b (y ∷ c) d h = absurd (omega arith)
+same-parts (x ∷ a) b [] d h = absurd (omega arith)
+same-parts (x ∷ a) b (y ∷ c) d h = rw (same-parts a b c d (omega arith)) (go (eqb x y) (same a c) (same b d))
+  where
+    go : (p q r : Bool) → (p && (q && r)) ≡ ((p && q) && r)
+    go true q r = refl
+    go false q r = refl
+
+-- the end of a text is a name and a suffix, by the parts `&t[from..behind]` and `&t[behind..]`, as the slice rule gives them
+module _ (t name suffix : List ℕ) (from : ℕ) (whole : from + length name + length suffix ≡ length t) where
+  end-parts : same (drop from t) (name ++ suffix)
+      ≡ (same (take (from + length name - from) (drop from t)) name && same (take (length t - (from + length name)) (drop (from + length name) t)) suffix)
+  end-parts =
+      let k : from + length name - from ≡ length name = omega arith in
+      let front : length (take (length name) (drop from t)) ≡ length name = rw (length-take, length-drop) (omega arith) in
+      let back : take (length t - (from + length name)) (drop (from + length name) t) ≡ drop (from + length name) t = take-all (length t - (from + length name)) (drop (from + length name) t) (rw length-drop (omega arith)) in
+      ap (λ (s : List ℕ). same s (name ++ suffix)) (sym (take-append-drop (length name) (drop from t)))
+      ∙ same-parts (take (length name) (drop from t)) (drop (length name) (drop from t)) name suffix front
+      ∙ rw (k, back, drop-drop (length name) from t)
+
+  module _ {x : Bool} (ex : x ≡ same (take (length t - (from + length name)) (drop (from + length name) t)) suffix) where
+    pub end-by-name : x ≡ true → {r : Bool} → r ≡ same (take (from + length name - from) (drop from t)) name → r ≡ same (drop from t) (name ++ suffix)
+    end-by-name h {r} er = sym (end-parts ∙ rw (← ex, h, ← er) (and-true r))
+
+    pub end-not : x ≡ false → false ≡ same (drop from t) (name ++ suffix)
+    end-not h = sym (end-parts ∙ rw (← ex, h) (and-false (same (take (from + length name - from) (drop from t)) name)))

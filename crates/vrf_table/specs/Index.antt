@@ -16,6 +16,12 @@ unfoldable pub claimFrom : (ℕ → Option ℕ) → Option ℕ → Claim
 claimFrom behind none = absent
 claimFrom behind (some e) = unlessAgain e (behind e)
 
+-- a claim, or the next one where it is absent
+unfoldable pub orLater : Claim → Claim → Claim
+orLater absent next = next
+orLater ambiguous next = ambiguous
+orLater (claimed i) next = claimed i
+
 unfoldable pub claimBelow : (ℕ → Bool) → ℕ → Claim
 claimBelow hit n = claimFrom (lastBelow hit) (lastBelow hit n)
 

@@ -8,10 +8,11 @@ use lib.ListN.{length}
 use Rattle.vrf_words.specs.Words.{word}
 use Rattle.vrf_path.specs.Keys.{defaultAlias, coreAlias, isThe}
 use Rattle.vrf_path.specs.Leaf.{leaf}
+use Rattle.vrf_path.specs.Base.{leafBase}
 use Rattle.vrf_path.specs.Text.{eight}
 use Rattle.vrf_model.specs.Lookup.{Claim}
 use Rattle.vrf_table.specs.Chain.{walk}
-use Rattle.vrf_table.specs.Index.{claimWalk}
+use Rattle.vrf_table.specs.Index.{claimWalk, orLater}
 use Rattle.vrf_table.specs.Table.{bucket, text}
 
 -- ---- the hash of a text: by words of eight bytes, four at a time, and then by its last four, which start at its front if it is shorter.
@@ -36,9 +37,9 @@ lastTurns h t = fourTurns h t (length t - 32) (length t - 24) (length t - 16) (l
 unfoldable pub textHash : List ℕ → ℕ
 textHash t = lastTurns (hashUpTo t ((length t - 1) / 32)) t
 
--- a bucket goes by the high bits of 32, in which all bits of both halves of a hash have a part
+-- a bucket goes by the sum of both halves of a hash
 unfoldable pub mixed : ℕ → ℕ
-mixed hash = (hash % 2 ^ 32 * 1481765933 + hash / 2 ^ 32 % 2 ^ 32 * 1284865837) / 2 ^ 16 % 2 ^ 32
+mixed hash = (hash % 2 ^ 32 + hash / 2 ^ 32) % 2 ^ 32
 
 unfoldable pub textBucket : ℕ → List ℕ → ℕ
 textBucket b t = bucket b (mixed (textHash t))
@@ -66,5 +67,20 @@ findPath r x links heads b n k = walk (pathHit r x k) (word links) (3 * n) (text
 unfoldable pub leafHit : List ℕ → List ℕ → List ℕ → ℕ → Bool
 leafHit r x l e = isThe (leaf (text r x e)) l
 
+-- a leaf's chain is that of its base
+unfoldable pub leafBucket : ℕ → List ℕ → ℕ
+leafBucket b l = textBucket b (leafBase l)
+
+unfoldable pub leafStart : List ℕ → ℕ → List ℕ → ℕ
+leafStart heads b l = textStart heads b (leafBase l)
+
+-- the claim of l, by the chain that starts at the pointer p
+abbrev pub claimAt : List ℕ → List ℕ → List ℕ → ℕ → ℕ → List ℕ → Claim
+claimAt r x links n p l = claimWalk (leafHit r x l) (word links) n p
+
 unfoldable pub claimOf : List ℕ → List ℕ → List ℕ → List ℕ → ℕ → ℕ → List ℕ → Claim
-claimOf r x links heads b n l = claimWalk (leafHit r x l) (word links) n (textStart heads b l)
+claimOf r x links heads b n l = claimAt r x links n (leafStart heads b l) l
+
+-- the first claim among three leaves: by the chain that starts at p, and then by the one that starts at q
+unfoldable pub firstAt : List ℕ → List ℕ → List ℕ → ℕ → (p q : ℕ) → (s t u : List ℕ) → Claim
+firstAt r x links n p q s t u = orLater (claimAt r x links n p s) (orLater (claimAt r x links n q t) (claimAt r x links n q u))

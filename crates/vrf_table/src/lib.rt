@@ -5,6 +5,7 @@ use vrf_path::core_alias;
 use vrf_path::default_object_alias;
 use vrf_path::eight;
 use vrf_path::is_key;
+use vrf_path::leaf_base;
 use vrf_path::left;
 use vrf_path::same;
 use vrf_words::get32;
@@ -12,11 +13,12 @@ use vrf_words::get64;
 use vrf_words::put32;
 use vrf_words::put64;
 ghost use mathlib.Core.Path.{_≡_};
+ghost use mathlib.Core.List.{_++_};
 ghost use Prim.Native.Nat.{_+_, _*_, _/_, _^_, _<_, _≤_};
-ghost use lib.ListN.{length, getD};
+ghost use lib.ListN.{length, getD, drop};
 ghost use Rattle.vrf_path.specs.Keys.{isThe};
 ghost use Rattle.vrf_path.specs.Leaf.{leaf, Dotless};
-ghost use Rattle.vrf_path.specs.Text.{four};
+ghost use Rattle.vrf_path.specs.Text.{four, same};
 ghost use Rattle.vrf_words.specs.Words.{word};
 ghost use Rattle.vrf_table.specs.Chain.{walk};
 ghost use Rattle.vrf_table.specs.Table.{at, len, bucket, keyHash, keyBucket, findKey, setKey, setText};
@@ -31,9 +33,12 @@ ghost use Rattle.vrf_table.specs.TextIndex.{
   pathHit,
   findPath,
   leafHit,
+  leafBucket,
+  claimAt,
   claimOf,
+  firstAt,
 };
-ghost use Rattle.vrf_table.specs.Answers.{entry, claim, Texts};
+ghost use Rattle.vrf_table.specs.Answers.{entry, claim, Suffixed, Texts};
 
 // An entry of a table.
 pub enum Entry {
@@ -213,7 +218,7 @@ fn mix(hash: u64) -> u64
 {
     let low = hash % 0x1_0000_0000;
     let high = hash / 0x1_0000_0000;
-    (low * 1481765933 + high * 1284865837) / 0x1_0000 % 0x1_0000_0000
+    (low + high) % 0x1_0000_0000
 }
 
 // The bucket of a text among b.
@@ -283,39 +288,69 @@ pub fn find_path(
     Entry::Nowhere
 }
 
-// Whether a path's leaf is l, which has no dot: so it is if l, and a dot before it, are the end of the path.
-fn leaf_is(path: &[u8], l: &[u8]) -> bool
-    requires { ⌜ Dotless (now l) ⌝ }
-    ensures { λ r. ⌜ r ≡ isThe (leaf (now (path .entry))) (now (l .entry)) ⌝ }
+// The bucket of a leaf among b: that of its base, so that the leaves that a name is tried as are found in one chain.
+pub fn leaf_bucket(l: &[u8], b: u32) -> u32
+    requires { ⌜ length (now l) < 2 ^ 32 ⌝ }
+    ensures { λ r. ⌜ r ≡ leafBucket b (now (l .entry)) ⌝ }
 {
-    if l.len() == 0 {
+    let n = leaf_base(l);
+    text_bucket(&l[..n], b)
+}
+
+// Whether a path ends with a name and a suffix, which start at place `from`.
+fn ends_so(path: &[u8], from: usize, name: &[u8], suffix: &[u8]) -> bool
+    requires { ⌜ from + length (now name) + length (now suffix) ≡ length (now path) ⌝ }
+    ensures { λ r. ⌜ r ≡ same (drop from (now (path .entry))) (now (name .entry) ++ now (suffix .entry)) ⌝ }
+{
+    let behind = from + name.len();
+    if same(&path[behind..], suffix) {
+        return same(&path[from..behind], name);
+    }
+    false
+}
+
+// Whether a path's leaf is a name and a suffix, which have no dot: so it is if they, and a dot before them, are the end of the path.
+fn leaf_is(path: &[u8], name: &[u8], suffix: &[u8]) -> bool
+    requires { ⌜ Suffixed (now name) (now suffix) ⌝ }
+    ensures { λ r. ⌜ r ≡ isThe (leaf (now (path .entry))) (now (name .entry) ++ now (suffix .entry)) ⌝ }
+{
+    let n = name.len() + suffix.len();
+    if n == 0 {
         return false;
     }
-    if path.len() <= l.len() {
+    if path.len() <= n {
         return false;
     }
-    let from = path.len() - l.len();
+    let from = path.len() - n;
     if path[from - 1] != b'.' {
         return false;
     }
-    same(&path[from..], l)
+    ends_so(path, from, name, suffix)
 }
 
-// Whether the leaf of group e is l.
-fn leaf_hit(rows: &[u8], x: &[u8], e: u32, l: &[u8]) -> bool
-    requires { ⌜ Dotless (now l) × (24 * e + 24 ≤ length (now rows)) × (at (now rows) e + len (now rows) e ≤ length (now x)) ⌝ }
-    ensures { λ r. ⌜ r ≡ leafHit (now (rows .entry)) (now (x .entry)) (now (l .entry)) e ⌝ }
+// Whether the leaf of group e is a name and a suffix.
+fn leaf_hit(rows: &[u8], x: &[u8], e: u32, name: &[u8], suffix: &[u8]) -> bool
+    requires { ⌜ Suffixed (now name) (now suffix) × (24 * e + 24 ≤ length (now rows)) × (at (now rows) e + len (now rows) e ≤ length (now x)) ⌝ }
+    ensures { λ r. ⌜ r ≡ leafHit (now (rows .entry)) (now (x .entry)) (now (name .entry) ++ now (suffix .entry)) e ⌝ }
 {
     let row = 6 * (e as usize);
     let from = get32(rows, row + 3) as usize;
     let to = from + (get32(rows, row + 4) as usize);
-    leaf_is(&x[from..to], l)
+    leaf_is(&x[from..to], name, suffix)
 }
 
-// The first group with the leaf l from the pointer p on, of n.
-pub fn find_leaf(rows: &[u8], x: &[u8], links: &[u8], n: u32, p: u32, l: &[u8]) -> Entry
-    requires { ⌜ Dotless (now l) × (24 * n ≤ length (now rows)) × (4 * n ≤ length (now links)) × Texts (now rows) (now x) n ⌝ }
-    ensures { λ r. ⌜ entry r ≡ walk (leafHit (now (rows .entry)) (now (x .entry)) (now (l .entry))) (word (now (links .entry))) n p ⌝ }
+// The first group with that leaf from the pointer p on, of n.
+fn find_leaf(
+    rows: &[u8],
+    x: &[u8],
+    links: &[u8],
+    n: u32,
+    p: u32,
+    name: &[u8],
+    suffix: &[u8],
+) -> Entry
+    requires { ⌜ Suffixed (now name) (now suffix) × (24 * n ≤ length (now rows)) × (4 * n ≤ length (now links)) × Texts (now rows) (now x) n ⌝ }
+    ensures { λ r. ⌜ entry r ≡ walk (leafHit (now (rows .entry)) (now (x .entry)) (now (name .entry) ++ now (suffix .entry))) (word (now (links .entry))) n p ⌝ }
 {
     let mut p = p;
     let mut limit = n;
@@ -324,13 +359,35 @@ pub fn find_leaf(rows: &[u8], x: &[u8], links: &[u8], n: u32, p: u32, l: &[u8]) 
         if limit <= e {
             return Entry::Nowhere;
         }
-        if leaf_hit(rows, x, e, l) {
+        if leaf_hit(rows, x, e, name, suffix) {
             return Entry::At(e);
         }
         limit = e;
         p = get32(links, e as usize);
     }
     Entry::Nowhere
+}
+
+// The only group of n with that leaf, by its chain, which starts at the pointer p.
+fn claim_from(
+    rows: &[u8],
+    x: &[u8],
+    links: &[u8],
+    n: u32,
+    p: u32,
+    name: &[u8],
+    suffix: &[u8],
+) -> Claim
+    requires { ⌜ Suffixed (now name) (now suffix) × (24 * n ≤ length (now rows)) × (4 * n ≤ length (now links)) × (n ≤ 100000) × Texts (now rows) (now x) n ⌝ }
+    ensures { λ r. ⌜ claim r ≡ claimAt (now (rows .entry)) (now (x .entry)) (now (links .entry)) n p (now (name .entry) ++ now (suffix .entry)) ⌝ }
+{
+    match find_leaf(rows, x, links, n, p, name, suffix) {
+        Entry::Nowhere => ABSENT,
+        Entry::At(e) => match find_leaf(rows, x, links, e, get32(links, e as usize), name, suffix) {
+            Entry::Nowhere => e + 2,
+            Entry::At(_) => AMBIGUOUS,
+        },
+    }
 }
 
 // The only group of n with the leaf l.
@@ -346,12 +403,33 @@ pub fn leaf_claim(
     requires { ⌜ Dotless (now l) × (24 * n ≤ length (now rows)) × (4 * n ≤ length (now links)) × (4 * b ≤ length (now heads)) × (0 < b) × (n ≤ 100000) × Texts (now rows) (now x) n × (length (now l) < 2 ^ 31) ⌝ }
     ensures { λ r. ⌜ claim r ≡ claimOf (now (rows .entry)) (now (x .entry)) (now (links .entry)) (now (heads .entry)) b n (now (l .entry)) ⌝ }
 {
-    let start = get32(heads, text_bucket(&l[..], b) as usize);
-    match find_leaf(rows, x, links, n, start, l) {
-        Entry::Nowhere => ABSENT,
-        Entry::At(e) => match find_leaf(rows, x, links, e, get32(links, e as usize), l) {
-            Entry::Nowhere => e + 2,
-            Entry::At(_) => AMBIGUOUS,
-        },
+    let p = get32(heads, leaf_bucket(l, b) as usize);
+    claim_from(rows, x, links, n, p, l, b"")
+}
+
+// The first claim among a name's leaves with three suffixes. The chain of the first leaf starts at p, that of the others at q.
+pub fn first_claim(
+    rows: &[u8],
+    x: &[u8],
+    links: &[u8],
+    n: u32,
+    p: u32,
+    q: u32,
+    name: &[u8],
+    s: &[u8],
+    t: &[u8],
+    u: &[u8],
+) -> Claim
+    requires { ⌜ Suffixed (now name) (now s) × Suffixed (now name) (now t) × Suffixed (now name) (now u) × (24 * n ≤ length (now rows)) × (4 * n ≤ length (now links)) × (n ≤ 100000) × Texts (now rows) (now x) n ⌝ }
+    ensures { λ r. ⌜ claim r ≡ firstAt (now (rows .entry)) (now (x .entry)) (now (links .entry)) n p q (now (name .entry) ++ now (s .entry)) (now (name .entry) ++ now (t .entry)) (now (name .entry) ++ now (u .entry)) ⌝ }
+{
+    let first = claim_from(rows, x, links, n, p, name, s);
+    if first != ABSENT {
+        return first;
     }
+    let second = claim_from(rows, x, links, n, q, name, t);
+    if second != ABSENT {
+        return second;
+    }
+    claim_from(rows, x, links, n, q, name, u)
 }

@@ -2,7 +2,7 @@
 use mathlib.Core.Bool.{true}
 use mathlib.Core.List.{List, [], _∷_}
 use mathlib.Core.Option.{Option, none, some}
-use mathlib.Core.Path.{_≡_, subst}
+use mathlib.Core.Path.{_≡_}
 use Prim.Native.Nat.{ℕ, zero, suc, _+_, _/_, _%_, _≤_, _<_, zero-le}
 use native.Mathlib.Omega.{arith}
 use lib.ListN.{getD}
@@ -11,7 +11,7 @@ use Rattle.vrf_text.specs.Utf8.{In, UTF8-tail, UTF8-char, UTF8-octets, n
 use Rattle.vrf_text.specs.Utf8.{UTF8-1, UTF8-2, UTF8-3-E0, UTF8-3-E1, UTF8-3-ED, UTF8-3-EE, UTF8-4-F0, UTF8-4-F1, UTF8-4-F4}
 use Rattle.vrf_text.specs.Utf8Laws.{octets-utf8}
 use Rattle.vrf_text.specs.Utf16.{units, Kind, single, high, low, kind, pair, before, utf16From, utf16}
-use Rattle.vrf_text.specs.Utf16.{utf8Of, utf8Chars, unitsToUtf8, transcoded}
+use Rattle.vrf_text.specs.Utf16.{utf8Of, utf8Chars, unitsToUtf8}
 
 -- a Unicode scalar value: any character number but those of the surrogates
 pub data Scalar : ℕ → Type 0 where
@@ -159,7 +159,3 @@ units-16 [] h i = zero-le
 units-16 (a ∷ []) h i = zero-le
 units-16 (a ∷ b ∷ l) h zero = omega (arith, h 0, h 1)
 units-16 (a ∷ b ∷ l) h (suc i) = units-16 l (λ j. h (suc (suc j))) i
-
-pub transcoded-utf8 : (l : List ℕ) → ((i : ℕ) → getD l i 0 < 256) → (t : List ℕ) → transcoded l ≡ some t → utf8 t ≡ true
-unfolding transcoded
-transcoded-utf8 l h t e = subst Valid e (unitsToUtf8-valid (units l) (units-16 l h))

@@ -1,20 +1,12 @@
 -- `vrf_path::is_separator` meets its contract.
-use borrow.Author.Tests.{eq-eqb, ne-eqb}
+use mathlib.Core.Path.{refl}
 use Rattle.vrf_path.specs.Keys.{isSeparator}
 use Rattle.vrf_path.proofs.is_separator.Statement.{statement}
 use Rattle.vrf_path.proofs.is_separator.Tie as tie
 
 returns : tie.Need-returns
 unfolding isSeparator
-returns c = rw (eq-eqb _ _ (c .if1 .taken))
-
-returns-2 : tie.Need-returns-2
-unfolding isSeparator
-returns-2 c = rw (ne-eqb _ _ (c .before .if1 .left), eq-eqb _ _ (c .if2 .taken))
-
-returns-3 : tie.Need-returns-3
-unfolding isSeparator
-returns-3 c = rw (ne-eqb _ _ (c .before .if1 .left), ne-eqb _ _ (c .if2 .left))
+returns c = refl
 
 pub is-separator-spec : {M : Type 1} → statement M
-is-separator-spec = tie.close (tie.spec returns returns-2 returns-3)
+is-separator-spec = tie.close (tie.spec returns)

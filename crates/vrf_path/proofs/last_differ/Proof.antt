@@ -7,7 +7,7 @@ use denote.Ref.{now}
 use lib.ListN.{length, drop}
 use Rattle.vrf_path.specs.Text.{same}
 use Rattle.vrf_path.specs.TextLaws.{same-ended, agree-before}
-use Rattle.vrf_path.proofs.Texts.{differ-so}
+use Rattle.vrf_path.proofs.Texts.{differ-four}
 use borrow.Author.Needs.{needs}
 use Rattle.vrf_path.proofs.last_differ.Statement.{statement}
 use Rattle.vrf_path.proofs.last_differ.Tie as tie
@@ -18,17 +18,11 @@ sub-eight-differ c = search needs
 eight-differ-requires : tie.Need-eight-differ-requires
 eight-differ-requires c κs = search needs
 
-returns : tie.Need-returns
-returns c = rw (c .if1 .taken) at (c .before .eight-differ .ensures)
-
 left-requires : tie.Need-left-requires
 left-requires c κs = search needs
 
 eight-differ-requires-2 : tie.Need-eight-differ-requires-2
 eight-differ-requires-2 c κs = search needs
-
-returns-2 : tie.Need-returns-2
-returns-2 c = rw (c .if2 .taken) at (c .before .eight-differ2 .ensures)
 
 left-requires-2 : tie.Need-left-requires-2
 left-requires-2 c κs = search needs
@@ -36,26 +30,25 @@ left-requires-2 c κs = search needs
 eight-differ-requires-3 : tie.Need-eight-differ-requires-3
 eight-differ-requires-3 c κs = search needs
 
-returns-3 : tie.Need-returns-3
-returns-3 c = rw (c .if3 .taken) at (c .before .eight-differ3 .ensures)
-
 left-requires-3 : tie.Need-left-requires-3
 left-requires-3 c κs = search needs
 
 eight-differ-requires-4 : tie.Need-eight-differ-requires-4
 eight-differ-requires-4 c κs = search needs
 
-returns-4 : tie.Need-returns-4
-returns-4 c =
-    let x = c .before .before .before .before .before .before .before .before .before .before .before .before .args in
+returns : tie.Need-returns
+returns c =
+    let x = c .before .before .before .before .before .before .before .before .before .args in
     let a = now (x .a) in
     let b = now (x .b) in
-    let before = agree-before a b (λ i. c .before .before .before .before .before .before .before .before .before .before .before .shared-slice-known .given i .fits) (λ i. c .before .before .before .before .before .before .before .before .before .before .shared-slice-known2 .given i .fits) in
+    let before = agree-before a b (λ i. c .before .before .before .before .before .before .before .before .shared-slice-known .given i .fits) (λ i. c .before .before .before .before .before .before .before .shared-slice-known2 .given i .fits) in
     let end : same (drop (length a) a) (drop (length a) b) ≡ true = same-ended a b (length a) (omega arith) (omega arith) in
-    let t8 = before (length a) (length a - 8) (omega arith) (omega arith) (omega arith) (rw (c .before .before .before .before .before .before .before .before .if1 .left) at (c .before .before .before .before .before .before .before .before .before .eight-differ .ensures)) end in
-    let t16 = before (length a - 8) (length a - 16) (omega arith) (omega arith) (omega arith) (rw (c .before .before .before .before .before .before .before .left .ensures) at (rw (c .before .before .before .before .before .if2 .left) at (c .before .before .before .before .before .before .eight-differ2 .ensures))) t8 in
-    let t24 = before (length a - 16) (length a - 24) (omega arith) (omega arith) (omega arith) (rw (c .before .before .before .before .left2 .ensures) at (rw (c .before .before .if3 .left) at (c .before .before .before .eight-differ3 .ensures))) t16 in
-    differ-so a b (c .eight-differ4 .result) (rw (c .before .left3 .ensures) at (c .eight-differ4 .ensures)) (λ e. before (length a - 24) (length a - 32) (omega arith) (omega arith) (omega arith) e t24)
+    differ-four a b (c .before .before .before .before .before .before .eight-differ .result) (c .before .before .before .before .eight-differ2 .result) (c .before .before .eight-differ3 .result) (c .eight-differ4 .result) (c .before .before .before .before .before .before .eight-differ .ensures) (rw (c .before .before .before .before .before .left .ensures) at (c .before .before .before .before .eight-differ2 .ensures)) (rw (c .before .before .before .left2 .ensures) at (c .before .before .eight-differ3 .ensures)) (rw (c .before .left3 .ensures) at (c .eight-differ4 .ensures))
+    (λ e8 e16 e24 e32.
+    before (length a - 24) (length a - 32) (omega arith) (omega arith) (omega arith) e32
+    (before (length a - 16) (length a - 24) (omega arith) (omega arith) (omega arith) e24
+    (before (length a - 8) (length a - 16) (omega arith) (omega arith) (omega arith) e16
+    (before (length a) (length a - 8) (omega arith) (omega arith) (omega arith) e8 end))))
 
 pub last-differ-spec : {M : Type 1} → statement M
 last-differ-spec =
@@ -63,13 +56,10 @@ last-differ-spec =
     (tie.spec
     sub-eight-differ
     eight-differ-requires
-    returns
     left-requires
     eight-differ-requires-2
-    returns-2
     left-requires-2
     eight-differ-requires-3
-    returns-3
     left-requires-3
     eight-differ-requires-4
-    returns-4)
+    returns)

@@ -1,5 +1,6 @@
 -- `vrf_table::find_leaf` meets its contract: what is left of the chain has the group that the whole chain has.
 use mathlib.Core.Path.{_≡_, refl, sym, _∙_}
+use mathlib.Core.List.{_++_}
 use Prim.Native.Nat.{_-_, _≤_}
 use native.Mathlib.Omega.{arith}
 use borrow.Author.Needs.{needs}
@@ -11,10 +12,10 @@ use Rattle.vrf_table.proofs.find_leaf.Statement.{statement}
 use Rattle.vrf_table.proofs.find_leaf.Tie as tie
 
 abbrev Inv-loop : tie.InvT-loop
-Inv-loop rows x links n p l p₀ limit₀ p' limit = (limit ≤ n) × (walk (leafHit rows x l) (word links) n p ≡ walk (leafHit rows x l) (word links) limit p')
+Inv-loop rows x links n p name suffix p₀ limit₀ p' limit = (limit ≤ n) × (walk (leafHit rows x (name ++ suffix)) (word links) n p ≡ walk (leafHit rows x (name ++ suffix)) (word links) limit p')
 
 abbrev μ-loop : tie.MeasureT-loop
-μ-loop rows x links n p l p₀ limit₀ p' limit = limit
+μ-loop rows x links n p name suffix p₀ limit₀ p' limit = limit
 
 loop-holds : tie.Need-loop-holds Inv-loop μ-loop
 loop-holds c = (omega arith, refl)
@@ -30,7 +31,7 @@ returns c =
 leaf-hit-requires : tie.Need-leaf-hit-requires Inv-loop μ-loop
 leaf-hit-requires c κs =
     let l = c .before .before .loop in
-    let x = c .before .before .before .before .before .before .before in
+    let x = c .before .before .before .before .before .before .before .before in
     (x .pre .0, omega arith, x .pre .3 (l .p - 1) (omega arith))
 
 returns-2 : tie.Need-returns-2 Inv-loop μ-loop

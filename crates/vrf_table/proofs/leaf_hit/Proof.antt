@@ -1,6 +1,6 @@
 -- `vrf_table::leaf_hit` meets its contract.
 use mathlib.Core.Path.{ap, _∙_}
-use mathlib.Core.List.{List}
+use mathlib.Core.List.{List, _++_}
 use Prim.Native.Nat.{ℕ}
 use native.Mathlib.Omega.{arith}
 use denote.Ref.{now}
@@ -53,10 +53,10 @@ leaf-is-requires c κs = search needs
 returns : tie.Need-returns
 unfolding leafHit at len
 returns c =
-    let x = c .before .before .before .before .before .before .before .args in
+    let x = c .before .before .before .before .before .before .before .before .args in
     let from = c .before .before .before .get32 in
     let size = c .before .before .get322 in
-    c .leaf-is .ensures ∙ ap (λ (s : List ℕ). isThe (leaf s) (now (x .l))) (text-part (now (x .rows)) (now (x .x)) (x .e) (from .result) (size .result) (from .ensures) (size .ensures))
+    c .leaf-is .ensures ∙ ap (λ (s : List ℕ). isThe (leaf s) (now (x .name) ++ now (x .suffix))) (text-part (now (x .rows)) (now (x .x)) (x .e) (from .result) (size .result) (from .ensures) (size .ensures))
 
 pub leaf-hit-spec : {M : Type 1} → statement M
 leaf-hit-spec =

@@ -1,17 +1,28 @@
 -- `vrf_table::leaf_is` meets its contract.
 use mathlib.Core.Path.{sym}
+use mathlib.Core.List.{_++_}
 use native.Mathlib.Omega.{arith}
 use denote.Ref.{now}
+use lib.ListN.{length-append}
 use Rattle.vrf_table.proofs.Texts.{leaf-not, leaf-end}
 use borrow.Author.Needs.{needs}
 use Rattle.vrf_table.proofs.leaf_is.Statement.{statement}
 use Rattle.vrf_table.proofs.leaf_is.Tie as tie
 
+add-n : tie.Need-add-n
+add-n c = search needs
+
 returns : tie.Need-returns
-returns c = let x = c .before .before .before .args in sym (leaf-not (now (x .path)) (now (x .l)) (λ is. omega (arith, is .some-bytes, c .if1 .taken)))
+returns c =
+    let x = c .before .before .before .before .args in
+    let size = length-append (now (x .name)) (now (x .suffix)) in
+    sym (leaf-not (now (x .path)) (now (x .name) ++ now (x .suffix)) (λ is. omega (arith, is .some-bytes, size, c .if1 .taken)))
 
 returns-2 : tie.Need-returns-2
-returns-2 c = let x = c .before .before .before .before .args in sym (leaf-not (now (x .path)) (now (x .l)) (λ is. omega (arith, is .shorter, c .if2 .taken)))
+returns-2 c =
+    let x = c .before .before .before .before .before .args in
+    let size = length-append (now (x .name)) (now (x .suffix)) in
+    sym (leaf-not (now (x .path)) (now (x .name) ++ now (x .suffix)) (λ is. omega (arith, is .shorter, size, c .if2 .taken)))
 
 sub-from : tie.Need-sub-from
 sub-from c = search needs
@@ -23,35 +34,22 @@ shared-slice-read-if3 : tie.Need-shared-slice-read-if3
 shared-slice-read-if3 c = search needs
 
 returns-3 : tie.Need-returns-3
-returns-3 c = let x = c .before .before .before .before .before .before .args in sym (leaf-not (now (x .path)) (now (x .l)) (λ is. c .if3 .taken (is .dot)))
+returns-3 c =
+    let x = c .before .before .before .before .before .before .before .args in
+    let size = length-append (now (x .name)) (now (x .suffix)) in
+    sym (leaf-not (now (x .path)) (now (x .name) ++ now (x .suffix)) (λ is. c .if3 .taken (rw size at (is .dot))))
 
-sub-same : tie.Need-sub-same
-sub-same c = search needs
-
-part-same-start : tie.Need-part-same-start
-part-same-start c = search needs
-
-part-same-end : tie.Need-part-same-end
-part-same-end c = search needs
-
-same-requires : tie.Need-same-requires
-same-requires c κs = search needs
+ends-so-requires : tie.Need-ends-so-requires
+ends-so-requires c κs = omega arith
 
 returns-4 : tie.Need-returns-4
-returns-4 c = let x = c .before .before .before .before .before .before .before .before in leaf-end (now (x .args .path)) (now (x .args .l)) (x .pre) (omega arith) (omega arith) (c .before .before .if3 .left) (c .same .ensures)
+returns-4 c =
+    let s = c .before .before .before .before .before .before .before .before in
+    let l = now (s .args .name) ++ now (s .args .suffix) in
+    let size = length-append (now (s .args .name)) (now (s .args .suffix)) in
+    leaf-end (now (s .args .path)) l (s .pre .0) (omega (arith, size)) (omega (arith, size)) (rw (← size) at (c .before .if3 .left)) (rw (← size) at (c .ends-so .ensures))
 
 pub leaf-is-spec : {M : Type 1} → statement M
 leaf-is-spec =
     tie.close
-    (tie.spec
-    returns
-    returns-2
-    sub-from
-    sub-if3
-    shared-slice-read-if3
-    returns-3
-    sub-same
-    part-same-start
-    part-same-end
-    same-requires
-    returns-4)
+    (tie.spec add-n returns returns-2 sub-from sub-if3 shared-slice-read-if3 returns-3 ends-so-requires returns-4)

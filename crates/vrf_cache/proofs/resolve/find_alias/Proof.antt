@@ -4,7 +4,8 @@ use denote.Ref.{now}
 use borrow.Author.Needs.{needs}
 use Rattle.vrf_store.specs.Stepped.{held}
 use Rattle.vrf_cache.specs.Resolve.{withToggle}
-use Rattle.vrf_cache.specs.ResolveLaws.{toggle-none, spelled-none, spelled-some}
+use Rattle.vrf_path.specs.AnswersLaws.{spelled-bytes, spelled-absent}
+use Rattle.vrf_cache.specs.ResolveLaws.{toggle-none}
 use Rattle.vrf_cache.proofs.resolve.find_alias.Statement.{statement}
 use Rattle.vrf_cache.proofs.resolve.find_alias.Tie as tie
 
@@ -12,7 +13,7 @@ is-absent-requires : tie.Need-is-absent-requires
 is-absent-requires c κs = search needs
 
 returns : tie.Need-returns
-returns c = sym (toggle-none (held (now (c .before .before .before .before .args .m)) .groups) (spelled-none (now (c .before .before .before .before .args .path)) (c .before .before .before .before .args .key) (cc)))
+returns c = sym (toggle-none (held (now (c .before .before .before .before .args .m)) .groups) (spelled-absent (now (c .before .before .before .before .args .path)) (c .before .before .before .before .args .key) (cc)))
 
 key-len-requires : tie.Need-key-len-requires
 key-len-requires c κs = search needs
@@ -23,7 +24,7 @@ find-short-alias-requires c κs = search needs
 returns-2 : tie.Need-returns-2
 returns-2 c =
     let args = c .before .before .before .before .before .before .before .args in
-    let there = spelled-some (now (args .path)) (args .key) (cc) in
+    let there = spelled-bytes (now (args .path)) (args .key) (cc) in
     c .find-short-alias .ensures ∙ ap (withToggle (held (now (args .m)) .groups)) (sym there)
 
 find-long-alias-requires : tie.Need-find-long-alias-requires
@@ -32,7 +33,7 @@ find-long-alias-requires c κs = search needs
 returns-3 : tie.Need-returns-3
 returns-3 c =
     let args = c .before .before .before .before .before .before .before .args in
-    let there = spelled-some (now (args .path)) (args .key) (cc) in
+    let there = spelled-bytes (now (args .path)) (args .key) (cc) in
     c .find-long-alias .ensures ∙ ap (withToggle (held (now (args .m)) .groups)) (sym there)
 
 pub find-alias-spec : {M : Type 1} → statement M

@@ -1,10 +1,9 @@
 -- `vrf_cache::resolve::unique_leaf_match` meets its contract.
-use mathlib.Core.Path.{sym, _∙_}
-use native.Mathlib.Omega.{arith}
+use mathlib.Core.Path.{_∙_}
 use denote.Ref.{now}
-use Rattle.vrf_path.specs.LeafLaws.{separatorless}
+use Rattle.vrf_path.specs.Stems.{component, underscoreC}
 use Rattle.vrf_store.specs.Stepped.{held}
-use Rattle.vrf_cache.specs.ResolveLaws.{match-path, match-name, name-decides, name-passes}
+use Rattle.vrf_cache.specs.ResolveLaws.{match-path, match-name, name-in-turn, name-leaves}
 use borrow.Author.Needs.{needs}
 use Rattle.vrf_cache.proofs.resolve.unique_leaf_match.Statement.{statement}
 use Rattle.vrf_cache.proofs.resolve.unique_leaf_match.Tie as tie
@@ -15,32 +14,31 @@ has-path-separator-requires c κs = search needs
 returns : tie.Need-returns
 returns c = let x = c .before .before .before .before .args in match-path (now (x .name)) (held (now (x .m)) .groups) (cc)
 
-claim-of-requires : tie.Need-claim-of-requires
-claim-of-requires c κs = let x = c .before .before .before .before in (x .pre .0, separatorless (now (x .args .name)) (cc), omega arith)
+leaf-base-requires : tie.Need-leaf-base-requires
+leaf-base-requires c κs = search needs
 
-decides-requires : tie.Need-decides-requires
-decides-requires c κs = search needs
+slice-aggregate-claim-of : tie.Need-slice-aggregate-claim-of
+slice-aggregate-claim-of c = search needs
+
+slice-aggregate-claim-of-2 : tie.Need-slice-aggregate-claim-of-2
+slice-aggregate-claim-of-2 c = search needs
+
+slice-aggregate-claim-of-3 : tie.Need-slice-aggregate-claim-of-3
+slice-aggregate-claim-of-3 c = search needs
+
+claim-of-requires : tie.Need-claim-of-requires
+unfolding component underscoreC
+claim-of-requires c κs = let s = c .before .before .before .before .before .before .before .before in (s .pre .0, name-leaves (now (s .args .name)) (cc) (s .pre .1) (c .before .before .before .leaf-base .ensures))
 
 claimed-requires : tie.Need-claimed-requires
 claimed-requires c κs = search needs
 
 returns-2 : tie.Need-returns-2
+unfolding component underscoreC
 returns-2 c =
-    let x = c .before .before .before .before .before .before .before .before .args in
+    let x = c .before .before .before .before .before .before .before .before .before .before .args in
     let groups = held (now (x .m)) .groups in
-    c .claimed .ensures ∙ match-name (now (x .name)) groups (cc) (name-decides groups (now (x .name)) (c .before .before .before .claim-of .ensures) (sym (c .before .before .decides .ensures) ∙ c .before .if2 .taken))
-
-longer-requires : tie.Need-longer-requires
-longer-requires c κs = (c .before .before .before .before .before .before .before .pre .0, (cc), omega arith)
-
-claimed-requires-2 : tie.Need-claimed-requires-2
-claimed-requires-2 c κs = search needs
-
-returns-3 : tie.Need-returns-3
-returns-3 c =
-    let x = c .before .before .before .before .before .before .before .before .before .args in
-    let groups = held (now (x .m)) .groups in
-    c .claimed2 .ensures ∙ match-name (now (x .name)) groups (cc) (name-passes groups (now (x .name)) (c .before .before .before .before .claim-of .ensures) (sym (c .before .before .before .decides .ensures) ∙ c .before .before .if2 .left) (c .before .longer .ensures))
+    c .claimed .ensures ∙ match-name (now (x .name)) groups (cc) (name-in-turn groups (now (x .name)) (c .before .claim-of .ensures))
 
 pub unique-leaf-match-spec : {M : Type 1} → statement M
 unique-leaf-match-spec =
@@ -48,10 +46,10 @@ unique-leaf-match-spec =
     (tie.spec
     has-path-separator-requires
     returns
+    leaf-base-requires
+    slice-aggregate-claim-of
+    slice-aggregate-claim-of-2
+    slice-aggregate-claim-of-3
     claim-of-requires
-    decides-requires
     claimed-requires
-    returns-2
-    longer-requires
-    claimed-requires-2
-    returns-3)
+    returns-2)

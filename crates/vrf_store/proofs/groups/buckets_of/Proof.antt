@@ -60,18 +60,12 @@ core-alias-requires c κs = search needs
 alias-bucket-requires-2 : tie.Need-alias-bucket-requires-2
 alias-bucket-requires-2 c κs = rw (c .before .before .before .before .before .before .row-text .ensures, c .before .before .before .before .before .before .before .before .group-rows .ensures, c .before .before .before .before .before .before .before .texts .ensures) (path-short (c .before .before .before .before .before .before .before .before .before .before .before .pre))
 
-mul-leaf-bucket : tie.Need-mul-leaf-bucket
-mul-leaf-bucket c = search needs
-
-add-leaf-bucket : tie.Need-add-leaf-bucket
-add-leaf-bucket c = search needs
-
-leaf-bucket-requires : tie.Need-leaf-bucket-requires
-leaf-bucket-requires c κs = rw (c .before .before .before .before .before .before .before .row-text .ensures, c .before .before .before .before .before .before .before .before .before .group-rows .ensures, c .before .before .before .before .before .before .before .before .texts .ensures) (path-short (c .before .before .before .before .before .before .before .before .before .before .before .before .pre))
+leaf-bucket-in-requires : tie.Need-leaf-bucket-in-requires
+leaf-bucket-in-requires c κs = search needs
 
 returns : tie.Need-returns
 unfolding key numbered bucketOf
-returns c = record { key = cc; own = cc; default = cc; core = cc; leaf = cc }
+returns c = record { key = cc; own = cc; default = cc; core = cc; leaf = c .leaf-bucket-in .ensures }
 
 pub buckets-of-spec : {M : Type 1} → statement M
 buckets-of-spec =
@@ -93,7 +87,5 @@ buckets-of-spec =
     alias-bucket-requires
     core-alias-requires
     alias-bucket-requires-2
-    mul-leaf-bucket
-    add-leaf-bucket
-    leaf-bucket-requires
+    leaf-bucket-in-requires
     returns)

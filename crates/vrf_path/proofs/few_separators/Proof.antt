@@ -1,13 +1,13 @@
--- `vrf_path::has_path_separator` meets its contract: from place i on the text has a separator if the whole one has.
+-- `vrf_path::few_separators` meets its contract: from place i on the text has a separator if the whole one has.
 use mathlib.Core.Path.{_≡_, refl, sym, _∙_}
 use Prim.Native.Nat.{_≤_, _-_}
 use native.Mathlib.Omega.{arith}
 use denote.Ref.{now}
 use lib.ListN.{length, drop}
 use Rattle.vrf_path.specs.Keys.{hasSeparator}
-use Rattle.vrf_path.specs.KeysLaws.{separator-here, separator-later, separator-nowhere}
-use Rattle.vrf_path.proofs.has_path_separator.Statement.{statement}
-use Rattle.vrf_path.proofs.has_path_separator.Tie as tie
+use Rattle.vrf_path.specs.KeysLaws.{separator-next, separator-nowhere}
+use Rattle.vrf_path.proofs.few_separators.Statement.{statement}
+use Rattle.vrf_path.proofs.few_separators.Tie as tie
 
 abbrev Inv-loop : tie.InvT-loop
 Inv-loop text i₀ i = (i ≤ length text) × (hasSeparator text ≡ hasSeparator (drop i text))
@@ -27,7 +27,7 @@ is-separator-requires c κs = tt
 returns : tie.Need-returns Inv-loop μ-loop
 returns c =
     let l = c .before .before .before .before .loop in
-    sym (l .inv .1 ∙ separator-here (now (c .before .before .before .before .before .before .args .text)) (l .i) (omega arith) (sym (c .before .is-separator .ensures) ∙ c .if1 .taken))
+    sym (l .inv .1 ∙ rw (sym (c .before .is-separator .ensures) ∙ c .if1 .taken) at (separator-next (now (c .before .before .before .before .before .before .args .text)) (l .i) (omega arith)))
 
 add-i : tie.Need-add-i Inv-loop μ-loop
 add-i c = omega arith
@@ -38,15 +38,15 @@ loop-less c = omega arith
 loop-again : tie.Need-loop-again Inv-loop μ-loop
 loop-again c =
     let l = c .before .before .before .before .loop in
-    (omega arith, l .inv .1 ∙ separator-later (now (c .before .before .before .before .before .before .args .text)) (l .i) (omega arith) (sym (c .before .is-separator .ensures) ∙ c .if1 .left))
+    (omega arith, l .inv .1 ∙ rw (sym (c .before .is-separator .ensures) ∙ c .if1 .left) at (separator-next (now (c .before .before .before .before .before .before .args .text)) (l .i) (omega arith)))
 
 returns-2 : tie.Need-returns-2 Inv-loop μ-loop
 returns-2 c =
     let l = c .before .loop in
     sym (l .inv .1 ∙ separator-nowhere (now (c .before .before .before .args .text)) (l .i) (c .loop-test .left))
 
-pub has-path-separator-spec : {M : Type 1} → statement M
-has-path-separator-spec =
+pub few-separators-spec : {M : Type 1} → statement M
+few-separators-spec =
     tie.close
     (tie.spec
     Inv-loop
