@@ -64,19 +64,23 @@ module _ (l t : List ℕ) (at a : ℕ) where
       let e7 = byte-more 6 (omega arith) (omega arith) e6 in
       byte-more 7 (omega arith) (omega arith) e7
 
-  pub sixteen : a + 16 ≤ length t → at + 16 ≤ length l
-      → set (set (set (set (set (set (set (set (set (set (set (set (set (set (set (set l at (getD t a 0)) (at + 1) (getD t (a + 1) 0)) (at + 2) (getD t (a + 2) 0)) (at + 3) (getD t (a + 3) 0)) (at + 4) (getD t (a + 4) 0)) (at + 5) (getD t (a + 5) 0)) (at + 6) (getD t (a + 6) 0)) (at + 7) (getD t (a + 7) 0)) (at + 8) (getD t (a + 8) 0)) (at + 9) (getD t (a + 9) 0)) (at + 10) (getD t (a + 10) 0)) (at + 11) (getD t (a + 11) 0)) (at + 12) (getD t (a + 12) 0)) (at + 13) (getD t (a + 13) 0)) (at + 14) (getD t (a + 14) 0)) (at + 15) (getD t (a + 15) 0)
-      ≡ pasted l at (part t a 16)
-  sixteen ht hl =
-      let e8 = eight (omega arith) (omega arith) in
-      let e9 = byte-more 8 (omega arith) (omega arith) e8 in
-      let e10 = byte-more 9 (omega arith) (omega arith) e9 in
-      let e11 = byte-more 10 (omega arith) (omega arith) e10 in
-      let e12 = byte-more 11 (omega arith) (omega arith) e11 in
-      let e13 = byte-more 12 (omega arith) (omega arith) e12 in
-      let e14 = byte-more 13 (omega arith) (omega arith) e13 in
-      let e15 = byte-more 14 (omega arith) (omega arith) e14 in
-      byte-more 15 (omega arith) (omega arith) e15
+-- eight bytes, one after another
+module _ (t : List ℕ) (a : ℕ) where
+  byte-last : {l : List ℕ} (n : ℕ) → a + n < length t → l ≡ part t a n → l ++ (getD t (a + n) 0 ∷ []) ≡ part t a (n + 1)
+  byte-last n h e = ap (λ (x : List ℕ). x ++ (getD t (a + n) 0 ∷ [])) e ∙ part-next t a n h
+
+  pub eight-part : a + 8 ≤ length t
+      → getD t a 0 ∷ getD t (a + 1) 0 ∷ getD t (a + 2) 0 ∷ getD t (a + 3) 0 ∷ getD t (a + 4) 0 ∷ getD t (a + 5) 0 ∷ getD t (a + 6) 0 ∷ getD t (a + 7) 0 ∷ [] ≡ part t a 8
+  unfolding part
+  eight-part h =
+      let e1 : getD t a 0 ∷ [] ≡ part t a 1 = simp add-zero at (part-next t a 0 (omega arith)) in
+      let e2 = byte-last 1 (omega arith) e1 in
+      let e3 = byte-last 2 (omega arith) e2 in
+      let e4 = byte-last 3 (omega arith) e3 in
+      let e5 = byte-last 4 (omega arith) e4 in
+      let e6 = byte-last 5 (omega arith) e5 in
+      let e7 = byte-last 6 (omega arith) e6 in
+      byte-last 7 (omega arith) e7
 
 -- ---- a part behind the first j bytes, or over the last of them
 

@@ -4,6 +4,7 @@ ghost use Prim.Native.Nat.{_+_, _*_, _/_, _%_, _^_, _<_, _≤_, min};
 ghost use lib.ListN.{length, replicate};
 ghost use Rattle.vrf_bitio.specs.Pasted.{pasted};
 ghost use Rattle.vrf_words.specs.Words.{part, word, setWord, Apart};
+ghost use Rattle.vrf_words.specs.Eights.{eightBytes};
 
 // A byte as a number of 32 bits.
 fn wide(x: u8) -> u32
@@ -72,28 +73,57 @@ fn put_few(m: &mut [u8], at: usize, t: &[u8])
     }
 }
 
+// Eight bytes that were read.
+struct Eight {
+    b0: u8,
+    b1: u8,
+    b2: u8,
+    b3: u8,
+    b4: u8,
+    b5: u8,
+    b6: u8,
+    b7: u8,
+}
+
+// Eight bytes of t, from byte k on.
+fn eight_of(t: &[u8], k: usize) -> Eight
+    requires { ⌜ k + 8 ≤ length (now t) ⌝ }
+    ensures { λ r. ⌜ eightBytes r ≡ part (now (t .entry)) k 8 ⌝ }
+{
+    Eight {
+        b0: t[k],
+        b1: t[k + 1],
+        b2: t[k + 2],
+        b3: t[k + 3],
+        b4: t[k + 4],
+        b5: t[k + 5],
+        b6: t[k + 6],
+        b7: t[k + 7],
+    }
+}
+
+// Writes eight bytes, from byte `to` on.
+fn put_these(m: &mut [u8], to: usize, e: Eight)
+    requires { ⌜ to + 8 ≤ length (now m) ⌝ }
+    ensures { λ _. ⌜ now (m .exit) ≡ pasted (now (m .entry)) to (eightBytes e) ⌝ }
+{
+    m[to] = e.b0;
+    m[to + 1] = e.b1;
+    m[to + 2] = e.b2;
+    m[to + 3] = e.b3;
+    m[to + 4] = e.b4;
+    m[to + 5] = e.b5;
+    m[to + 6] = e.b6;
+    m[to + 7] = e.b7;
+}
+
 // Eight bytes of t, from byte k on. All are read before one is written, so that they are one load and one store.
 fn put_eight(m: &mut [u8], at: usize, t: &[u8], k: usize)
     requires { ⌜ (k + 8 ≤ length (now t)) × (at + length (now t) ≤ length (now m)) ⌝ }
     ensures { λ _. ⌜ now (m .exit) ≡ pasted (now (m .entry)) (at + k) (part (now (t .entry)) k 8) ⌝ }
 {
-    let b0 = t[k];
-    let b1 = t[k + 1];
-    let b2 = t[k + 2];
-    let b3 = t[k + 3];
-    let b4 = t[k + 4];
-    let b5 = t[k + 5];
-    let b6 = t[k + 6];
-    let b7 = t[k + 7];
-    let to = at + k;
-    m[to] = b0;
-    m[to + 1] = b1;
-    m[to + 2] = b2;
-    m[to + 3] = b3;
-    m[to + 4] = b4;
-    m[to + 5] = b5;
-    m[to + 6] = b6;
-    m[to + 7] = b7;
+    let e = eight_of(t, k);
+    put_these(m, at + k, e);
 }
 
 // Sixteen bytes of t, likewise.
@@ -101,39 +131,10 @@ fn put_sixteen(m: &mut [u8], at: usize, t: &[u8], k: usize)
     requires { ⌜ (k + 16 ≤ length (now t)) × (at + length (now t) ≤ length (now m)) ⌝ }
     ensures { λ _. ⌜ now (m .exit) ≡ pasted (now (m .entry)) (at + k) (part (now (t .entry)) k 16) ⌝ }
 {
-    let b0 = t[k];
-    let b1 = t[k + 1];
-    let b2 = t[k + 2];
-    let b3 = t[k + 3];
-    let b4 = t[k + 4];
-    let b5 = t[k + 5];
-    let b6 = t[k + 6];
-    let b7 = t[k + 7];
-    let b8 = t[k + 8];
-    let b9 = t[k + 9];
-    let b10 = t[k + 10];
-    let b11 = t[k + 11];
-    let b12 = t[k + 12];
-    let b13 = t[k + 13];
-    let b14 = t[k + 14];
-    let b15 = t[k + 15];
-    let to = at + k;
-    m[to] = b0;
-    m[to + 1] = b1;
-    m[to + 2] = b2;
-    m[to + 3] = b3;
-    m[to + 4] = b4;
-    m[to + 5] = b5;
-    m[to + 6] = b6;
-    m[to + 7] = b7;
-    m[to + 8] = b8;
-    m[to + 9] = b9;
-    m[to + 10] = b10;
-    m[to + 11] = b11;
-    m[to + 12] = b12;
-    m[to + 13] = b13;
-    m[to + 14] = b14;
-    m[to + 15] = b15;
+    let first = eight_of(t, k);
+    let second = eight_of(t, k + 8);
+    put_these(m, at + k, first);
+    put_these(m, at + k + 8, second);
 }
 
 // 32 bytes of t, from byte k on.
