@@ -1,6 +1,6 @@
 -- The loops that write: the bytes of a number, and bits copied word by word.
-use mathlib.Core.Path.{_≡_, refl, sym, ap, _∙_, subst}
-use mathlib.Core.List.{List, [], _∷_, _++_}
+use mathlib.Core.Path.{_≡_, refl, sym, ap, _∙_}
+use mathlib.Core.List.{List, _∷_, _++_}
 use Prim.Native.Nat.{ℕ, zero, suc, _+_, _-_, _*_, _/_, _%_, _^_, _<_, _≤_, min}
 use native.Mathlib.Nat.{zero-add, add-zero, mul-zero, sub-zero, suc-add, lt-of-lt-of-le, mod-eq-of-lt, div-eq-of-lt}
 use native.Mathlib.Omega.{arith}
@@ -11,9 +11,8 @@ use Rattle.vrf_bitio.specs.Bits.{bitsOf, bytesOf, packedBits, bytesFor}
 use Rattle.vrf_bitio.specs.BitsLaws.{bits-lt, bits-low, bits-high}
 use Rattle.vrf_bitio.specs.WindowLaws.{bytes-length}
 use Rattle.vrf_bitio.specs.Number.{lowBytes}
-use Rattle.vrf_bitio.specs.NumberLaws.{lowBytes-length}
 use Rattle.vrf_bitio.specs.Pasted.{pasted}
-use Rattle.vrf_bitio.specs.PastedLaws.{pasted-nil, pasted-cons, pasted-length, pasted-append}
+use Rattle.vrf_bitio.specs.PastedLaws.{pasted-nil, pasted-cons, pasted-append}
 use Rattle.vrf_bitio.proofs.Words.{cut, join}
 
 -- `put_bytes` after k of t bytes: l is the list at the start, m the list now, left what is still to be written

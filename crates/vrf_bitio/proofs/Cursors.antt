@@ -1,7 +1,7 @@
 -- What the cursor's functions need: each of their answers as what the definition yields.
-use mathlib.Core.Path.{_≡_, refl, sym, ap, _∙_, subst}
+use mathlib.Core.Path.{_≡_, refl, sym, ap, _∙_}
 use mathlib.Core.Bool.{Bool, true, false, cond}
-use mathlib.Core.List.{List, []}
+use mathlib.Core.List.{List}
 use Prim.Native.Nat.{ℕ, zero, suc, _+_, _-_, _*_, _/_, _%_, _^_, _<_, _≤_, min}
 use native.Mathlib.Nat.{mod-lt}
 use native.Mathlib.Omega.{arith}
@@ -12,9 +12,9 @@ use Rattle.vrf_bitio.specs.Bits.{bitsOf, bytesOf, packedBits, bytesFor}
 use Rattle.vrf_bitio.specs.BitsLaws.{bits-inside}
 use Rattle.vrf_bitio.specs.Reading.{Read, ok, refused, handOn}
 use Rattle.vrf_bitio.specs.Window.{rest, bits, window, inner, copied}
-use Rattle.vrf_bitio.specs.WindowLaws.{byte-found, byte-lacks, word-found, word-lacks}
+use Rattle.vrf_bitio.specs.WindowLaws.{byte-found, word-found}
 use Rattle.vrf_bitio.specs.Number.{byte, word32}
-use Rattle.vrf_bitio.specs.Answers.{restOf, readAt, Gave}
+use Rattle.vrf_bitio.specs.Answers.{readAt, Gave}
 use Rattle.vrf_bitio.specs.declared.Cursor.{Cursor}
 
 -- what `lacks` answered, as an order

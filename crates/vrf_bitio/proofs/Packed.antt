@@ -1,10 +1,10 @@
 -- The loop of `read_int_packed`: after k bytes of a packed number, what is left to read from here yields what the whole yields.
-use mathlib.Core.Path.{_≡_, refl, sym, ap, _∙_, subst}
+use mathlib.Core.Path.{_≡_, refl, _∙_}
 use mathlib.Core.List.{List}
-use Prim.Native.Nat.{ℕ, zero, suc, _+_, _-_, _*_, _/_, _%_, _^_, _<_, _≤_}
+use Prim.Native.Nat.{ℕ, suc, _+_, _-_, _*_, _/_, _%_, _^_, _<_, _≤_}
 use native.Mathlib.Nat.{mul-le-mul-left}
 use native.Mathlib.Omega.{arith}
-use lib.Pow.{pow-mono, pow-add, pow-pos}
+use lib.Pow.{pow-mono, pow-add}
 use Rattle.vrf_bitio.specs.Number.{byte, packed, chunks}
 use Rattle.vrf_bitio.specs.NumberLaws.{chunks-lacks, chunk-ends, chunk-goes-on}
 use Rattle.vrf_bitio.specs.Answers.{restOf, readAt, Gave, Refuses}

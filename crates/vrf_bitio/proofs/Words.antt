@@ -1,5 +1,5 @@
 -- What the loads of a word need: bytes put together, low byte first.
-use mathlib.Core.Path.{_≡_, refl, sym, ap, _∙_, subst}
+use mathlib.Core.Path.{_≡_, sym, ap, _∙_, subst}
 use mathlib.Core.List.{List}
 use Prim.Native.Nat.{ℕ, suc, _+_, _-_, _*_, _/_, _%_, _^_, _<_, _≤_}
 use native.Mathlib.Nat.{lt-of-lt-of-le, mod-lt, one-mul, suc-mul, mul-comm, mul-assoc, mul-mod-left, mul-le-mul-right, div-one, mod-eq-of-lt}

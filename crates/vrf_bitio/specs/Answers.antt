@@ -1,7 +1,7 @@
 -- What the code's answers stand for. For each answer type of the code, `XAnswer s c x r` says that r, answered at the cursor c of the
 -- slice s, is what the definition yields, x: the value with the cursor after it, or the refusal with its number and details.
 use mathlib.Core.Path.{_≡_}
-use mathlib.Core.Bool.{Bool, cond}
+use mathlib.Core.Bool.{cond}
 use mathlib.Core.List.{List}
 use Prim.Native.Nat.{ℕ}
 use lib.IntN.{ℤ}

@@ -2,7 +2,7 @@
 use mathlib.Core.Path.{_≡_, refl, _∙_}
 use mathlib.Core.List.{List}
 use Prim.Native.Nat.{ℕ}
-use Rattle.vrf_bitio.specs.Reading.{Read, ok, refused, Reader, return, _>>=_}
+use Rattle.vrf_bitio.specs.Reading.{Read, Reader, return, _>>=_}
 use Rattle.vrf_bitio.specs.ReadingLaws.{bind-ok, bind-refused}
 use Rattle.vrf_bitio.specs.Answers.{restOf, readAt, Gave, Refuses, WordAnswer}
 use Rattle.vrf_bitio.specs.declared.Cursor.{Cursor}

@@ -1,14 +1,14 @@
 -- Laws of the bits of a slice: how a run of bits splits, what a whole byte is, and how bytes follow one another.
-use mathlib.Core.Path.{_≡_, refl, sym, ap, _∙_, subst}
-use mathlib.Core.List.{List, [], _∷_, _++_}
-use Prim.Native.Nat.{ℕ, zero, suc, _+_, _-_, _*_, _/_, _%_, _^_, _<_, _≤_, min, zero-le}
-use native.Mathlib.Nat.{add-zero, zero-add, mul-zero, add-assoc, pow-succ', mod-lt, add-mul-div-left, mul-add-mod-self-left, mod-eq-of-lt, div-eq-of-lt, add-suc, suc-add, add-mul-mod-self-left, div-div-eq-div-mul, div-add-mod, mod-one, div-one, zero-div}
+use mathlib.Core.Path.{_≡_, refl, sym, _∙_}
+use mathlib.Core.List.{List}
+use Prim.Native.Nat.{ℕ, zero, suc, _+_, _-_, _*_, _/_, _%_, _^_, _<_, _≤_}
+use native.Mathlib.Nat.{add-zero, zero-add, pow-succ', mod-lt, add-mul-div-left, mod-eq-of-lt, div-eq-of-lt, suc-add, add-mul-mod-self-left, div-div-eq-div-mul, mod-one, div-one, zero-div}
 use native.Mathlib.Numerals.{add-one}
 use native.Mathlib.Omega.{arith}
 use lib.ListN.{length, getD, take, drop, List·getD-eq-default}
 use lib.Seq.{drop-cons}
 use lib.Pow.{pow-pos, pow-add, mod-pow-add}
-use Rattle.vrf_bitio.specs.Bits.{bitOf, bitsOf, bytesOf, packedBits}
+use Rattle.vrf_bitio.specs.Bits.{bitOf, bitsOf, bytesOf}
 
 pub bitOf-lt : (s : List ℕ) (i : ℕ) → bitOf s i < 2
 unfolding bitOf

@@ -1,13 +1,13 @@
 -- Laws of numbers of whole bytes: what each byte of a packed number does, and the round trips.
-use mathlib.Core.Path.{_≡_, refl, sym, ap, _∙_}
-use mathlib.Core.List.{List, [], _∷_, _++_}
+use mathlib.Core.Path.{_≡_, refl, ap, _∙_}
+use mathlib.Core.List.{List, _∷_, _++_}
 use Prim.Native.Nat.{ℕ, zero, suc, _+_, _-_, _*_, _/_, _%_, _^_, _<_, _≤_}
 use native.Mathlib.Nat.{pow-succ'}
 use native.Mathlib.Decide.{decLt}
 use native.Mathlib.Omega.{arith}
 use lib.ListN.{length}
 use borrow.Author.Tests.{eq-eqb, ne-eqb, lt-ltb, le-ltb}
-use Rattle.vrf_bitio.specs.Reading.{Read, ok, refused, _>>=_, return}
+use Rattle.vrf_bitio.specs.Reading.{ok, refused, return}
 use Rattle.vrf_bitio.specs.ReadingLaws.{bind-ok, bind-refused, Decodes}
 use Rattle.vrf_bitio.specs.Number.{byte, word32, chunks, packed, lowBytes, encodeWord32, encodeChunks, encodePacked}
 

@@ -1,11 +1,11 @@
 -- Readings one after another.
-use mathlib.Core.Path.{_≡_, refl, sym, ap, _∙_, subst}
+use mathlib.Core.Path.{_≡_, sym, ap, _∙_, subst}
 use mathlib.Core.List.{List, [], _++_, append-assoc, append-nil}
 use Prim.Native.Nat.{ℕ, _+_, _*_}
 use native.Mathlib.Nat.{add-zero}
 use native.Mathlib.Omega.{arith}
 use lib.ListN.{length, length-append}
-use Rattle.vrf_bitio.specs.Reading.{Read, ok, refused, Reader, return, handOn, _>>=_}
+use Rattle.vrf_bitio.specs.Reading.{ok, refused, Reader, return, handOn, _>>=_}
 
 module _ {A B : Type 0} (r : Reader A) (f : A → Reader B) (pos : ℕ) (l : List ℕ) where
   pub bind-ok : {a : A} {p : ℕ} {m : List ℕ} → r pos l ≡ ok a p m → (r >>= f) pos l ≡ f a p m

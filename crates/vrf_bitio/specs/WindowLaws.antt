@@ -1,7 +1,7 @@
 -- Laws of windows: the bytes left at a position, and what readings of whole bytes find there.
-use mathlib.Core.Path.{_≡_, refl, sym, ap, _∙_, subst}
+use mathlib.Core.Path.{_≡_, refl, ap, _∙_}
 use mathlib.Core.List.{List, [], _∷_}
-use Prim.Native.Nat.{ℕ, zero, suc, _+_, _-_, _*_, _/_, _%_, _^_, _<_, _≤_, min}
+use Prim.Native.Nat.{ℕ, zero, suc, _+_, _-_, _*_, _/_, _<_, _≤_, min}
 use native.Mathlib.Nat.{div-eq-of-lt}
 use native.Mathlib.Omega.{arith}
 use borrow.Author.Tests.{le-ltb}
@@ -9,7 +9,7 @@ use lib.ListN.{length}
 use lib.Seq.{take-length}
 use Rattle.vrf_bitio.specs.Bits.{bitsOf, bytesOf}
 use Rattle.vrf_bitio.specs.BitsLaws.{bits-split, Bytes, bytes-aligned}
-use Rattle.vrf_bitio.specs.Reading.{Read, ok, refused}
+use Rattle.vrf_bitio.specs.Reading.{ok, refused}
 use Rattle.vrf_bitio.specs.Window.{rest, window}
 use Rattle.vrf_bitio.specs.Number.{byte, word32}
 

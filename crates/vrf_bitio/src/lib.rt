@@ -1,6 +1,6 @@
 // The bit reader of document 01 over byte slices. Names follow vrf-bitio's lib.rs.
 ghost use mathlib.Core.Path.{_≡_};
-ghost use Prim.Native.Nat.{ℕ, _+_, _-_, _*_, _<_, _≤_, _^_, _%_, _/_, min};
+ghost use Prim.Native.Nat.{_+_, _-_, _*_, _<_, _≤_, _^_, _%_, _/_, min};
 ghost use lib.Dec.{ltb};
 ghost use lib.ListN.{length, getD};
 ghost use Rattle.vrf_bitio.specs.Bits.{bitsOf, packedBits, bytesFor};

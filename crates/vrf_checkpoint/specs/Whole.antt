@@ -1,10 +1,8 @@
 -- A whole block: what the functions that read it promise.
-use mathlib.Core.Path.{_≡_}
-use mathlib.Core.List.{List, []}
+use mathlib.Core.List.{List}
 use Prim.Native.Nat.{ℕ, _≤_}
 use lib.ListN.{length}
 use Rattle.vrf_bitio.specs.declared.Cursor.{Cursor}
-use Rattle.vrf_bitio.specs.declared.Refusal.{Refusal}
 use Rattle.vrf_bitio.specs.declared.Word.{Word}
 use Rattle.vrf_bitio.specs.declared.Word.the-variants.{Value, Refused as NoWord}
 use Rattle.vrf_model.specs.Intake.{Intake, return, stop, _>>=_}

@@ -1,23 +1,19 @@
 -- How the parts of a block's reader come to their promises.
-use mathlib.Core.Path.{_≡_, refl, sym, ap, _∙_}
-use mathlib.Core.Bool.{cond}
+use mathlib.Core.Path.{_≡_, refl}
 use mathlib.Core.List.{List}
 use Prim.Native.Nat.{ℕ, _+_, _/_, _≤_, _<_}
-use lib.Dec.{eqb, ltb}
-use lib.ListN.{length}
 use borrow.Author.Tests.{lt-ltb, le-ltb, eq-eqb, ne-eqb}
 use Rattle.vrf_bitio.specs.Reading.{position}
 use Rattle.vrf_bitio.specs.Number.{word32}
 use Rattle.vrf_bitio.specs.Answers.{readAt, Gave, Refuses}
 use Rattle.vrf_bitio.specs.declared.Cursor.{Cursor}
 use Rattle.vrf_bitio.specs.declared.Refusal.{Refusal}
-use Rattle.vrf_bitio.specs.declared.Word.{Word}
 use Rattle.vrf_model.specs.Intake.{Intake, return, stop, _>>=_, read}
 use Rattle.vrf_model.specs.Block.{Counts, Table, zeroWord, countUpTo, blockGuids, blockGroups, blockEnd, block}
 use Rattle.vrf_model.specs.declared.Tables.{Tables}
 use Rattle.vrf_model.specs.declared.Tables.the-variants.{Read, Refused as NotRead}
 use Rattle.vrf_store.specs.Good.{Good}
-use Rattle.vrf_reader.specs.Goes.{Goes, at, no, ReadsOnly, moved, valued}
+use Rattle.vrf_reader.specs.Goes.{Goes, at, no, ReadsOnly, moved}
 use Rattle.vrf_reader.specs.GoesLaws.{alike, gave, refused, then, bind, bind-stop, reads}
 use Rattle.vrf_reader.specs.declared.Moved.{Moved}
 use Rattle.vrf_reader.specs.declared.Moved.the-variants.{To, Refused as NotMoved}

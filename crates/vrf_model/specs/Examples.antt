@@ -7,13 +7,12 @@ use Prim.Native.Char.{code}
 use Prim.Native.Nat.{ℕ}
 use Prim.Native.String.{String, [] as ended, _∷_ as _before_}
 use lib.IntN.{ℤ}
-use lib.ListN.{length}
 use Rattle.vrf_bitio.specs.Examples.{Packed-examples, packed-examples}
 use Rattle.vrf_path.specs.Keys.{defaultPrefix, keys}
 use Rattle.vrf_names.specs.Names.{rendered}
 use Rattle.vrf_path.specs.Examples as path-examples
 use Rattle.vrf_names.specs.Examples as name-examples
-use Rattle.vrf_model.specs.Book.{Allowances, Content, Book, freshBook}
+use Rattle.vrf_model.specs.Book.{Content, Book, freshBook}
 use Rattle.vrf_model.specs.Setting.{refuses, addGroup}
 use Rattle.vrf_model.specs.Intake.{stop}
 use Rattle.vrf_model.specs.Runs.{objectOver, objectAt}

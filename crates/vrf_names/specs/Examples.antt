@@ -1,8 +1,7 @@
 -- Entries of document 01's examples table that speak of names.
 use mathlib.Core.Path.{_≡_, refl}
-use mathlib.Core.List.{List, [], _∷_, _++_}
-use Prim.Native.Nat.{ℕ}
-use lib.IntN.{ℤ, pos, negsuc}
+use mathlib.Core.List.{[], _∷_}
+use lib.IntN.{pos, negsuc}
 use Rattle.vrf_names.specs.Names.{digits, decimal, suffix, rendered}
 
 -- N1 Foo with 4 is Foo_3; with -3, Foo_-3

@@ -5,7 +5,7 @@ use mathlib.Core.List.{List, _++_, append-assoc}
 use Prim.Native.Nat.{ℕ, _-_}
 use native.Mathlib.Omega.{arith}
 use lib.ListN.{length, getD, take, length-append}
-use lib.Seq.{take-at, take-all}
+use lib.Seq.{take-at}
 use Rattle.vrf_path.specs.Text.{endsWith}
 use Rattle.vrf_path.specs.TextLaws.{ends-other, ends-behind, ends-not}
 use Rattle.vrf_path.specs.Toggle.{classNetCache}

@@ -11,7 +11,7 @@ use lib.ListN.{length, getD, take, drop, drop-of-length-le, length-append, lengt
 use lib.Seq.{drop-cons, drop-drop}
 use Rattle.vrf_path.specs.Text.{same, startsWith, firstFrom}
 use Rattle.vrf_path.specs.Keys.{isSeparator, hasSeparator, defaultPrefix, charactersRoot, charactersCore, coreSegment, defaultAlias, coreAliasAt, coreAlias, keys, isOneOf, hasKey, isThe}
-use Rattle.vrf_path.specs.TextLaws.{same-lengths, same-refl, same-true, starts-length, first-within}
+use Rattle.vrf_path.specs.TextLaws.{same-lengths, same-true, starts-length, first-within}
 
 -- separators from a place on
 module _ (t : List ℕ) (i : ℕ) where

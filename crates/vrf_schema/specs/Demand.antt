@@ -11,13 +11,13 @@ use Rattle.vrf_bitio.specs.PastedLaws.{pasted-front}
 use Rattle.vrf_model.specs.Book.{Allowances, Content, Book, fresh, freshBook}
 use Rattle.vrf_model.specs.Calls.{Call, Answer, counted, whole, read-checkpoint-tables, run, runBook, play, answers}
 use Rattle.vrf_model.specs.Lawful.{Each, nil, cons, Allowed, Sized}
-use Rattle.vrf_model.specs.Writer.{encodeBook, write, written}
+use Rattle.vrf_model.specs.Writer.{encodeBook, write}
 use Rattle.vrf_model.specs.Answers.{wroteOf}
 use Rattle.vrf_model.specs.declared.Wrote.{Wrote}
 use Rattle.vrf_model.specs.declared.Wrote.the-variants.{Length}
 use Rattle.vrf_model.specs.WriterLaws.{Writing, writing, write-accepts}
 use Rattle.vrf_model.specs.BlockRead.{countsOf}
-use Rattle.vrf_model.specs.Lockstep.{apart, Fit, Lockstep, stepped-fit, lockstep}
+use Rattle.vrf_model.specs.Lockstep.{apart}
 use Rattle.vrf_model.specs.Seats.{OfGroups, lookups-off-lists, joining, lateSeat, Joins}
 use Rattle.vrf_model.specs.Seats
 use Rattle.vrf_model.specs.declared.Acted.the-variants.{Done}

@@ -20,7 +20,7 @@ use Rattle.vrf_bitio.specs.declared.Opened.{Opened}
 use Rattle.vrf_bitio.specs.declared.Opened.the-variants.{Window as Over, Refused as NotOpened}
 use Rattle.vrf_bitio.specs.declared.Word.{Word}
 use Rattle.vrf_bitio.specs.declared.Word.the-variants.{Value, Refused as NoWord}
-use Rattle.vrf_model.specs.Book.{Tally, none-counted}
+use Rattle.vrf_model.specs.Book.{none-counted}
 use Rattle.vrf_model.specs.Intake.{Intake, return, stop}
 use Rattle.vrf_model.specs.Calls.{Call, Answer, ran, counted, only, ofTook, overOpened, run}
 use Rattle.vrf_model.specs.Answers.{refusalOf, ranOf, countsOf, tablesOf}

@@ -1,11 +1,11 @@
 -- The contract of the exported writer. A memory that fails the check is refused with 2, and the buffer stays as it was. Else answer and
 -- buffer are document 01's. The book is borrowed to be read, so that writing changes none.
-use mathlib.Core.Path.{_≡_, refl, sym, ap, subst, _∙_}
+use mathlib.Core.Path.{_≡_, refl, sym, subst, _∙_}
 use mathlib.Core.Bool.{Bool, true, false, true≢false}
 use mathlib.Core.List.{List}
 use Prim.Native.Nat.{ℕ}
 use Rattle.vrf_bitio.specs.declared.Refusal.{Refusal}
-use Rattle.vrf_text.specs.Text.{CallerText, accepted, refusal}
+use Rattle.vrf_text.specs.Text.{accepted, refusal}
 use Rattle.vrf_text.specs.Answers.{CallerAnswer}
 use Rattle.vrf_text.specs.declared.Caller.{Caller}
 use Rattle.vrf_text.specs.declared.Caller.the-variants.{Accepted, Refused as NotAccepted}

@@ -1,10 +1,9 @@
 -- A store that holds nothing is valid, and its book is a fresh one.
 use mathlib.Core.Path.{_≡_, refl, sym, ap, subst, _∙_}
-use mathlib.Core.List.{List, []}
-use Prim.Native.Nat.{ℕ, _+_, _*_, _<_, _≤_, zero-le}
+use mathlib.Core.List.{List}
+use Prim.Native.Nat.{ℕ, _≤_, zero-le}
 use native.Mathlib.Nat.{not-suc-le-zero}
-use native.Mathlib.Omega.{arith}
-use Rattle.vrf_model.specs.Book.{Allowances, Content, fresh}
+use Rattle.vrf_model.specs.Book.{Allowances, fresh}
 use Rattle.vrf_model.specs.Lawful.{Allowed}
 use Rattle.vrf_table.specs.Chain.{walk, lastBelow}
 use Rattle.vrf_table.specs.Index.{claimFrom, claimBelow, claimWalk}
@@ -15,7 +14,7 @@ use Rattle.vrf_store.specs.Good.{Good}
 use Rattle.vrf_store.specs.CheckValid.{need-shaped}
 use Rattle.vrf_store.specs.Store.{Header, headerOf, storeBy, storeOf, contentOf}
 use Rattle.vrf_store.specs.Check.{textSum}
-use Rattle.vrf_store.specs.Valid.{Shaped, GoodHeader, GoodTable, Valid}
+use Rattle.vrf_store.specs.Valid.{GoodTable, Valid}
 
 -- a header of a book that holds nothing
 abbrev pub emptyHeader : Allowances → ℕ → Header

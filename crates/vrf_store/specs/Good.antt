@@ -6,7 +6,7 @@ use Prim.Native.Nat.{ℕ, _≤_}
 use native.Mathlib.Omega.{arith}
 use lib.ListN.{length}
 use Rattle.vrf_store.specs.Layout
-use Rattle.vrf_store.specs.Store.{Header, Store, allowancesOf, headerOf, storeOf}
+use Rattle.vrf_store.specs.Store.{allowancesOf, headerOf, storeOf}
 use Rattle.vrf_store.specs.Check.{laidOk, check}
 use Rattle.vrf_store.specs.Valid.{Valid}
 use Rattle.vrf_store.specs.CheckLaws.{told}

@@ -4,7 +4,6 @@ use mathlib.Core.List.{List}
 use mathlib.Core.Option.{Option, none, some}
 use Prim.Native.Nat.{ℕ}
 use lib.ListN.{length}
-use Rattle.vrf_bitio.specs.declared.Refusal.{Refusal}
 use Rattle.vrf_model.specs.Book.{Allowances, freshBook}
 use Rattle.vrf_model.specs.declared.Acted.{Acted}
 use Rattle.vrf_model.specs.declared.Acted.the-variants.{Done, Refused}

@@ -1,14 +1,14 @@
 -- Laws of lists, tests and sums over the numbers below n.
 use mathlib.Core.Path.{_≡_, refl, sym, ap, _∙_}
 use mathlib.Core.Bool.{Bool, true, false, _&&_}
-use mathlib.Core.List.{List, [], _∷_, _++_, append-assoc, append-nil}
-use mathlib.Core.Option.{Option, none, some}
+use mathlib.Core.List.{[], _∷_, _++_, append-assoc, append-nil}
+use mathlib.Core.Option.{Option, some}
 use Prim.Native.Nat.{ℕ, zero, suc, _+_, _<_, _≤_}
 use native.Mathlib.Nat.{not-suc-le-zero, add-zero, zero-add}
 use native.Mathlib.Numerals.{add-one}
 use native.Mathlib.Omega.{arith}
-use lib.ListN.{length, getD, set, replicate, replicate-append-replicate, length-append, List·getD-append, length-set}
-use lib.Seq.{getD-append-seam, set-append-left, set-append-seam, set-at, getD-at}
+use lib.ListN.{length, getD, set, replicate, replicate-append-replicate, length-append, List·getD-append}
+use lib.Seq.{set-append-left, set-at, getD-at}
 use Rattle.vrf_text.specs.Cases.{by-cond, clash}
 use Rattle.vrf_model.specs.Book.{sum}
 use Rattle.vrf_model.specs.HeldLaws.{sum-last}

@@ -2,10 +2,9 @@
 use mathlib.Core.Path.{_≡_, refl, sym, ap, _∙_}
 use mathlib.Core.Bool.{Bool, true, false, cond}
 use mathlib.Core.Option.{Option, none, some}
-use Prim.Native.Nat.{ℕ, zero, suc, _<_, _≤_}
+use Prim.Native.Nat.{ℕ, suc, _<_, _≤_}
 use native.Mathlib.Omega.{arith}
-use lib.Dec.{eqb}
-use Rattle.vrf_text.specs.Cases.{by-cond, by-order, clash}
+use Rattle.vrf_text.specs.Cases.{clash}
 use Rattle.vrf_model.specs.Lookup.{Claim, absent, ambiguous, claimed}
 use Rattle.vrf_table.specs.Chain.{walk, lastBelow}
 use Rattle.vrf_table.specs.ChainLaws.{by-equal, walk-at, walk-miss, walk-past, walk-passes, walk-none, walk-ext, Passes, lastBelow-suc, lastBelow-ext, lastBelow-last, lastBelow-none, lastBelow-reach, lastBelow-passes}

@@ -6,7 +6,7 @@ use Prim.Native.Nat.{ℕ, zero, suc, _+_, _-_, _*_, _/_, _%_, _^_, _≤_, _<_}
 use native.Mathlib.Nat.{le-of-suc-le-suc, zero-div}
 use native.Mathlib.Omega.{arith}
 use lib.Bits.{bitAnd, bitOr, and-mod, and-shr, and-high, and-le-l, and-le-r, or-add-and}
-use lib.ListN.{getD, take, drop}
+use lib.ListN.{take, drop}
 use lib.Pow.{pow-lt, pow-add, shl-shr}
 use lib.Seq.{getD-take, getD-drop}
 use Rattle.vrf_bitio.specs.Bits.{bitOf, bitsOf, bytesOf}

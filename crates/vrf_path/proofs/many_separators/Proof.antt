@@ -1,6 +1,5 @@
 -- `vrf_path::many_separators` meets its contract: from place i on the text has a separator if the whole one has.
 use mathlib.Core.Path.{_≡_, refl, sym, _∙_}
-use mathlib.Core.Bool.{_||_}
 use Prim.Native.Nat.{_+_, _-_, _<_}
 use native.Mathlib.Omega.{arith}
 use denote.Ref.{now}

@@ -1,7 +1,6 @@
 -- `vrf_table::leaf_bucket` meets its contract.
 use mathlib.Core.Path.{ap, _∙_}
 use native.Mathlib.Omega.{arith}
-use denote.Ref.{now}
 use lib.ListN.{length-take}
 use Rattle.vrf_table.specs.TextIndex.{textBucket, leafBucket}
 use borrow.Author.Needs.{needs}

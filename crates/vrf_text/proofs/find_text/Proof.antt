@@ -1,5 +1,4 @@
 -- `vrf_text::find_text` meets its contract: the length word, and then what it says.
-use native.Mathlib.Omega.{arith}
 use denote.Ref.{now}
 use mathlib.Core.Path.{subst}
 use Rattle.vrf_bitio.specs.Number.{int32}

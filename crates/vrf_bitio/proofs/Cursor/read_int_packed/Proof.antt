@@ -2,9 +2,9 @@
 use native.Mathlib.Omega.{arith}
 use denote.Ref.{now}
 use mathlib.Core.Path.{subst}
-use Prim.Native.Nat.{_-_, _^_}
+use Prim.Native.Nat.{_-_}
 use borrow.Author.Needs.{needs}
-use Rattle.vrf_bitio.specs.Number.{byte, chunks}
+use Rattle.vrf_bitio.specs.Number.{byte}
 use Rattle.vrf_bitio.specs.Answers.{ByteAnswer, readAt}
 use Rattle.vrf_bitio.proofs.Packed.{SoFar, begun, ended, chunk-fits, last, next, full, fifth}
 use Rattle.vrf_bitio.specs.AnswersLaws.{word-from}

@@ -1,7 +1,6 @@
 -- `vrf_checkpoint::block::read_rest` meets its contract: the groups, and the end.
 use mathlib.Core.Path.{subst}
 use denote.Ref.{now}
-use native.Mathlib.Omega.{arith}
 use Prim.Native.Nat.{_*_}
 use Rattle.vrf_bitio.specs.declared.Word.{Word}
 use Rattle.vrf_model.specs.Block.{countUpTo, blockGroups, blockEnd}

@@ -1,6 +1,6 @@
 use borrow.Author.Needs.{needs}
 use mathlib.Core.Path.{_≡_}
-use Prim.Native.Nat.{_-_, _≤_}
+use Prim.Native.Nat.{_-_}
 use lib.ListN.{length}
 use Rattle.vrf_replay.proofs.script.fill_from.Statement.{statement}
 use Rattle.vrf_replay.proofs.script.fill_from.Tie as tie

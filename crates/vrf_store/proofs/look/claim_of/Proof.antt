@@ -1,5 +1,4 @@
 -- `vrf_store::look::claim_of` meets its contract.
-use denote.Ref.{now}
 use Rattle.vrf_store.specs.Lookups.{first-found}
 use Rattle.vrf_store.specs.GoodLaws.{leaf-walk}
 use borrow.Author.Needs.{needs}
