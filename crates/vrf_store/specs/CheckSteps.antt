@@ -267,11 +267,13 @@ module _ {r x l h : List ℕ} {per b n : ℕ} (w : Walked r x l h per b n) {g : 
   pub leaf-short : (i : ℕ) → length (take (length path - i) (drop i path)) < 2 ^ 31
   leaf-short i = omega (arith, path-short, length-take (length path - i) (drop i path), length-drop i path)
 
--- the part `&t[i..]` that is a leaf has no dot
+-- the part `&t[i..]` is the rest of a text
+pub rest-part : (t : List ℕ) (i : ℕ) → take (length t - i) (drop i t) ≡ drop i t
+rest-part t i = take-all (length t - i) (drop i t) (rw length-drop (omega arith))
+
+-- where it is a leaf, it has no dot
 pub leaf-dotless : (t : List ℕ) (i : ℕ) → leaf t ≡ some (drop i t) → Dotless (take (length t - i) (drop i t))
-leaf-dotless t i e =
-    let all : take (length t - i) (drop i t) ≡ drop i t = take-all (length t - i) (drop i t) (rw length-drop (omega arith)) in
-    rw all (leaf-is t (drop i t) e .dotless)
+leaf-dotless t i e = rw (rest-part t i) (leaf-is t (drop i t) e .dotless)
 
 module _ (find : List ℕ → Option ℕ) {path t : List ℕ} (e : path ≡ t) (g : ℕ) where
   -- the path itself
@@ -301,9 +303,7 @@ module _ (claim : List ℕ → Claim) {path t : List ℕ} (e : path ≡ t) (g : 
   -- the part `&path[i..]`, which is the leaf
   pub leaf-there : (i : ℕ) {v : Claim} {r : Bool} → leaf path ≡ some (drop i path) → v ≡ claim (take (length path - i) (drop i path)) → r ≡ isSettled g v → r ≡ settledOk claim g (leaf t)
   unfolding settledOk
-  leaf-there i el ev er =
-      let whole = take-all (length path - i) (drop i path) (rw length-drop (omega arith)) in
-      rw (← e, el) (er ∙ ap (isSettled g) (ev ∙ ap claim whole))
+  leaf-there i el ev er = rw (← e, el) (er ∙ ap (isSettled g) (ev ∙ ap claim (rest-part path i)))
 
   pub leaf-none : leaf path ≡ none → true ≡ settledOk claim g (leaf t)
   unfolding settledOk

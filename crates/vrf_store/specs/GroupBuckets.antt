@@ -3,14 +3,13 @@ use mathlib.Core.Path.{_≡_, refl}
 use mathlib.Core.List.{List}
 use mathlib.Core.Option.{Option, none, some}
 use Prim.Native.Nat.{ℕ, zero, suc, _-_}
-use native.Mathlib.Omega.{arith}
-use lib.ListN.{length, take, drop, length-drop}
-use lib.Seq.{take-all}
+use lib.ListN.{length, take, drop}
 use Rattle.vrf_path.specs.Leaf.{leaf}
 use Rattle.vrf_model.specs.Lookup.{Claim}
 use Rattle.vrf_table.specs.Answers.{claim}
 use Rattle.vrf_store.specs.TextMoves.{unlessShared, joinedBy}
 use Rattle.vrf_store.specs.Store.{Store}
+use Rattle.vrf_store.specs.CheckSteps.{rest-part}
 use Rattle.vrf_store.specs.GroupIndex.{keyOf, pathOf, leafOf}
 use Rattle.vrf_store.specs.declared.groups.Bucket.{Bucket}
 use Rattle.vrf_store.specs.declared.groups.Bucket.the-variants.{Of, Absent}
@@ -40,9 +39,7 @@ not-shared (suc (suc e)) h ne = refl
 module _ (find : List ℕ → Claim) (β : List ℕ → ℕ) {path t : List ℕ} (e : path ≡ t) where
   pub leaf-joins : (i : ℕ) {o : Option ℕ} → leaf path ≡ some (drop i path) → o ≡ unlessShared (find (take (length path - i) (drop i path))) (β (take (length path - i) (drop i path))) → o ≡ joinedBy find β (leaf t)
   unfolding joinedBy
-  leaf-joins i el eo =
-      let whole = take-all (length path - i) (drop i path) (rw length-drop (omega arith)) in
-      rw (← e, el) (rw whole at eo)
+  leaf-joins i el eo = rw (← e, el) (rw (rest-part path i) at eo)
 
   pub no-leaf-joins : leaf path ≡ none → none ≡ joinedBy find β (leaf t)
   unfolding joinedBy

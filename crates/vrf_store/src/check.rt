@@ -421,7 +421,7 @@ fn leaf_ok(rows: &[u8], x: &[u8], links: &[u8], heads: &[u8], b: u32, n: u32, g:
 {
     let path = row_text(rows, x, g);
     match leaf_at(path) {
-        Leaf::At(i) => is_settled(g, leaf_claim(rows, x, links, heads, b, n, &path[i..])),
+        Leaf::At(i) => is_settled(g, leaf_claim(rows, x, links, heads, b, n, &path[i..]).claim),
         Leaf::Absent => true,
     }
 }

@@ -17,7 +17,6 @@ use vrf_path::is_absent;
 use vrf_path::leaf_at;
 use vrf_table::AMBIGUOUS;
 use vrf_table::key_bucket;
-use vrf_table::leaf_bucket;
 use vrf_table::leaf_claim;
 use vrf_table::put_key;
 use vrf_table::put_text;
@@ -103,10 +102,11 @@ fn joined_bucket(
     requires { ⌜ Dotless (now l) × (24 * n ≤ length (now rows)) × (4 * n ≤ length (now links)) × (4 * b ≤ length (now heads)) × (0 < b) × (n ≤ 100000) × Texts (now rows) (now x) n × (length (now l) < 2 ^ 31) ⌝ }
     ensures { λ r. ⌜ bucketed r ≡ unlessShared (claimOf (now (rows .entry)) (now (x .entry)) (now (links .entry)) (now (heads .entry)) b n (now (l .entry))) (leafBucket b (now (l .entry))) ⌝ }
 {
-    if leaf_claim(rows, x, links, heads, b, n, l) == AMBIGUOUS {
+    let found = leaf_claim(rows, x, links, heads, b, n, l);
+    if found.claim == AMBIGUOUS {
         return Bucket::Absent;
     }
-    Bucket::Of(leaf_bucket(l, b))
+    Bucket::Of(found.bucket)
 }
 
 // The bucket that the leaf of group g joins among b, if it has a leaf.

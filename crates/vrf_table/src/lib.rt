@@ -390,7 +390,13 @@ fn claim_from(
     }
 }
 
-// The only group of n with the leaf l.
+// A leaf's bucket, and the only group that has it.
+pub struct Claimed {
+    pub bucket: u32,
+    pub claim: Claim,
+}
+
+// The only group of n with the leaf l, and the bucket whose chain tells: who adds a group wants both.
 pub fn leaf_claim(
     rows: &[u8],
     x: &[u8],
@@ -399,12 +405,16 @@ pub fn leaf_claim(
     b: u32,
     n: u32,
     l: &[u8],
-) -> Claim
+) -> Claimed
     requires { ⌜ Dotless (now l) × (24 * n ≤ length (now rows)) × (4 * n ≤ length (now links)) × (4 * b ≤ length (now heads)) × (0 < b) × (n ≤ 100000) × Texts (now rows) (now x) n × (length (now l) < 2 ^ 31) ⌝ }
-    ensures { λ r. ⌜ claim r ≡ claimOf (now (rows .entry)) (now (x .entry)) (now (links .entry)) (now (heads .entry)) b n (now (l .entry)) ⌝ }
+    ensures { λ r. ⌜ (r .bucket ≡ leafBucket b (now (l .entry))) × (claim (r .claim) ≡ claimOf (now (rows .entry)) (now (x .entry)) (now (links .entry)) (now (heads .entry)) b n (now (l .entry))) ⌝ }
 {
-    let p = get32(heads, leaf_bucket(l, b) as usize);
-    claim_from(rows, x, links, n, p, l, b"")
+    let bucket = leaf_bucket(l, b);
+    let p = get32(heads, bucket as usize);
+    Claimed {
+        bucket: bucket,
+        claim: claim_from(rows, x, links, n, p, l, b""),
+    }
 }
 
 // The first claim among a name's leaves with three suffixes. The chain of the first leaf starts at p, that of the others at q.

@@ -37,7 +37,8 @@ unfolding claimOf leafBucket leafStart textStart
 returns c =
     let x = c .before .before .before .before .before .before .before .before .before .args in
     let start = c .before .before .get32 .ensures ∙ ap (word (now (x .heads))) (c .before .before .before .leaf-bucket .ensures) in
-    rw (append-nil (now (x .l))) at (c .claim-from .ensures) ∙ ap (λ (p : ℕ). claimAt (now (x .rows)) (now (x .x)) (now (x .links)) (x .n) p (now (x .l))) start
+    let found = rw (append-nil (now (x .l))) at (c .claim-from .ensures) in
+    (c .before .before .before .leaf-bucket .ensures, found ∙ ap (λ (p : ℕ). claimAt (now (x .rows)) (now (x .x)) (now (x .links)) (x .n) p (now (x .l))) start)
 
 pub leaf-claim-spec : {M : Type 1} → statement M
 leaf-claim-spec =

@@ -43,7 +43,7 @@ unfolding leafSettled
 returns c =
     let x = c .before .before .before .before .before .before .before .before .before .before .before .before .args in
     let found = rw (c .before .before .before .before .i .given .1) at (c .before .before .before .before .before .before .leaf-at .ensures) in
-    leaf-there (claimOf (now (x .rows)) (now (x .x)) (now (x .links)) (now (x .heads)) (x .b) (x .n)) (c .before .before .before .before .before .before .before .row-text .ensures) (x .g) _ (found .0) (c .before .leaf-claim .ensures) (c .is-settled .ensures)
+    leaf-there (claimOf (now (x .rows)) (now (x .x)) (now (x .links)) (now (x .heads)) (x .b) (x .n)) (c .before .before .before .before .before .before .before .row-text .ensures) (x .g) _ (found .0) (c .before .leaf-claim .ensures .1) (c .is-settled .ensures)
 
 returns-2 : tie.Need-returns-2
 unfolding leafSettled
