@@ -3,15 +3,16 @@ use mathlib.Core.Path.{_≡_, refl, sym, ap, _∙_}
 use mathlib.Core.List.{List, _++_}
 use Prim.Native.Nat.{ℕ, _+_, _-_, _≤_}
 use native.Mathlib.Omega.{arith}
-use lib.ListN.{length, replicate, length-append}
+use lib.ListN.{length, replicate, length-append, length-drop}
 use Rattle.vrf_bitio.specs.Number.{lowBytes, encodeWord32}
 use Rattle.vrf_bitio.specs.Pasted.{pasted}
+use Rattle.vrf_bitio.specs.PastedLaws.{pasted-length}
 use Rattle.vrf_model.specs.Book.{Content}
 use Rattle.vrf_model.specs.Writer.{encodeGuid, encodeGroup, encodeAll, encodeTables, encodeBook}
 use Rattle.vrf_store.specs.UpToLaws.{length-upTo}
 use Rattle.vrf_store.specs.Store.{Store, guidAt, contentOf}
-use Rattle.vrf_writer.specs.Puts.{Puts, Under}
-use Rattle.vrf_writer.specs.PutsLaws.{under-start, under-pasted, first-put}
+use Rattle.vrf_writer.specs.Puts.{Puts, lentFrom, backFrom, Under}
+use Rattle.vrf_writer.specs.PutsLaws.{lent, back, pasted-last, under-start, under-pasted}
 use Rattle.vrf_writer.specs.NumberPuts.{word-length}
 use Rattle.vrf_writer.specs.GroupPuts.{groupAt}
 
@@ -61,12 +62,24 @@ module _ (c : Content) where
   pub block-length : length (encodeBook c) ≡ 24 + length (encodeAll encodeGuid (c .guids)) + length (encodeAll encodeGroup (c .groups))
   block-length = omega (arith, block-four, tables-length c)
 
-  module _ {n : ℕ} (e : n ≡ length (encodeBook c)) where
-    block-code : encodeBook c ≡ encodeWord32 (n - 8) ++ encodeTables c
-    unfolding encodeBook
-    block-code = let same : length (encodeTables c) + 4 - 8 ≡ n - 8 = omega (arith, e, block-four) in ap (λ (k : ℕ). encodeWord32 k ++ encodeTables c) same
+  -- it is written when the tables stand behind it
+  module _ (l : List ℕ) (fits : length (encodeBook c) ≤ length l) where
+    pub tables-lent : length (encodeTables c) ≤ length (lentFrom l 4)
+    tables-lent = rw (lent l 4, length-drop 4 l) (omega (arith, fits, block-four))
 
-    pub word-first : (l : List ℕ) → n ≤ length l → {ys : List ℕ} {a : ℕ} → Puts (encodeWord32 (n - 8)) l ys a → Under (encodeBook c) l ys 4 (encodeTables c)
-    word-first l fits {ys} p =
-        let four = p .count ∙ word-length (n - 8) in
-        rw four at (first-put l (encodeWord32 (n - 8)) (encodeTables c) block-code (omega (arith, fits, e)) refl p)
+    module _ {ys : List ℕ} {n : ℕ} (p : Puts (encodeTables c) (lentFrom l 4) ys n) where
+      pub tables-long : length (backFrom l 4 ys) ≡ length l
+      tables-long = rw (back l (encodeTables c) 4 (p .bytes)) (pasted-length (encodeTables c) l 4 (omega (arith, fits, block-four)))
+
+      pub tables-count : (20 ≤ n) × (n + 4 ≡ length (encodeBook c))
+      tables-count = (omega (arith, p .count, tables-length c), omega (arith, p .count, block-four))
+
+      pub word-last : {zs : List ℕ} {a : ℕ} → Puts (encodeWord32 (n - 4)) (backFrom l 4 ys) zs a → Puts (encodeBook c) l zs (n + 4)
+      unfolding encodeBook
+      word-last {zs} w =
+          let word : List ℕ = encodeWord32 (n - 4) in
+          let four : length word ≡ 4 = word-length (n - 4) in
+          let same : n - 4 ≡ length (encodeTables c) + 4 - 8 = omega (arith, p .count) in
+          let stands : zs ≡ pasted (pasted l 4 (encodeTables c)) 0 word = rw (back l (encodeTables c) 4 (p .bytes)) at (w .bytes) in
+          let all : pasted (pasted l 4 (encodeTables c)) 0 word ≡ pasted l 0 (word ++ encodeTables c) = rw four at (pasted-last l word (encodeTables c) (omega (arith, four, fits, block-four))) in
+          record { bytes = stands ∙ all ∙ ap (λ (k : ℕ). pasted l 0 (encodeWord32 k ++ encodeTables c)) same; count = tables-count .1 }

@@ -4,25 +4,34 @@ use mathlib.Core.List.{List, [], _∷_, _++_, append-assoc, append-nil}
 use Prim.Native.Nat.{ℕ, _+_, _-_, _≤_}
 use native.Mathlib.Nat.{zero-add}
 use native.Mathlib.Omega.{arith}
-use lib.ListN.{length, drop, set, length-append, length-drop, drop-of-length-le}
-use lib.Seq.{take-all, drop-drop}
+use lib.ListN.{length, take, drop, set, length-append, length-drop, drop-of-length-le}
+use lib.Seq.{drop-drop, length-take-le, drop-append-seam}
 use Rattle.vrf_bitio.specs.Pasted.{pasted}
 use Rattle.vrf_bitio.specs.PastedLaws.{pasted-nil, pasted-cons, pasted-front, pasted-length, pasted-append}
+use Rattle.vrf_store.specs.CheckSteps.{rest-part}
 use Rattle.vrf_writer.specs.Puts.{Puts, lentFrom, backFrom, Under}
 
 -- ---- a part of a slice, from a place on, lent to a writer
 
 -- all that stands there is lent
-lent : (xs : List ℕ) (a : ℕ) → lentFrom xs a ≡ drop a xs
-lent xs a = take-all (length xs - a) (drop a xs) (omega (arith, length-drop a xs))
+pub lent : (xs : List ℕ) (a : ℕ) → lentFrom xs a ≡ drop a xs
+lent xs a = rest-part xs a
 
 -- and what comes back stands in its place
-back : (xs v : List ℕ) (a : ℕ) {ys : List ℕ} → ys ≡ pasted (lentFrom xs a) 0 v → backFrom xs a ys ≡ pasted xs a v
+pub back : (xs v : List ℕ) (a : ℕ) {ys : List ℕ} → ys ≡ pasted (lentFrom xs a) 0 v → backFrom xs a ys ≡ pasted xs a v
 unfolding pasted
 back xs v a {ys} e =
     let none : drop (length xs - a) (drop a xs) ≡ [] = drop-of-length-le (drop a xs) {i = length xs - a} (omega (arith, length-drop a xs)) in
     let written : ys ≡ v ++ drop (a + length v) xs = e ∙ rw (lent xs a, pasted-front (drop a xs) v, drop-drop (length v) a xs) in
     rw (none, append-nil ys, written)
+
+-- a code at the front, written after what stands behind it
+pub pasted-last : (l w v : List ℕ) → length w ≤ length l → pasted (pasted l (length w) v) 0 w ≡ pasted l 0 (w ++ v)
+unfolding pasted
+pasted-last l w v fits =
+    let seam : length (take (length w) l) ≡ length w = length-take-le (length w) l fits in
+    let behind : drop (length w) (take (length w) l ++ (v ++ drop (length w + length v) l)) ≡ v ++ drop (length w + length v) l = rw seam at (drop-append-seam (take (length w) l) (v ++ drop (length w + length v) l)) in
+    rw (zero-add, zero-add, length-append w v, behind, append-assoc w v (drop (length w + length v) l))
 
 -- ---- the same code
 

@@ -4,16 +4,18 @@ use mathlib.Core.List.{List, [], _∷_, _++_}
 use Prim.Native.Nat.{ℕ, zero, suc, _+_, _*_, _/_, _%_, _^_, _<_, _≤_}
 use native.Mathlib.Nat.{mul-suc}
 use native.Mathlib.Omega.{arith}
-use lib.ListN.{length, length-append}
+use lib.ListN.{length, drop, length-append, length-take}
 use Rattle.vrf_bitio.specs.Number.{encodePacked, encodeWord32}
 use Rattle.vrf_text.specs.Text.{encodeText}
 use Rattle.vrf_model.specs.Book.{Guid, Slot, empty, filled, Group}
 use Rattle.vrf_model.specs.Writer.{encodeSlot, encodeSlots, encodeGuid, encodeGroup, encodeAll, encodeBook}
+use Rattle.vrf_words.specs.Words.{part}
 use Rattle.vrf_table.specs.Chain.{lastBelow}
-use Rattle.vrf_table.specs.Table.{key, info, text}
+use Rattle.vrf_table.specs.Table.{key, at, len, info, text}
 use Rattle.vrf_store.specs.UpTo.{upTo, sumBelow}
 use Rattle.vrf_store.specs.UpToLaws.{length-upTo, sumBelow-ext, sumBelow-set}
 use Rattle.vrf_store.specs.Store.{Store, guidAt, fieldAt, orEmpty, slotBy, groupBy, contentOf}
+use Rattle.vrf_store.specs.Check.{textSum}
 use Rattle.vrf_store.specs.Valid.{Valid}
 use Rattle.vrf_store.specs.Accepted.{sumBelow-nil, sumBelow-one, sumBelow-plus, slotBy-other, slotBy-before, slotBy-after}
 use Rattle.vrf_writer.specs.NumberPuts.{word-length}
@@ -23,7 +25,7 @@ use Rattle.vrf_writer.specs.EachPuts.{all-next}
 use Rattle.vrf_writer.specs.GuidPuts.{outerOn, pathOn}
 use Rattle.vrf_writer.specs.GroupPuts.{slotAt, groupAt, slots-code}
 use Rattle.vrf_writer.specs.BlockPuts.{block-length}
-use Rattle.vrf_writer.specs.Size.{beyond, groupBytes, fieldBytes}
+use Rattle.vrf_writer.specs.Size.{beyond, groupBytes, fieldBytes, most}
 
 pub all-length : {A : Type 0} (f : A → List ℕ) (g : ℕ → A) (n : ℕ) → length (encodeAll f (upTo g n)) ≡ sumBelow (λ e. length (f (g e))) n
 unfolding sumBelow upTo encodeAll
@@ -123,10 +125,13 @@ module _ {s : Store} (v : Valid s) where
 
 -- ---- sums that 64 bits hold
 
-pub sum-short : (f : ℕ → ℕ) (most n : ℕ) → ((e : ℕ) → e < n → f e ≤ most) → sumBelow f n ≤ most * n
+sum-within : (f g : ℕ → ℕ) (most n : ℕ) → ((e : ℕ) → e < n → f e ≤ most + g e) → sumBelow f n ≤ most * n + sumBelow g n
 unfolding sumBelow
-sum-short f most zero h = omega arith
-sum-short f most (suc n) h = rw (mul-suc most n) (omega (arith, sum-short f most n (λ e k. h e (omega (arith, k))), h n (omega arith)))
+sum-within f g most zero h = omega arith
+sum-within f g most (suc n) h = rw (mul-suc most n) (omega (arith, sum-within f g most n (λ e k. h e (omega (arith, k))), h n (omega arith)))
+
+pub sum-short : (f : ℕ → ℕ) (most n : ℕ) → ((e : ℕ) → e < n → f e ≤ most) → sumBelow f n ≤ most * n
+sum-short f most n h = omega (arith, sum-within f (λ e. 0) most n (λ e k. omega (arith, h e k)), sumBelow-nil (λ e. 0) n (λ e. refl))
 
 module _ (r : Guid) where
   pub guid-length : length (encodeGuid r) ≡ length (encodePacked (r .guid)) + length (encodePacked (r .outer)) + 2 + length (encodeText (r .path))
@@ -152,6 +157,9 @@ module _ {s : Store} (v : Valid s) where
       let few : length (r .slots) ≤ 65536 = rw (length-upTo (slotAt s g) (info (s .groupRows) g)) (v .groups g h .1) in
       omega (arith, packed-short (r .index), packed-short (length (r .slots)), text-short (r .path), path, few)
 
+  pub groups-short : sumBelow (λ g. groupBytes (groupAt s g)) (s .header .groups) ≤ 69647 * s .header .groups
+  groups-short = sum-short (λ g. groupBytes (groupAt s g)) 69647 (s .header .groups) group-short
+
   pub field-short : (e : ℕ) → e < s .header .fields → fieldBytes s e ≤ 4115
   unfolding beyond fieldAt
   field-short e h =
@@ -166,7 +174,38 @@ module _ {s : Store} (v : Valid s) where
     block-bytes v,
     all-length encodeGuid (guidAt s) (s .header .guids),
     sum-short (λ e. length (encodeGuid (guidAt s e))) 4113 (s .header .guids) (λ e h. guid-short (guid-good v refl refl h)),
-    sum-short (λ g. groupBytes (groupAt s g)) 69647 (s .header .groups) group-short,
+    groups-short,
     sum-short (fieldBytes s) 4115 (s .header .fields) field-short,
     v .header .tops,
   )
+
+-- ---- no block is longer, by the bytes of all texts
+
+text-most : (r x : List ℕ) (e : ℕ) → length (text r x e) ≤ len r e
+unfolding text part
+text-most r x e = omega (arith, length-take (len r e) (drop (at r e) x))
+
+module _ {s : Store} (v : Valid s) where
+  guid-most : (e : ℕ) → length (encodeGuid (guidAt s e)) ≤ 17 + len (s .guidRows) e
+  unfolding guidAt
+  guid-most e =
+      let it : Guid = guidAt s e in
+      omega (arith, guid-length it, packed-short (it .guid), packed-short (it .outer), text-short (it .path), text-most (s .guidRows) (s .texts) e)
+
+  field-most : (e : ℕ) → fieldBytes s e ≤ 19 + len (s .fieldRows) e
+  unfolding beyond fieldAt
+  field-most e = omega (arith, packed-short (key (s .fieldRows) e % 65536), text-short (text (s .fieldRows) (s .texts) e), text-most (s .fieldRows) (s .texts) e)
+
+  pub block-most : length (encodeBook (contentOf s)) ≤ most s
+  unfolding contentOf textSum
+  block-most = omega (
+    arith,
+    block-bytes v,
+    all-length encodeGuid (guidAt s) (s .header .guids),
+    sum-within (λ e. length (encodeGuid (guidAt s e))) (len (s .guidRows)) 17 (s .header .guids) (λ e h. guid-most e),
+    sum-within (fieldBytes s) (len (s .fieldRows)) 19 (s .header .fields) (λ e h. field-most e),
+    v .total,
+  )
+
+  pub most-short : most s < 2 ^ 64
+  most-short = omega (arith, groups-short v, v .header .tops, v .header .guids, v .header .groups, v .header .fields, v .header .held)

@@ -1,9 +1,10 @@
 -- When the writer answers what, by what the code compares.
 use mathlib.Core.Path.{_≡_, sym}
-use mathlib.Core.Logic.{_⊎_}
+use mathlib.Core.Logic.{_⊎_, inl, inr}
 use mathlib.Core.List.{List, []}
 use mathlib.Core.Option.{none, some}
-use Prim.Native.Nat.{ℕ, _<_, _≤_}
+use Prim.Native.Nat.{ℕ, _<_, _≤_, min}
+use native.Mathlib.Decide.{decLt}
 use native.Mathlib.Omega.{arith}
 use lib.ListN.{length}
 use Rattle.vrf_bitio.specs.Pasted.{pasted}
@@ -19,14 +20,13 @@ module _ (c : Content) {l l′ : List ℕ} where
   writes-clash {place} e s = record { answer = sym (writing (length l) c .clashes place .1 (sym e)); bytes = s }
 
   module _ {n : ℕ} (clear : firstClash [] (c .groups) ≡ none) (e : n ≡ length (encodeBook c)) where
-    pub writes-long : {r : Wrote} → r ≡ Refused (record { number = 45; a = n; b = 0 }) → (length l < n) ⊎ (268435456 < n) → l′ ≡ l → WritesBook c l l′ r
-    writes-long er over s = rw er (record {
-      answer = sym (writing (length l) c .too-long n .1 (record { clear = clear; over = rw e at over; long = e }));
-      bytes = s;
-    })
+    pub writes-long : {r : Wrote} → r ≡ Refused (record { number = 45; a = n; b = 0 }) → min (length l) 268435456 < n → l′ ≡ l → WritesBook c l l′ r
+    writes-long er long s =
+        let over : (length l < n) ⊎ (268435456 < n) = elim (decLt (length l) n) [ yes h ↦ inl h | no h ↦ inr (omega (arith, long)) ] in
+        rw er (record { answer = sym (writing (length l) c .too-long n .1 (record { clear = clear; over = rw e at over; long = e })); bytes = s })
 
-    pub writes-all : n ≤ length l → n ≤ 268435456 → l′ ≡ pasted l 0 (encodeBook c) → WritesBook c l l′ (Length n)
-    writes-all fits small s = record {
-      answer = sym (writing (length l) c .accepted n .1 (record { clear = clear; fits = omega (arith, fits, e); size = omega (arith, small, e); long = e }));
+    pub writes-all : n ≤ min (length l) 268435456 → l′ ≡ pasted l 0 (encodeBook c) → WritesBook c l l′ (Length n)
+    writes-all fits s = record {
+      answer = sym (writing (length l) c .accepted n .1 (record { clear = clear; fits = omega (arith, fits, e); size = omega (arith, fits, e); long = e }));
       bytes = s;
     }

@@ -5,10 +5,8 @@ use crate::numbers::put_word;
 use vrf_store::parts::groups;
 use vrf_store::parts::guids;
 use vrf_words::zero_words;
-ghost use mathlib.Core.Path.{_≡_};
 ghost use Prim.Native.Nat.{_+_, _≤_};
 ghost use lib.ListN.{length};
-ghost use Rattle.vrf_bitio.specs.Pasted.{pasted};
 ghost use Rattle.vrf_model.specs.Writer.{encodeTables, encodeBook};
 ghost use Rattle.vrf_store.specs.Good.{Good};
 ghost use Rattle.vrf_store.specs.Stepped.{held};
@@ -26,11 +24,12 @@ fn put_tables(out: &mut [u8], m: &[u8]) -> usize
     at + put_groups(&mut out[at..], m)
 }
 
-// A block of n bytes.
-pub fn put_block(out: &mut [u8], m: &[u8], n: u32)
-    requires { ⌜ Good (now m) × (n ≡ length (encodeBook (held (now m)))) × (n ≤ length (now out)) ⌝ }
-    ensures { λ _. ⌜ now (out .exit) ≡ pasted (now (out .entry)) 0 (encodeBook (held (now (m .entry)))) ⌝ }
+// A block. Its first word goes by its length, and so is written last.
+pub fn put_block(out: &mut [u8], m: &[u8]) -> usize
+    requires { ⌜ Good (now m) × (length (encodeBook (held (now m))) ≤ length (now out)) × (length (encodeBook (held (now m))) ≤ 268435456) ⌝ }
+    ensures { λ r. ⌜ Puts (encodeBook (held (now (m .entry)))) (now (out .entry)) (now (out .exit)) r ⌝ }
 {
-    put_word(out, n - 8);
-    put_tables(&mut out[4..], m);
+    let n = put_tables(&mut out[4..], m);
+    put_word(out, (n - 4) as u32);
+    n + 4
 }

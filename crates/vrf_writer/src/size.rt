@@ -10,6 +10,7 @@ use vrf_store::parts::fields;
 use vrf_store::parts::groups;
 use vrf_store::parts::guid_rows;
 use vrf_store::parts::guids;
+use vrf_store::parts::held;
 use vrf_store::parts::row_text;
 use vrf_store::parts::texts;
 ghost use mathlib.Core.Path.{_≡_};
@@ -130,4 +131,14 @@ pub fn block_len(m: &[u8]) -> u64
     ensures { λ r. ⌜ r ≡ length (encodeBook (held (now (m .entry)))) ⌝ }
 {
     24 + guids_len(m) + groups_len(m) + fields_len(m)
+}
+
+// No block of this book is longer: its GUID records and fields count by the most that their numbers have, and their texts by the bytes
+// of all texts. None of them is looked at.
+pub fn most_len(m: &[u8]) -> u64
+    requires { ⌜ Good (now m) ⌝ }
+    ensures { λ r. ⌜ length (encodeBook (held (now (m .entry)))) ≤ r ⌝ }
+{
+    let numbers = 17 * (guids(m) as u64) + 19 * (fields(m) as u64);
+    24 + numbers + held(m) as u64 + groups_len(m)
 }

@@ -2,6 +2,7 @@
 use crate::block::put_block;
 use crate::clash::first_clash;
 use crate::size::block_len;
+use crate::size::most_len;
 use vrf_bitio::Refusal;
 use vrf_model::BLOCK_TOO_LONG;
 use vrf_model::PATH_IS_EARLIER_KEY;
@@ -10,6 +11,7 @@ use vrf_table::Entry;
 ghost use mathlib.Core.Path.{_≡_};
 ghost use mathlib.Core.List.{[]};
 ghost use mathlib.Core.Option.{none};
+ghost use Prim.Native.Nat.{min};
 ghost use Rattle.vrf_model.specs.Writer.{firstClash};
 ghost use Rattle.vrf_store.specs.Good.{Good};
 ghost use Rattle.vrf_store.specs.Stepped.{held};
@@ -28,20 +30,29 @@ fn too_long(n: u64) -> Wrote
     })
 }
 
-// Writes a block where no path is a key of an earlier group.
+// The longest block that is written into so many bytes.
+fn longest(room: usize) -> u64
+    ensures { λ r. ⌜ r ≡ min room 268435456 ⌝ }
+{
+    if BLOCK_BYTES < room as u64 {
+        return BLOCK_BYTES;
+    }
+    room as u64
+}
+
+// Writes a block where no path is a key of an earlier group. Only where it may have no room is its length found before.
 fn write_clear(m: &[u8], out: &mut [u8]) -> Wrote
     requires { ⌜ Good (now m) × (firstClash [] (held (now m) .groups) ≡ none) ⌝ }
     ensures { λ r. ⌜ WritesBook (held (now (m .entry))) (now (out .entry)) (now (out .exit)) r ⌝ }
 {
-    let n = block_len(m);
-    if (out.len() as u64) < n {
-        return too_long(n);
+    let room = longest(out.len());
+    if room < most_len(m) {
+        let n = block_len(m);
+        if room < n {
+            return too_long(n);
+        }
     }
-    if BLOCK_BYTES < n {
-        return too_long(n);
-    }
-    put_block(out, m, n as u32);
-    Wrote::Length(n)
+    Wrote::Length(put_block(out, m) as u64)
 }
 
 // Writes the book at the front of out as a block. What stands behind it is left, and all of out where it is refused.
