@@ -17,14 +17,13 @@ use Rattle.vrf_words.specs.WordsLaws.{length-part}
 use Rattle.vrf_path.specs.Text.{same}
 use Rattle.vrf_path.specs.TextLaws.{same-true}
 use Rattle.vrf_model.specs.Book.{empty, filled, Group, Allowances, Content, none-counted, slotFields, slotText}
-use Rattle.vrf_model.specs.HeldLaws.{within-passed}
 use Rattle.vrf_model.specs.Lookup.{indexPlace, slotAt}
 use Rattle.vrf_model.specs.Setting.{Step, done, keep, droppedStep, renamedStep, withGroups, renames, setFieldAt, setField}
 use Rattle.vrf_table.specs.Table.{key, at, len, info, text}
 use Rattle.vrf_store.specs.UpToLaws.{length-upTo, getD-upTo}
-use Rattle.vrf_store.specs.Store.{allowancesOf, headerOf, storeOf, fieldAt, orEmpty, slotKey, slotBy, groupBy, contentOf}
+use Rattle.vrf_store.specs.Store.{allowancesOf, headerOf, storeOf, fieldAt, orEmpty, slotKey, slotBy, groupBy}
 use Rattle.vrf_store.specs.Good.{Good}
-use Rattle.vrf_store.specs.Accepted.{slotKey-only, valid-lawful}
+use Rattle.vrf_store.specs.Accepted.{slotKey-only}
 use Rattle.vrf_store.specs.Lookups.{group-at, slot-found}
 use Rattle.vrf_store.specs.SlotRow.{fieldFound, field-known}
 use Rattle.vrf_store.specs.Stepped.{held, Stepped}
@@ -34,7 +33,7 @@ use Rattle.vrf_store.specs.Counted.{Counted}
 use Rattle.vrf_store.specs.Opened.{orZero}
 use Rattle.vrf_cache.specs.Taken.{Holds, Taken, NotTaken}
 use Rattle.vrf_cache.specs.TakenLaws.{unmoved, then, same-then, counted-then}
-use Rattle.vrf_cache.specs.Passed.{passedBy, Counts, passed-counts}
+use Rattle.vrf_cache.specs.Passed.{passedBy, passesBy, within, Counts}
 use Rattle.vrf_cache.specs.Keeping.{Allows, allows, kept, full}
 use Rattle.vrf_cache.specs.Numbers.{allowed, counts, Numbers, numbers}
 use Rattle.vrf_cache.specs.Put.{Put, put-placed, none-placed}
@@ -89,7 +88,10 @@ pub record New (m name : List ℕ) (place slot : ℕ) : Type 0 where
   pub free : slotAt (held m .groups) place slot ≡ empty
 
 -- w is the allowance that a field more would pass
-module _ {m name : List ℕ} {place slot : ℕ} (checksum : ℕ) {w : ℕ} (asked : New m name place slot) (e : w ≡ orZero (passedBy (allowancesOf m) (headerOf m .guids) (headerOf m .groups) (headerOf m .fields + 1) (headerOf m .held - 0 + length name))) where
+module _ {m name : List ℕ} {place slot : ℕ} (checksum : ℕ) {w : ℕ} (asked : New m name place slot) (passes : w ≡ passesBy m 0 0 1 0 (length name)) where
+  e : w ≡ orZero (passedBy (allowancesOf m) (headerOf m .guids) (headerOf m .groups) (headerOf m .fields + 1) (headerOf m .held - 0 + length name))
+  e = rw (add-zero (headerOf m .guids), add-zero (headerOf m .groups)) at passes
+
   abbrev added : Content
   added = withField (held m) place slot (filled checksum name)
 
@@ -211,11 +213,9 @@ module _ {m name : List ℕ} {e : ℕ} (checksum : ℕ) (asked : Known m name e)
   module _ (agree : same (nameAt m e) name ≡ true) where
     -- what is held passes no allowance
     none-passed : 0 ≡ orZero (passedBy (allowancesOf m) (headerOf m .guids) (headerOf m .groups) (headerOf m .fields + 0) (headerOf m .held - length (nameAt m e) + length name))
-    unfolding contentOf
     none-passed =
-        let k = counts (asked .good) in
-        let same-text : headerOf m .held ≡ headerOf m .held - length (nameAt m e) + length name = omega (arith, name-held (asked .good) (asked .known), ap length (same-true (nameAt m e) name agree)) in
-        rw (add-zero (headerOf m .fields), ← same-text) (sym (ap orZero (sym (passed-counts (held m) k) ∙ within-passed (held m) (valid-lawful (asked .good .valid) .within))))
+        let same-text : headerOf m .held - length (nameAt m e) + length name ≡ headerOf m .held = omega (arith, name-held (asked .good) (asked .known), ap length (same-true (nameAt m e) name agree)) in
+        rw (add-zero (headerOf m .fields), same-text, within (asked .good))
 
     unrenamed : renames (slotAt (held m .groups) (placeOf m e) (slotOf m e)) name ≡ 0
     unfolding renames
@@ -225,9 +225,9 @@ module _ {m name : List ℕ} {e : ℕ} (checksum : ℕ) (asked : Known m name e)
     same-taken b s = rw unrenamed (kept (named-counts (asked .good) (asked .known) checksum name) (named-allowed name) none-passed true (renamedStep 0) refl (still (asked .good) b (rw (same-true (nameAt m e) name agree) at (s .stepped))))
 
   -- w is the allowance that the field would pass with another name
-  module _ {w : ℕ} {old : List ℕ} (differ : same (nameAt m e) name ≡ false) (o : old ≡ nameAt m e) (by-old : w ≡ orZero (passedBy (allowancesOf m) (headerOf m .guids) (headerOf m .groups) (headerOf m .fields + 0) (headerOf m .held - length old + length name))) where
+  module _ {w : ℕ} {old : List ℕ} (differ : same (nameAt m e) name ≡ false) (o : old ≡ nameAt m e) (passes : w ≡ passesBy m 0 0 0 (length old) (length name)) where
     q : w ≡ orZero (passedBy (allowancesOf m) (headerOf m .guids) (headerOf m .groups) (headerOf m .fields + 0) (headerOf m .held - length (nameAt m e) + length name))
-    q = rw o at by-old
+    q = rw (o, add-zero (headerOf m .guids), add-zero (headerOf m .groups)) at passes
 
     counted : (t : List ℕ) → Counts (named t) (headerOf m .guids) (headerOf m .groups) (headerOf m .fields + 0) (headerOf m .held - length (nameAt m e) + length t)
     counted = named-counts (asked .good) (asked .known) checksum

@@ -4,6 +4,7 @@ use mathlib.Core.Logic.{_≢_}
 use mathlib.Core.List.{List, [], _∷_}
 use Prim.Native.Nat.{ℕ, zero, suc, _+_, _-_, _^_, _<_, _≤_}
 use native.Mathlib.Numerals.{add-one}
+use native.Mathlib.Nat.{add-zero}
 use native.Mathlib.Omega.{arith}
 use lib.ListN.{length, getD, set, replicate}
 use borrow.Author.Tests.{le-ltb}
@@ -24,7 +25,7 @@ use Rattle.vrf_store.specs.Counted.{Counted, replacedAlone, counted-replacing}
 use Rattle.vrf_store.specs.Opened.{orZero}
 use Rattle.vrf_cache.specs.Taken.{Taken, NotTaken}
 use Rattle.vrf_cache.specs.TakenLaws.{then, counted-then}
-use Rattle.vrf_cache.specs.Passed.{passedBy, Counts, counts-group-set}
+use Rattle.vrf_cache.specs.Passed.{passedBy, passesBy, Counts, counts-group-set}
 use Rattle.vrf_cache.specs.Keeping.{allows, kept, full}
 use Rattle.vrf_cache.specs.Numbers.{allowed, counts, Numbers, numbers}
 use Rattle.vrf_cache.specs.GroupLaws.{groupAt, pathBytes, at-place, group-set, index-kept, set-over, listed, texts-held, fields-held, path-bytes, changed-counts, changed-allowed}
@@ -102,7 +103,10 @@ abbrev pub replacing : Content → (e : ℕ) → Group → Step ℕ
 replacing c e g = keep e (withGroups c (set (c .groups) e g)) replacedStep
 
 -- w is the allowance that the new group in its place would pass
-module _ {m path : List ℕ} {e index slots w : ℕ} (asked : Asked m path e index slots) (q : w ≡ orZero (passedBy (allowancesOf m) (headerOf m .guids) (headerOf m .groups) (headerOf m .fields) (headerOf m .held - groupText (groupAt (held m) e) + length path))) where
+module _ {m path : List ℕ} {e index slots w : ℕ} (asked : Asked m path e index slots) (passes : w ≡ passesBy m 0 0 0 (groupText (groupAt (held m) e)) (length path)) where
+  q : w ≡ orZero (passedBy (allowancesOf m) (headerOf m .guids) (headerOf m .groups) (headerOf m .fields) (headerOf m .held - groupText (groupAt (held m) e) + length path))
+  q = rw (add-zero (headerOf m .guids), add-zero (headerOf m .groups), add-zero (headerOf m .fields)) at passes
+
   abbrev own : Group
   own = groupAt (held m) e
 

@@ -5,10 +5,11 @@ use mathlib.Core.Bool.{true, _&&_}
 use mathlib.Core.List.{List, [], _∷_, _++_, append-nil}
 use mathlib.Core.Option.{Option, none, some}
 use Prim.Native.Nat.{ℕ, _+_, _-_, _<_, _≤_}
+use native.Mathlib.Nat.{add-zero}
 use native.Mathlib.Omega.{arith}
 use lib.Dec.{eqb}
 use lib.ListN.{length, replicate}
-use borrow.Author.Tests.{eqb-true, le-ltb}
+use borrow.Author.Tests.{eqb-true}
 use Rattle.vrf_text.specs.Text.{IsText}
 use Rattle.vrf_words.specs.Words.{part}
 use Rattle.vrf_path.specs.Text.{same}
@@ -33,7 +34,7 @@ use Rattle.vrf_store.specs.Counted.{Counted}
 use Rattle.vrf_store.specs.Opened.{orZero}
 use Rattle.vrf_cache.specs.Taken.{Taken, NotTaken}
 use Rattle.vrf_cache.specs.TakenLaws.{then, same-then, counted-then}
-use Rattle.vrf_cache.specs.Passed.{passedBy, Counts, counts-group}
+use Rattle.vrf_cache.specs.Passed.{passedBy, passesBy, within, Counts, counts-group}
 use Rattle.vrf_cache.specs.Keeping.{Allows, allows, kept, full}
 use Rattle.vrf_cache.specs.Numbers.{allowed, counts, numbers}
 use Rattle.vrf_cache.specs.Put.{Put, put-placed, none-placed}
@@ -64,7 +65,10 @@ pub record New (m path : List ℕ) (index slots : ℕ) : Type 0 where
   pub handles : slots ≤ 65536
 
 -- w is the allowance that a group more would pass
-module _ {m path : List ℕ} {index slots w : ℕ} (asked : New m path index slots) (e : w ≡ orZero (passedBy (allowancesOf m) (headerOf m .guids) (headerOf m .groups + 1) (headerOf m .fields) (headerOf m .held + length path))) where
+module _ {m path : List ℕ} {index slots w : ℕ} (asked : New m path index slots) (passes : w ≡ passesBy m 0 1 0 0 (length path)) where
+  e : w ≡ orZero (passedBy (allowancesOf m) (headerOf m .guids) (headerOf m .groups + 1) (headerOf m .fields) (headerOf m .held + length path))
+  e = let whole : headerOf m .held - 0 ≡ headerOf m .held = omega arith in rw (add-zero (headerOf m .guids), add-zero (headerOf m .fields), whole) at passes
+
   abbrev new : Group
   new = newGroup path index slots
 
@@ -233,7 +237,10 @@ abbrev pub merging : Content → (e : ℕ) → List ℕ → (index slots : ℕ) 
 merging c e path index slots = keep e (withGroup c e (mergedGroup path index slots)) schemaStep
 
 -- w is the allowance that group e with this path would pass
-module _ {m path : List ℕ} {e index slots w : ℕ} (asked : Asked m path e index slots) (q : w ≡ orZero (passedBy (allowancesOf m) (headerOf m .guids) (headerOf m .groups) (headerOf m .fields) (headerOf m .held - pathBytes (held m) e + length path))) where
+module _ {m path : List ℕ} {e index slots w : ℕ} (asked : Asked m path e index slots) (passes : w ≡ passesBy m 0 0 0 (pathBytes (held m) e) (length path)) where
+  q : w ≡ orZero (passedBy (allowancesOf m) (headerOf m .guids) (headerOf m .groups) (headerOf m .fields) (headerOf m .held - pathBytes (held m) e + length path))
+  q = rw (add-zero (headerOf m .guids), add-zero (headerOf m .groups), add-zero (headerOf m .fields)) at passes
+
   abbrev by : Group → Group
   by = mergedGroup path index slots
 
@@ -272,13 +279,6 @@ module _ {m path : List ℕ} {e index slots w : ℕ} (asked : Asked m path e ind
 pub named : {path own : List ℕ} {index key : ℕ} → (same path own && eqb index key) ≡ true → (path ≡ own) × (index ≡ key)
 named {path} {own} {index} {key} h = let both = and-true (same path own) (eqb index key) h in (same-true path own (both .0), eqb-true index key (both .1))
 
--- a good memory passes no allowance
-within : {m : List ℕ} → Good m → passedBy (allowancesOf m) (headerOf m .guids) (headerOf m .groups) (headerOf m .fields) (headerOf m .held) ≡ none
-unfolding passedBy
-within good =
-    let h = good .valid .header in
-    rw (le-ltb _ _ (h .guids), le-ltb _ _ (h .groups), le-ltb _ _ (h .fields), le-ltb _ _ (h .held))
-
 module _ {m path : List ℕ} {e index slots : ℕ} (asked : Asked m path e index slots) (p : path ≡ placeOr (λ (g : Group). g .path) [] (held m .groups) e) (i : index ≡ placeOr (λ (g : Group). g .index) 0 (held m .groups) e) where
   same-held : headerOf m .held - pathBytes (held m) e + length path ≡ headerOf m .held
   same-held = omega (arith, ap length p, path-held (asked .good) (asked .known))
@@ -291,5 +291,5 @@ module _ {m path : List ℕ} {e index slots : ℕ} (asked : Asked m path e index
 
   pub grow-taken : {m₁ m₂ : List ℕ} → Stepped m m₁ (withGroup (held m) e (grownGroup slots)) → Counted m₁ m₂ schemaStep → Taken (merging (held m) e path index slots) e m m₂
   grow-taken s k =
-      merged {w = 0} asked (rw (same-held, within (asked .good))) refl
+      merged {w = 0} asked (rw (add-zero (headerOf m .guids), add-zero (headerOf m .groups), add-zero (headerOf m .fields), same-held, within (asked .good))) refl
       (stepped-as s (changed-alike (held m) e (listed (asked .good) (asked .known)) (grownGroup slots) (mergedGroup path index slots) only-grown)) k

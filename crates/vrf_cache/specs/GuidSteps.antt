@@ -5,6 +5,7 @@ use mathlib.Core.Bool.{Bool, true, false, _&&_}
 use mathlib.Core.List.{List, [], _∷_, _++_}
 use mathlib.Core.Option.{none, some}
 use Prim.Native.Nat.{ℕ, _+_, _-_, _<_, _≤_}
+use native.Mathlib.Nat.{add-zero}
 use native.Mathlib.Omega.{arith}
 use lib.Dec.{eqb}
 use lib.ListN.{length, getD, set}
@@ -28,7 +29,7 @@ use Rattle.vrf_store.specs.Counted.{Counted}
 use Rattle.vrf_store.specs.Opened.{orZero}
 use Rattle.vrf_cache.specs.Taken.{Taken, NotTaken}
 use Rattle.vrf_cache.specs.TakenLaws.{unmoved, then, same-then, counted-then}
-use Rattle.vrf_cache.specs.Passed.{passedBy, Counts, sum-set, counts-guid, counts-guid-set}
+use Rattle.vrf_cache.specs.Passed.{passedBy, passesBy, Counts, sum-set, counts-guid, counts-guid-set}
 use Rattle.vrf_cache.specs.Keeping.{Allows, allows, kept, full}
 use Rattle.vrf_cache.specs.Numbers.{allowed, counts, Numbers, numbers}
 use Rattle.vrf_cache.specs.Put.{Put, put-placed, none-placed}
@@ -45,16 +46,15 @@ setting c = keep tt c guidStep
 abbrev pub withNew : Content → Guid → Content
 withNew c r = withGuids c (c .guids ++ (r ∷ []))
 
--- the allowance that a record more, with a path of n bytes, would pass, 0 for none
-abbrev pub newPasses : List ℕ → ℕ → ℕ
-newPasses m n = orZero (passedBy (allowancesOf m) (headerOf m .guids + 1) (headerOf m .groups) (headerOf m .fields) (headerOf m .held + n))
-
 pub record New (m path : List ℕ) (guid : ℕ) : Type 0 where
   pub good : Good m
   pub isText : IsText path
   pub new : guidPlace guid (held m .guids) ≡ none
 
-module _ {m path : List ℕ} (guid outer : ℕ) {w : ℕ} (asked : New m path guid) (e : w ≡ newPasses m (length path)) where
+module _ {m path : List ℕ} (guid outer : ℕ) {w : ℕ} (asked : New m path guid) (passes : w ≡ passesBy m 1 0 0 0 (length path)) where
+  e : w ≡ orZero (passedBy (allowancesOf m) (headerOf m .guids + 1) (headerOf m .groups) (headerOf m .fields) (headerOf m .held + length path))
+  e = let whole : headerOf m .held - 0 ≡ headerOf m .held = omega arith in rw (add-zero (headerOf m .groups), add-zero (headerOf m .fields), whole) at passes
+
   abbrev added : Content
   added = withNew (held m) (guidIs guid path outer)
 
@@ -103,7 +103,7 @@ pathBytes c e = length (placeOr (λ (g : Guid). g .path) [] (c .guids) e)
 
 -- the allowance that record e would pass with a path of n bytes in place of its own, 0 for none
 abbrev pub otherPasses : List ℕ → ℕ → ℕ → ℕ
-otherPasses m e n = orZero (passedBy (allowancesOf m) (headerOf m .guids) (headerOf m .groups) (headerOf m .fields) (headerOf m .held - pathBytes (held m) e + n))
+otherPasses m e n = passesBy m 0 0 0 (pathBytes (held m) e) n
 
 module _ {m : List ℕ} (good : Good m) {e : ℕ} (known : e < headerOf m .guids) where
   listed : e < length (held m .guids)
@@ -137,7 +137,10 @@ pub record Known (m path : List ℕ) (e : ℕ) : Type 0 where
 pub let-go : {m path : List ℕ} {e : ℕ} → Known m path e → OldGuid m e 0 0
 let-go {m} asked = record { good = asked .good; known = asked .known; placed = none-placed (headerOf m .used) (storeOf m .texts); room = omega (arith, asked .good .valid .header .held) }
 
-module _ {m path : List ℕ} {e : ℕ} (outer : ℕ) {w : ℕ} (asked : Known m path e) (q : w ≡ otherPasses m e (length path)) where
+module _ {m path : List ℕ} {e : ℕ} (outer : ℕ) {w : ℕ} (asked : Known m path e) (passes : w ≡ otherPasses m e (length path)) where
+  q : w ≡ orZero (passedBy (allowancesOf m) (headerOf m .guids) (headerOf m .groups) (headerOf m .fields) (headerOf m .held - pathBytes (held m) e + length path))
+  q = rw (add-zero (headerOf m .guids), add-zero (headerOf m .groups), add-zero (headerOf m .fields)) at passes
+
   abbrev guid : ℕ
   guid = key (storeOf m .guidRows) e
 

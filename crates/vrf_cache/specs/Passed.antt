@@ -3,14 +3,18 @@ use mathlib.Core.Path.{_≡_, _∙_}
 use mathlib.Core.Bool.{cond}
 use mathlib.Core.List.{List, [], _∷_, _++_}
 use mathlib.Core.Option.{Option, none, some}
-use Prim.Native.Nat.{ℕ, zero, suc, _+_, _<_}
+use Prim.Native.Nat.{ℕ, zero, suc, _+_, _-_, _<_}
 use native.Mathlib.Nat.{not-suc-le-zero, le-of-suc-le-suc}
 use native.Mathlib.Omega.{arith}
 use lib.Dec.{ltb}
 use lib.ListN.{length, getD, set, length-append, length-set}
+use borrow.Author.Tests.{le-ltb}
 use Rattle.vrf_model.specs.Book.{Guid, Group, Allowances, Content, sum, guidText, groupFields, groupText, heldFields, heldText, passed}
 use Rattle.vrf_model.specs.HeldLaws.{sum-last}
 use Rattle.vrf_model.specs.Setting.{withGuids, withGroups}
+use Rattle.vrf_store.specs.Good.{Good}
+use Rattle.vrf_store.specs.Opened.{orZero}
+use Rattle.vrf_store.specs.Store.{allowancesOf, headerOf}
 
 -- counts against the allowances: the lowest that is passed
 unfoldable pub passedBy : Allowances → ℕ → ℕ → ℕ → ℕ → Option ℕ
@@ -20,6 +24,17 @@ passedBy a guids groups fields text =
     (cond (ltb (a .fields) fields) (some 3)
     (cond (ltb (a .text) text) (some 4)
     none)))
+
+-- the lowest that a step would pass, 0 for none, which brings g records, r groups and f fields, and n bytes of text in place of `gone`
+abbrev pub passesBy : List ℕ → (g r f gone n : ℕ) → ℕ
+passesBy m g r f gone n = orZero (passedBy (allowancesOf m) (headerOf m .guids + g) (headerOf m .groups + r) (headerOf m .fields + f) (headerOf m .held - gone + n))
+
+-- a good memory passes no allowance
+pub within : {m : List ℕ} → Good m → passedBy (allowancesOf m) (headerOf m .guids) (headerOf m .groups) (headerOf m .fields) (headerOf m .held) ≡ none
+unfolding passedBy
+within good =
+    let h = good .valid .header in
+    rw (le-ltb _ _ (h .guids), le-ltb _ _ (h .groups), le-ltb _ _ (h .fields), le-ltb _ _ (h .held))
 
 -- the counts of a content
 pub record Counts (c : Content) (guids groups fields text : ℕ) : Type 0 where

@@ -1,6 +1,6 @@
 // set_field_on_group: a slot of a group takes a checksum and a name.
 use crate::full::full;
-use crate::full::passed;
+use crate::full::passes;
 use crate::texts::keep_text;
 use vrf_model::Placed;
 use vrf_path::same;
@@ -12,10 +12,6 @@ use vrf_store::look::find_field;
 use vrf_store::look::find_index;
 use vrf_store::look::group_slots;
 use vrf_store::parts::field_rows;
-use vrf_store::parts::fields;
-use vrf_store::parts::groups;
-use vrf_store::parts::guids;
-use vrf_store::parts::held;
 use vrf_store::parts::row_text;
 use vrf_store::parts::texts;
 use vrf_store::rows::text_at;
@@ -24,18 +20,16 @@ use vrf_table::Entry;
 ghost use mathlib.Core.Path.{_≡_};
 ghost use mathlib.Core.Bool.{false};
 ghost use mathlib.Core.Option.{some};
-ghost use Prim.Native.Nat.{_+_, _-_, _<_, _≤_};
+ghost use Prim.Native.Nat.{_-_, _<_};
 ghost use Rattle.vrf_text.specs.Text.{IsText};
 ghost use Rattle.vrf_path.specs.Text.{same};
 ghost use Rattle.vrf_model.specs.Book.{filled};
 ghost use Rattle.vrf_model.specs.Setting.{done, droppedStep, setField, setFieldAt};
 ghost use Rattle.vrf_store.specs.FieldMemory.{Renamed};
 ghost use Rattle.vrf_store.specs.Good.{Good};
-ghost use Rattle.vrf_store.specs.Opened.{orZero};
 ghost use Rattle.vrf_store.specs.Stepped.{held};
-ghost use Rattle.vrf_store.specs.Store.{allowancesOf, headerOf};
+ghost use Rattle.vrf_store.specs.Store.{headerOf};
 ghost use Rattle.vrf_cache.specs.FieldSteps.{Known, New, nameAt, placeOf, setting, slotOf};
-ghost use Rattle.vrf_cache.specs.Passed.{passedBy};
 ghost use Rattle.vrf_cache.specs.Taken.{PlacedBy};
 
 // The name of row e.
@@ -46,27 +40,12 @@ fn row_name(m: &[u8], e: u32) -> &[u8]
     row_text(field_rows(m), texts(m), e)
 }
 
-// The allowance that so many fields more, and a name of n bytes in place of one of `old` bytes, would pass, 0 for none.
-fn name_passes(m: &[u8], more: u64, old: u64, n: u64) -> u32
-    requires { ⌜ Good (now m) × ((more ≤ 1) × ((old ≤ headerOf (now m) .held) × (n ≤ 4096))) ⌝ }
-    ensures { λ r. ⌜ r ≡ orZero (passedBy (allowancesOf (now (m .entry))) (headerOf (now (m .entry)) .guids) (headerOf (now (m .entry)) .groups) (headerOf (now (m .entry)) .fields + more) (headerOf (now (m .entry)) .held - old + n)) ⌝ }
-{
-    let text = held(m) as u64 - old + n;
-    passed(
-        m,
-        guids(m) as u64,
-        groups(m) as u64,
-        fields(m) as u64 + more,
-        text,
-    )
-}
-
 // A row more, for a slot that is empty.
 fn add_field(m: &mut [u8], place: u32, slot: u32, checksum: u32, name: &[u8]) -> Placed
     requires { ⌜ New (now m) (now name) place slot ⌝ }
     ensures { λ r. ⌜ PlacedBy (setting (held (now (m .entry))) place slot checksum (now (name .entry))) (now (m .entry)) (now (m .exit)) r ⌝ }
 {
-    let which = name_passes(m, 1, 0, name.len() as u64);
+    let which = passes(m, 0, 0, 1, 0, name.len() as u64);
     if which != 0 {
         return Placed::Refused(full(which));
     }
@@ -91,7 +70,7 @@ fn rename_field(m: &mut [u8], e: u32, checksum: u32, name: &[u8]) -> Placed
     ensures { λ r. ⌜ PlacedBy (setting (held (now (m .entry))) (placeOf (now (m .entry)) e) (slotOf (now (m .entry)) e) checksum (now (name .entry))) (now (m .entry)) (now (m .exit)) r ⌝ }
 {
     let old = row_name(m, e).len() as u64;
-    let which = name_passes(m, 0, old, name.len() as u64);
+    let which = passes(m, 0, 0, 0, old, name.len() as u64);
     if which != 0 {
         return Placed::Refused(full(which));
     }

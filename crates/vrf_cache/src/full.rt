@@ -1,19 +1,24 @@
 // The counts that a step would leave, against the allowances.
 use vrf_bitio::Refusal;
 use vrf_model::ALLOWANCE_PASSED;
+use vrf_store::parts::fields;
 use vrf_store::parts::fields_allowed;
+use vrf_store::parts::groups;
 use vrf_store::parts::groups_allowed;
+use vrf_store::parts::guids;
 use vrf_store::parts::guids_allowed;
+use vrf_store::parts::held;
 use vrf_store::parts::text_allowed;
 ghost use mathlib.Core.Path.{_≡_};
 ghost use Prim.Native.Nat.{_≤_};
 ghost use lib.ListN.{length};
+ghost use Rattle.vrf_store.specs.Good.{Good};
 ghost use Rattle.vrf_store.specs.Opened.{orZero};
-ghost use Rattle.vrf_store.specs.Store.{allowancesOf};
-ghost use Rattle.vrf_cache.specs.Passed.{passedBy};
+ghost use Rattle.vrf_store.specs.Store.{allowancesOf, headerOf};
+ghost use Rattle.vrf_cache.specs.Passed.{passedBy, passesBy};
 
 // The lowest allowance that these counts pass, 0 for none.
-pub fn passed(m: &[u8], guids: u64, groups: u64, fields: u64, text: u64) -> u32
+fn passed(m: &[u8], guids: u64, groups: u64, fields: u64, text: u64) -> u32
     requires { ⌜ 128 ≤ length (now m) ⌝ }
     ensures { λ r. ⌜ r ≡ orZero (passedBy (allowancesOf (now (m .entry))) guids groups fields text) ⌝ }
 {
@@ -30,6 +35,22 @@ pub fn passed(m: &[u8], guids: u64, groups: u64, fields: u64, text: u64) -> u32
         return 4;
     }
     0
+}
+
+// The lowest that a step would pass, 0 for none, which brings g records, r groups and f fields, and n bytes of text in place of `gone`
+// that are held.
+pub fn passes(m: &[u8], g: u64, r: u64, f: u64, gone: u64, n: u64) -> u32
+    requires { ⌜ Good (now m) × (g ≤ 1) × (r ≤ 1) × (f ≤ 1) × (gone ≤ headerOf (now m) .held) × (n ≤ 4096) ⌝ }
+    ensures { λ w. ⌜ w ≡ passesBy (now (m .entry)) g r f gone n ⌝ }
+{
+    let text = held(m) as u64 - gone + n;
+    passed(
+        m,
+        guids(m) as u64 + g,
+        groups(m) as u64 + r,
+        fields(m) as u64 + f,
+        text,
+    )
 }
 
 // The refusal of a step that would pass this allowance.

@@ -1,6 +1,6 @@
 // add_export_group: a group is appended, merged or replaced.
 use crate::full::full;
-use crate::full::passed;
+use crate::full::passes;
 use crate::texts::keep_text;
 use vrf_bitio::Refusal;
 use vrf_model::Added;
@@ -19,9 +19,7 @@ use vrf_store::look::find_path_place;
 use vrf_store::look::group_index;
 use vrf_store::look::group_path;
 use vrf_store::look::group_slots;
-use vrf_store::parts::fields;
 use vrf_store::parts::groups;
-use vrf_store::parts::guids;
 use vrf_store::parts::held;
 use vrf_store::parts::text_allowed;
 use vrf_table::Entry;
@@ -38,37 +36,20 @@ ghost use Rattle.vrf_model.specs.Book.{Group, groupText};
 ghost use Rattle.vrf_model.specs.Lookup.{placeOr, indexPlace};
 ghost use Rattle.vrf_model.specs.Setting.{newGroup, addGroupAt, addGroup};
 ghost use Rattle.vrf_store.specs.Good.{Good};
-ghost use Rattle.vrf_store.specs.Opened.{orZero};
 ghost use Rattle.vrf_store.specs.Stepped.{held};
-ghost use Rattle.vrf_store.specs.Store.{allowancesOf, headerOf};
+ghost use Rattle.vrf_store.specs.Store.{headerOf};
 ghost use Rattle.vrf_cache.specs.GroupAdded.{Found};
 ghost use Rattle.vrf_cache.specs.GroupLaws.{groupAt};
 ghost use Rattle.vrf_cache.specs.GroupReplaced.{replacing};
 ghost use Rattle.vrf_cache.specs.GroupSteps.{appending, New, Asked, Fits, Freed, Given, merging};
-ghost use Rattle.vrf_cache.specs.Passed.{passedBy};
 ghost use Rattle.vrf_cache.specs.Taken.{AddedBy};
-
-// The allowance that a group more, with a path of n bytes, would pass, 0 for none.
-fn new_passes(m: &[u8], n: u64) -> u32
-    requires { ⌜ Good (now m) × (n ≤ 4096) ⌝ }
-    ensures { λ r. ⌜ r ≡ orZero (passedBy (allowancesOf (now (m .entry))) (headerOf (now (m .entry)) .guids) (headerOf (now (m .entry)) .groups + 1) (headerOf (now (m .entry)) .fields) (headerOf (now (m .entry)) .held + n)) ⌝ }
-{
-    let text = held(m) as u64 + n;
-    passed(
-        m,
-        guids(m) as u64,
-        groups(m) as u64 + 1,
-        fields(m) as u64,
-        text,
-    )
-}
 
 // A group more, for an index that no group has.
 fn append_group(m: &mut [u8], path: &[u8], index: u32, slots: u32) -> Added
     requires { ⌜ New (now m) (now path) index slots ⌝ }
     ensures { λ r. ⌜ AddedBy (appending (held (now (m .entry))) (newGroup (now (path .entry)) index slots)) (now (m .entry)) (now (m .exit)) r ⌝ }
 {
-    let which = new_passes(m, path.len() as u64);
+    let which = passes(m, 0, 1, 0, 0, path.len() as u64);
     if which != 0 {
         return Added::Refused(full(which));
     }
@@ -77,15 +58,6 @@ fn append_group(m: &mut [u8], path: &[u8], index: u32, slots: u32) -> Added
     push_group(m, index, at, path.len() as u32, slots);
     step_schema(m);
     Added::At(n)
-}
-
-// The allowance that would be passed with n bytes of text in place of `gone` that are held, 0 for none.
-fn other_passes(m: &[u8], gone: u64, n: u64) -> u32
-    requires { ⌜ Good (now m) × (gone ≤ headerOf (now m) .held) × (n ≤ 4096) ⌝ }
-    ensures { λ r. ⌜ r ≡ orZero (passedBy (allowancesOf (now (m .entry))) (headerOf (now (m .entry)) .guids) (headerOf (now (m .entry)) .groups) (headerOf (now (m .entry)) .fields) (headerOf (now (m .entry)) .held - gone + n)) ⌝ }
-{
-    let text = held(m) as u64 - gone + n;
-    passed(m, guids(m) as u64, groups(m) as u64, fields(m) as u64, text)
 }
 
 // Group e lets go of its path where there is no room for n bytes beside it. As this makes the indexes again, it keeps it else.
@@ -115,7 +87,7 @@ fn rename_group(m: &mut [u8], e: u32, path: &[u8], index: u32, slots: u32) -> Ad
     ensures { λ r. ⌜ AddedBy (merging (held (now (m .entry))) e (now (path .entry)) index slots) (now (m .entry)) (now (m .exit)) r ⌝ }
 {
     let gone = group_path(m, e).len() as u64;
-    let which = other_passes(m, gone, path.len() as u64);
+    let which = passes(m, 0, 0, 0, gone, path.len() as u64);
     if which != 0 {
         return Added::Refused(full(which));
     }
@@ -170,7 +142,7 @@ fn replace_at(m: &mut [u8], e: u32, path: &[u8], index: u32, slots: u32) -> Adde
     ensures { λ r. ⌜ AddedBy (replacing (held (now (m .entry))) e (newGroup (now (path .entry)) index slots)) (now (m .entry)) (now (m .exit)) r ⌝ }
 {
     let gone = group_text(m, e);
-    let which = other_passes(m, gone, path.len() as u64);
+    let which = passes(m, 0, 0, 0, gone, path.len() as u64);
     if which != 0 {
         return Added::Refused(full(which));
     }

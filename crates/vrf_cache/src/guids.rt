@@ -1,6 +1,6 @@
 // set_net_guid_path: a GUID takes a path and an outer.
 use crate::full::full;
-use crate::full::passed;
+use crate::full::passes;
 use crate::texts::keep_text;
 use vrf_model::Acted;
 use vrf_path::same;
@@ -10,10 +10,6 @@ use vrf_store::guids::set_guid;
 use vrf_store::look::find_guid;
 use vrf_store::look::guid_outer;
 use vrf_store::look::guid_path;
-use vrf_store::parts::fields;
-use vrf_store::parts::groups;
-use vrf_store::parts::guids;
-use vrf_store::parts::held;
 use vrf_table::Entry;
 ghost use mathlib.Core.Path.{_≡_};
 ghost use mathlib.Core.Bool.{false};
@@ -25,31 +21,16 @@ ghost use Rattle.vrf_table.specs.Table.{key};
 ghost use Rattle.vrf_store.specs.Good.{Good};
 ghost use Rattle.vrf_store.specs.Stepped.{held};
 ghost use Rattle.vrf_store.specs.Store.{headerOf, storeOf};
-ghost use Rattle.vrf_cache.specs.GuidSteps.{setting, withNew, newPasses, New, withOther, otherPasses, Known, has};
+ghost use Rattle.vrf_cache.specs.GuidSteps.{setting, withNew, New, withOther, otherPasses, Known, has};
 ghost use Rattle.vrf_cache.specs.Taken.{ActedBy};
-
-// The allowance that a record more, with a path of n bytes, would pass, 0 for none.
-fn new_passes(m: &[u8], n: u64) -> u32
-    requires { ⌜ Good (now m) × (n ≤ 4096) ⌝ }
-    ensures { λ r. ⌜ r ≡ newPasses (now (m .entry)) n ⌝ }
-{
-    let text = held(m) as u64 + n;
-    passed(
-        m,
-        guids(m) as u64 + 1,
-        groups(m) as u64,
-        fields(m) as u64,
-        text,
-    )
-}
 
 // The allowance that record e would pass with a path of n bytes in place of its own, 0 for none.
 fn other_passes(m: &[u8], e: u32, n: u64) -> u32
     requires { ⌜ Good (now m) × ((e < headerOf (now m) .guids) × (n ≤ 4096)) ⌝ }
     ensures { λ r. ⌜ r ≡ otherPasses (now (m .entry)) e n ⌝ }
 {
-    let text = held(m) as u64 - guid_path(m, e).len() as u64 + n;
-    passed(m, guids(m) as u64, groups(m) as u64, fields(m) as u64, text)
+    let gone = guid_path(m, e).len() as u64;
+    passes(m, 0, 0, 0, gone, n)
 }
 
 // A record more, for a GUID that has none.
@@ -57,7 +38,7 @@ fn add_guid(m: &mut [u8], guid: u32, path: &[u8], outer: u32) -> Acted
     requires { ⌜ New (now m) (now path) guid ⌝ }
     ensures { λ r. ⌜ ActedBy (setting (withNew (held (now (m .entry))) (record { guid = guid; path = now (path .entry); outer = outer }))) (now (m .entry)) (now (m .exit)) r ⌝ }
 {
-    let which = new_passes(m, path.len() as u64);
+    let which = passes(m, 1, 0, 0, 0, path.len() as u64);
     if which != 0 {
         return Acted::Refused(full(which));
     }

@@ -5,8 +5,8 @@ use Rattle.vrf_cache.specs.GuidSteps.{new-full, new-room, new-guid, new-
 use Rattle.vrf_cache.proofs.guids.add_guid.Statement.{statement}
 use Rattle.vrf_cache.proofs.guids.add_guid.Tie as tie
 
-new-passes-requires : tie.Need-new-passes-requires
-new-passes-requires c κs = search needs
+passes-requires : tie.Need-passes-requires
+passes-requires c κs = search needs
 
 full-requires : tie.Need-full-requires
 full-requires c κs = search needs
@@ -15,16 +15,16 @@ same-length : tie.Need-same-length
 same-length c = search needs
 
 returns : tie.Need-returns
-returns c = rw (c .full .ensures) (new-full (c .before .before .before .before .before .before .args .guid) (c .before .before .before .before .before .before .args .outer) (c .before .before .before .before .before .before .pre) (c .before .before .new-passes .ensures) (c .before .if1 .taken) refl)
+returns c = rw (c .full .ensures) (new-full (c .before .before .before .before .before .before .args .guid) (c .before .before .before .before .before .before .args .outer) (c .before .before .before .before .before .before .pre) (c .before .before .passes .ensures) (c .before .if1 .taken) refl)
 
 keep-text-requires : tie.Need-keep-text-requires
-keep-text-requires c κs = (c .before .before .before .before .before .before .pre .good, new-room (c .before .before .before .before .before .before .args .guid) (c .before .before .before .before .before .before .args .outer) (c .before .before .before .before .before .before .pre) (c .before .before .new-passes .ensures) (c .before .if1 .left))
+keep-text-requires c κs = (c .before .before .before .before .before .before .pre .good, new-room (c .before .before .before .before .before .before .args .guid) (c .before .before .before .before .before .before .args .outer) (c .before .before .before .before .before .before .pre) (c .before .before .passes .ensures) (c .before .if1 .left))
 
 cast-push-guid : tie.Need-cast-push-guid
 cast-push-guid c = search needs
 
 push-guid-requires : tie.Need-push-guid-requires
-push-guid-requires c κs = new-guid (c .before .before .before .before .before .before .before .before .before .before .args .guid) (c .before .before .before .before .before .before .before .before .before .before .args .outer) (c .before .before .before .before .before .before .before .before .before .before .pre) (c .before .before .before .before .before .before .new-passes .ensures) (c .before .before .before .before .before .if1 .left) (c .before .before .before .keep-text .ensures)
+push-guid-requires c κs = new-guid (c .before .before .before .before .before .before .before .before .before .before .args .guid) (c .before .before .before .before .before .before .before .before .before .before .args .outer) (c .before .before .before .before .before .before .before .before .before .before .pre) (c .before .before .before .before .before .before .passes .ensures) (c .before .before .before .before .before .if1 .left) (c .before .before .before .keep-text .ensures)
 
 step-guid-requires : tie.Need-step-guid-requires
 step-guid-requires c κs = search needs
@@ -33,13 +33,13 @@ same-length-2 : tie.Need-same-length-2
 same-length-2 c = search needs
 
 returns-2 : tie.Need-returns-2
-returns-2 c = new-taken (c .before .before .before .before .before .before .before .before .before .before .before .before .before .before .before .before .before .args .guid) (c .before .before .before .before .before .before .before .before .before .before .before .before .before .before .before .before .before .args .outer) (c .before .before .before .before .before .before .before .before .before .before .before .before .before .before .before .before .before .pre) (c .before .before .before .before .before .before .before .before .before .before .before .before .before .new-passes .ensures) (c .before .before .before .before .before .before .before .before .before .before .before .before .if1 .left) (c .before .before .before .before .before .before .before .before .before .before .keep-text .ensures) (c .before .before .before .before .before .before .push-guid .ensures) (c .before .before .step-guid .ensures)
+returns-2 c = new-taken (c .before .before .before .before .before .before .before .before .before .before .before .before .before .before .before .before .before .args .guid) (c .before .before .before .before .before .before .before .before .before .before .before .before .before .before .before .before .before .args .outer) (c .before .before .before .before .before .before .before .before .before .before .before .before .before .before .before .before .before .pre) (c .before .before .before .before .before .before .before .before .before .before .before .before .before .passes .ensures) (c .before .before .before .before .before .before .before .before .before .before .before .before .if1 .left) (c .before .before .before .before .before .before .before .before .before .before .keep-text .ensures) (c .before .before .before .before .before .before .push-guid .ensures) (c .before .before .step-guid .ensures)
 
 pub add-guid-spec : {M : Type 1} → statement M
 add-guid-spec =
     tie.close
     (tie.spec
-    new-passes-requires
+    passes-requires
     full-requires
     same-length
     returns

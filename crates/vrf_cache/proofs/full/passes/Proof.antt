@@ -1,7 +1,7 @@
--- `vrf_cache::groups::other_passes` meets its contract.
+-- `vrf_cache::full::passes` meets its contract.
 use borrow.Author.Needs.{needs}
-use Rattle.vrf_cache.proofs.groups.other_passes.Statement.{statement}
-use Rattle.vrf_cache.proofs.groups.other_passes.Tie as tie
+use Rattle.vrf_cache.proofs.full.passes.Statement.{statement}
+use Rattle.vrf_cache.proofs.full.passes.Tie as tie
 
 held-requires : tie.Need-held-requires
 held-requires c κs = search needs
@@ -21,11 +21,17 @@ guids-requires c κs = search needs
 cast-passed : tie.Need-cast-passed
 cast-passed c = search needs
 
+add-passed : tie.Need-add-passed
+add-passed c = search needs
+
 groups-requires : tie.Need-groups-requires
 groups-requires c κs = search needs
 
 cast-passed-2 : tie.Need-cast-passed-2
 cast-passed-2 c = search needs
+
+add-passed-2 : tie.Need-add-passed-2
+add-passed-2 c = search needs
 
 fields-requires : tie.Need-fields-requires
 fields-requires c κs = search needs
@@ -33,14 +39,17 @@ fields-requires c κs = search needs
 cast-passed-3 : tie.Need-cast-passed-3
 cast-passed-3 c = search needs
 
+add-passed-3 : tie.Need-add-passed-3
+add-passed-3 c = search needs
+
 passed-requires : tie.Need-passed-requires
 passed-requires c κs = search needs
 
 returns : tie.Need-returns
 returns c = rw (← c .before .before .before .before .held .ensures, ← c .before .before .before .guids .ensures, ← c .before .before .groups .ensures, ← c .before .fields .ensures) (c .passed .ensures)
 
-pub other-passes-spec : {M : Type 1} → statement M
-other-passes-spec =
+pub passes-spec : {M : Type 1} → statement M
+passes-spec =
     tie.close
     (tie.spec
     held-requires
@@ -49,9 +58,12 @@ other-passes-spec =
     add-text
     guids-requires
     cast-passed
+    add-passed
     groups-requires
     cast-passed-2
+    add-passed-2
     fields-requires
     cast-passed-3
+    add-passed-3
     passed-requires
     returns)
