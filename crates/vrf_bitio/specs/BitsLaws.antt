@@ -70,6 +70,22 @@ bits-past s p (suc w) h =
     let past : length s ≤ p / 8 = omega arith in
     rw (List·getD-eq-default s 0 past, zero-div (2 ^ (p % 8)), bits-past s (p + 1) w (omega arith))
 
+-- the first of some whole bytes, and the others
+pub bytes-take : (s : List ℕ) (p n k : ℕ) → n ≤ k → take n (bytesOf s p k) ≡ bytesOf s p n
+unfolding bytesOf
+bytes-take s p zero k h = refl
+bytes-take s p (suc n) zero h = absurd (omega arith)
+bytes-take s p (suc n) (suc k) h = rw (bytes-take s (p + 8) n k (omega arith))
+
+pub bytes-drop : (s : List ℕ) (p n k : ℕ) → drop n (bytesOf s p k) ≡ bytesOf s (p + 8 * n) (k - n)
+unfolding bytesOf
+bytes-drop s p zero k = let here : p + 8 * 0 ≡ p = omega arith in let all : k - 0 ≡ k = omega arith in rw (here, all)
+bytes-drop s p (suc n) zero = let none : 0 - suc n ≡ 0 = omega arith in rw none
+bytes-drop s p (suc n) (suc k) =
+    let next : p + 8 + 8 * n ≡ p + 8 * suc n = omega arith in
+    let one : suc k - suc n ≡ k - n = omega arith in
+    rw (one, ← next, bytes-drop s (p + 8) n k)
+
 -- a list of bytes, as every `&[u8]` holds one
 abbrev pub Bytes : List ℕ → Type 0
 Bytes s = (i : ℕ) → getD s i 0 < 256

@@ -9,6 +9,7 @@ use lib.Dec.{ltb}
 use lib.ListN.{length, take, drop}
 use borrow.Author.Tests.{lt-ltb, le-ltb, ltb-false}
 use Rattle.vrf_bitio.specs.Bits.{bytesOf}
+use Rattle.vrf_bitio.specs.BitsLaws.{bytes-take, bytes-drop}
 use Rattle.vrf_bitio.specs.Reading.{Read, ok, refused, handOn}
 use Rattle.vrf_bitio.specs.Window.{rest, window, inner}
 use Rattle.vrf_bitio.specs.WindowLaws.{rest-length}
@@ -40,21 +41,6 @@ pub same-window : {s : List ℕ} {c d : Cursor} → Within s c → d .first ≡ 
 same-window w f n = record { inside = omega (arith, w .inside, f, n); small = w .small }
 
 -- ---- the window of the next n bytes
-
-take-bytes : (s : List ℕ) (p n k : ℕ) → n ≤ k → take n (bytesOf s p k) ≡ bytesOf s p n
-unfolding bytesOf
-take-bytes s p zero k h = refl
-take-bytes s p (suc n) zero h = absurd (omega arith)
-take-bytes s p (suc n) (suc k) h = rw (take-bytes s (p + 8) n k (omega arith))
-
-drop-bytes : (s : List ℕ) (p n k : ℕ) → drop n (bytesOf s p k) ≡ bytesOf s (p + 8 * n) (k - n)
-unfolding bytesOf
-drop-bytes s p zero k = let here : p + 8 * 0 ≡ p = omega arith in let all : k - 0 ≡ k = omega arith in rw (here, all)
-drop-bytes s p (suc n) zero = let none : 0 - suc n ≡ 0 = omega arith in rw none
-drop-bytes s p (suc n) (suc k) =
-    let next : p + 8 + 8 * n ≡ p + 8 * suc n = omega arith in
-    let one : suc k - suc n ≡ k - n = omega arith in
-    rw (one, ← next, drop-bytes s (p + 8) n k)
 
 -- an empty one may be asked for past the end, and starts there
 from-start : (s : List ℕ) (p e n : ℕ) → (n ≢ 0 → p ≤ e) → bytesOf s (min p e) n ≡ bytesOf s p n
@@ -97,14 +83,14 @@ module _ {s : List ℕ} {c : Cursor} (n : ℕ) (within : Within s c) where
         let all : (8 * n - 0) / 8 ≡ n = omega arith in
         rw (none, all)
         (from-start s (c .first + c .pos) (8 * length s) n (λ some. omega (arith, within .inside, enough))
-        ∙ sym (take-bytes s (c .first + c .pos) n ((c .count - c .pos) / 8) (omega (arith, enough))))
+        ∙ sym (bytes-take s (c .first + c .pos) n ((c .count - c .pos) / 8) (omega (arith, enough))))
 
     behind-bytes : rest s (c .first) (c .count) (c .pos + 8 * n) ≡ drop n (restOf s c)
     unfolding rest
     behind-bytes =
         let start : c .first + (c .pos + 8 * n) ≡ c .first + c .pos + 8 * n = omega arith in
         let few : (c .count - (c .pos + 8 * n)) / 8 ≡ (c .count - c .pos) / 8 - n = omega arith in
-        rw (start, few) (sym (drop-bytes s (c .first + c .pos) n ((c .count - c .pos) / 8)))
+        rw (start, few) (sym (bytes-drop s (c .first + c .pos) n ((c .count - c .pos) / 8)))
 
     its-window : {i d : Cursor} → Gave s c asked (i .first, i .count) d → i .pos ≡ 0 → Inside s c n i d
     its-window {i} {d} g z =

@@ -78,12 +78,6 @@ unfolding bytesOf runs
 bytes-run s q zero = refl
 bytes-run s q (suc n) = ap (_∷_ (bitsOf s q 8)) (bytes-run s (q + 8) n)
 
-pub bytes-take : (s : List ℕ) (q k n : ℕ) → k ≤ n → take k (bytesOf s q n) ≡ bytesOf s q k
-bytes-take s q k n h = rw (bytes-run s q n, bytes-run s q k) (run-take 8 s q k n h)
-
-pub bytes-drop : (s : List ℕ) (q k n : ℕ) → drop k (bytesOf s q n) ≡ bytesOf s (q + 8 * k) (n - k)
-bytes-drop s q k n = rw (bytes-run s q n, bytes-run s (q + 8 * k) (n - k)) (run-drop 8 s q k n)
-
 -- whole bytes copied as bits
 pub packed-run : (s : List ℕ) (q k : ℕ) → packedBits s q (8 * k) k ≡ runs 8 s q k
 unfolding packedBits runs

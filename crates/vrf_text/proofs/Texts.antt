@@ -10,6 +10,7 @@ use lib.Dec.{ltb, eqb}
 use lib.ListN.{length}
 use borrow.Author.Tests.{lt-ltb, le-ltb, ltb-false}
 use Rattle.vrf_bitio.specs.Bits.{bitsOf, bytesOf}
+use Rattle.vrf_bitio.specs.BitsLaws.{bytes-take, bytes-drop}
 use Rattle.vrf_bitio.specs.Reading.{Read, ok, refused}
 use Rattle.vrf_bitio.specs.ReadingLaws.{bind-ok, bind-refused}
 use Rattle.vrf_bitio.specs.Window.{rest}
@@ -21,7 +22,7 @@ use Rattle.vrf_text.specs.Utf16.{unitsToUtf8}
 use Rattle.vrf_text.specs.Text.{textBytes, dropZero, asUtf8, checked, text8, text16}
 use Rattle.vrf_text.specs.TextLaws.{textBytes-ok}
 use Rattle.vrf_text.specs.Steps.{unitsOf, bitAt}
-use Rattle.vrf_text.proofs.Runs.{runs, run-trim, bytes-run, bytes-take, bytes-drop, units-run}
+use Rattle.vrf_text.proofs.Runs.{runs, run-trim, bytes-run, units-run}
 
 -- ---- the bytes of a text
 

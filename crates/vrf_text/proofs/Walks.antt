@@ -7,10 +7,10 @@ use native.Mathlib.Omega.{arith}
 use lib.ListN.{length, take, drop, length-drop, drop-of-length-le}
 use lib.Seq.{take-all, drop-drop}
 use Rattle.vrf_bitio.specs.Bits.{bytesOf}
+use Rattle.vrf_bitio.specs.BitsLaws.{bytes-drop}
 use Rattle.vrf_text.specs.Utf8.{utf8, utf8From}
 use Rattle.vrf_text.specs.Steps.{Passed, Clear}
 use Rattle.vrf_text.proofs.Ascii.{clear-on}
-use Rattle.vrf_text.proofs.Runs.{bytes-drop}
 
 -- where a step is not 0
 goes : (l : List ℕ) (k : ℕ) → (k ≡ 0 → ⊥) → Passed l k → utf8 (drop k l) ≡ utf8 l

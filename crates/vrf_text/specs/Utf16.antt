@@ -62,7 +62,3 @@ utf8Chars (u ∷ cs) = utf8Of u ++ utf8Chars cs
 -- the UTF-8 of units
 unfoldable pub unitsToUtf8 : List ℕ → Option (List ℕ)
 unitsToUtf8 ws = elim (utf16 ws) [ none ↦ none | some cs ↦ some (utf8Chars cs) ]
-
--- the UTF-8 of a text in UTF-16LE
-unfoldable pub transcoded : List ℕ → Option (List ℕ)
-transcoded l = unitsToUtf8 (units l)
