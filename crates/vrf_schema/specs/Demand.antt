@@ -38,6 +38,10 @@ pub data Played : List Call → List ℕ → List Answer → List ℕ → Type 0
 
 -- ---- the claim
 
+-- what is asked of the groups at the memory m (path, index, leaf, what stands at a place) is answered off its group list alone
+pub record OffList (m : List ℕ) : Type 0 where
+  pub answered : {k : Call} → OfGroups k → {m′ : List ℕ} {r : Answer} → Called k m m′ r → (c : Content) → c .groups ≡ bookOf m .content .groups → r ≡ run k c .answer
+
 -- what two seats have after the same further calls
 pub record Together (m late : List ℕ) (rs : List Answer) (m′ : List ℕ) (qs : List Answer) (late′ : List ℕ) : Type 0 where
   -- equal answers, with counts and positions, refusals with number, a and b
@@ -46,6 +50,9 @@ pub record Together (m late : List ℕ) (rs : List Answer) (m′ : List ℕ) (qs
   pub lists : bookOf m′ .content ≡ bookOf late′ .content
   -- counters as far apart, modulo 2^64, as before them
   pub counters : apart (bookOf m′ .counters) (bookOf late′ .counters) ≡ apart (bookOf m .counters) (bookOf late .counters)
+  -- at either seat, lookups of groups off the group list
+  pub early-lookups : OffList m′
+  pub late-lookups : OffList late′
 
 -- the late seat has read the early seat's block, and answered r
 pub record Joined (m late : List ℕ) (r : Answer) : Type 0 where
@@ -73,8 +80,7 @@ pub record Seated (a : Allowances) (calls : List Call) (rs : List Answer) (m : L
   pub joins : {before after : List ℕ} {n : ℕ} → Writes m before after (Length n)
       → {lent late₀ late : List ℕ} {r : Answer} → Begun a lent late₀ Done → Called (read-checkpoint-tables (whole (take n after))) late₀ late r
       → Joined m late r
-  -- at either seat, as at this one, what is asked of the groups is answered off the group list
-  pub lookups : {k : Call} → OfGroups k → {m′ : List ℕ} {r : Answer} → Called k m m′ r → (c : Content) → c .groups ≡ bookOf m .content .groups → r ≡ run k c .answer
+  pub lookups : OffList m
 
 -- ---- what a list of calls leaves
 
@@ -96,6 +102,9 @@ left {m = m} good (next {k = k} {ks = ks} z c p) =
       answers = cc (one .answer, all .answers, one .book);
       sized = cons z (all .sized);
     }
+
+off-list : {m : List ℕ} → check m ≡ true → OffList m
+off-list {m} good = record { answered = λ k called c groups. called .ran good .answer ∙ lookups-off-lists k (bookOf m .content) c (sym groups) }
 
 -- what is opened has allowances that may be
 opened-allowed : (a : Allowances) (m : List ℕ) → check m ≡ true → bookOf m ≡ freshBook a → Allowed a
@@ -137,6 +146,8 @@ module _ (a : Allowances) (m : List ℕ) (good : check m ≡ true) {calls : List
                 answers = one .answers ∙ step .answered ∙ sym (two .answers ∙ ap (answers further) now);
                 lists = ap (λ (b : Book). b .content) (one .book) ∙ step .content ∙ sym (ap (λ (b : Book). b .content) (two .book ∙ ap (play further) now));
                 counters = cc (one .book, two .book, now, step .counters);
+                early-lookups = off-list (one .accepted);
+                late-lookups = off-list (two .accepted);
               };
         }
 
@@ -151,5 +162,5 @@ demand-3 a literals {m₀ = m₀} {m} opened calls {rs} played =
       answered = l .answers ∙ ap (answers calls) (opened .book);
       writing = λ w. (w .wrote (l .accepted) .answer, writing _ _);
       joins = λ w opened′ called. joined a m (l .accepted) (l .sized) tops literals e w (opened′ .accepted) (opened′ .book) called;
-      lookups = λ k called c groups. called .ran (l .accepted) .answer ∙ lookups-off-lists k (bookOf m .content) c (sym groups);
+      lookups = off-list (l .accepted);
     }

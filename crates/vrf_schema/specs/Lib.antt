@@ -8,3 +8,5 @@ pub mod Writes
 -- demand 3
 pub mod Demand
 pub mod Exists
+-- no wrong program passes
+pub mod Determined
