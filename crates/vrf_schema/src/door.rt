@@ -1,7 +1,7 @@
 // What every call meets before its work: the check of the book, then that of the text that it brings.
 use vrf_bitio::Refusal;
+use vrf_check::check;
 use vrf_model::SPOILED_BOOK;
-use vrf_store::check::check;
 use vrf_text::Caller;
 use vrf_text::check_text;
 ghost use Rattle.vrf_text.specs.Text.{accepted, callerText};

@@ -1,5 +1,4 @@
 // The lent memory: where its parts stand, the rows of its tables, its texts (docs/LAYOUT.md), the lookups in it and its changes.
-pub mod check;
 pub mod counters;
 pub mod fields;
 pub mod groups;

@@ -1,0 +1,61 @@
+-- `vrf_check::length_sum` meets its contract: the sum of the rows passed.
+use mathlib.Core.Path.{_≡_, refl, ap, _∙_}
+use Prim.Native.Nat.{_*_, _-_, _≤_}
+use native.Mathlib.Omega.{arith}
+use denote.Ref.{now}
+use borrow.Author.Needs.{needs}
+use Rattle.vrf_table.specs.Table.{len}
+use Rattle.vrf_store.specs.UpTo.{sumBelow}
+use Rattle.vrf_store.specs.CheckSteps.{sum-next}
+use Rattle.vrf_check.proofs.length_sum.Statement.{statement}
+use Rattle.vrf_check.proofs.length_sum.Tie as tie
+
+abbrev Inv-loop : tie.InvT-loop
+Inv-loop rows n sum₀ e₀ sum e = (e ≤ n) × (sum ≡ sumBelow (len rows) e) × (sum ≤ 4294967295 * e)
+
+abbrev μ-loop : tie.MeasureT-loop
+μ-loop rows n sum₀ e₀ sum e = n - e
+
+loop-holds : tie.Need-loop-holds Inv-loop μ-loop
+unfolding sumBelow
+loop-holds c = (omega arith, refl, omega arith)
+
+row-len-requires : tie.Need-row-len-requires Inv-loop μ-loop
+row-len-requires c κs = omega arith
+
+cast-sum : tie.Need-cast-sum Inv-loop μ-loop
+cast-sum c = search needs
+
+add-sum : tie.Need-add-sum Inv-loop μ-loop
+add-sum c = omega arith
+
+add-e : tie.Need-add-e Inv-loop μ-loop
+add-e c = omega arith
+
+loop-less : tie.Need-loop-less Inv-loop μ-loop
+loop-less c = omega arith
+
+loop-again : tie.Need-loop-again Inv-loop μ-loop
+loop-again c = (omega arith, omega (arith, sum-next (len (now (c .before .before .before .before .args .rows))) (c .before .before .loop .e)), omega arith)
+
+returns : tie.Need-returns Inv-loop μ-loop
+returns c =
+    let l = c .before .loop in
+    let x = c .before .before .before .args in
+    let all : l .e ≡ x .n = omega arith in
+    (l .inv .1 ∙ ap (sumBelow (len (now (x .rows)))) all, omega arith)
+
+pub length-sum-spec : {M : Type 1} → statement M
+length-sum-spec =
+    tie.close
+    (tie.spec
+    Inv-loop
+    μ-loop
+    loop-holds
+    row-len-requires
+    cast-sum
+    add-sum
+    add-e
+    loop-less
+    loop-again
+    returns)

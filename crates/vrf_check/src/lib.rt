@@ -1,0 +1,579 @@
+// The check of a lent book (refusal 2): its numbers are in bounds, each text is one, and each entry is found where it should be.
+use vrf_path::Key;
+use vrf_path::Leaf;
+use vrf_path::core_alias;
+use vrf_path::default_object_alias;
+use vrf_path::is_absent;
+use vrf_path::leaf_at;
+use vrf_store::look::row_info;
+use vrf_store::look::row_key;
+use vrf_store::parts;
+use vrf_store::parts::row_text;
+use vrf_table::ABSENT;
+use vrf_table::AMBIGUOUS;
+use vrf_table::Claim;
+use vrf_table::Entry;
+use vrf_table::find_key;
+use vrf_table::find_path;
+use vrf_table::leaf_claim;
+use vrf_table::spell::spell;
+use vrf_text::is_utf8;
+use vrf_words::get32;
+ghost use mathlib.Core.Path.{_≡_};
+ghost use mathlib.Core.Bool.{true};
+ghost use Prim.Native.Nat.{_+_, _*_, _<_, _≤_, _^_};
+ghost use lib.ListN.{length};
+ghost use Rattle.vrf_path.specs.Answers.{spelled, keyBytes};
+ghost use Rattle.vrf_table.specs.Table.{len};
+ghost use Rattle.vrf_table.specs.TextIndex.{findPath};
+ghost use Rattle.vrf_table.specs.Answers.{entry, claim};
+ghost use Rattle.vrf_store.specs.UpTo.{allBelow, sumBelow};
+ghost use Rattle.vrf_store.specs.Layout;
+ghost use Rattle.vrf_store.specs.Store.{allowancesOf, headerOf, storeOf};
+ghost use Rattle.vrf_store.specs.Check.{
+  topsOk,
+  headerOk,
+  laidOk,
+  textOk,
+  isPlace,
+  foundOk,
+  notBefore,
+  reachOk,
+  isSettled,
+  storeOk,
+  check,
+};
+ghost use Rattle.vrf_store.specs.CheckSteps.{
+  guidRow,
+  groupRow,
+  slotIn,
+  fieldRow,
+  keysReach,
+  leafSettled,
+  sumOk,
+  groupTexts,
+  textsOk,
+  guidsOk,
+  groupsOk,
+  fieldsOk,
+  pathsOk,
+  leavesOk,
+  Laid,
+  Walked,
+};
+
+// A text has at most this many bytes.
+const TEXT_BYTES: usize = 4_096;
+
+// A key of a path is at most 23 bytes longer than the path.
+const KEY_BYTES: usize = TEXT_BYTES + 23;
+
+// ---- the header
+
+// Whether no allowance is above its top.
+fn tops_ok(m: &[u8]) -> bool
+    requires { ⌜ 128 ≤ length (now m) ⌝ }
+    ensures { λ r. ⌜ r ≡ topsOk (allowancesOf (now (m .entry))) ⌝ }
+{
+    let g = parts::guids_allowed(m) <= 1_000_000;
+    let r = parts::groups_allowed(m) <= 100_000;
+    let f = parts::fields_allowed(m) <= 1_000_000;
+    let t = parts::text_allowed(m) <= 67_108_864;
+    let l = parts::literals_allowed(m) <= 1_000_000;
+    g & (r & (f & (t & l)))
+}
+
+// How many bytes the allowances need.
+fn need(m: &[u8]) -> usize
+    requires { ⌜ 128 ≤ length (now m) ⌝ }
+    ensures { λ r. ⌜ r ≡ Layout.need (allowancesOf (now (m .entry))) ⌝ }
+{
+    let g = parts::guids_allowed(m);
+    let r = parts::groups_allowed(m);
+    let f = parts::fields_allowed(m);
+    let l = parts::literals_allowed(m);
+    let t = parts::text_allowed(m);
+    4 * (37 + 10 * g + 16 * r + 10 * f + l) + 2 * t
+}
+
+// Whether no count or total is above its allowance.
+fn header_ok(m: &[u8]) -> bool
+    requires { ⌜ 128 ≤ length (now m) ⌝ }
+    ensures { λ r. ⌜ r ≡ headerOk (headerOf (now (m .entry))) ⌝ }
+{
+    let g = (parts::guids(m) as usize) <= parts::guids_allowed(m);
+    let r = (parts::groups(m) as usize) <= parts::groups_allowed(m);
+    let f = (parts::fields(m) as usize) <= parts::fields_allowed(m);
+    let h = (parts::held(m) as usize) <= parts::text_allowed(m);
+    let u = (parts::used(m) as usize) <= parts::text_allowed(m);
+    let s = parts::half(m) <= 1;
+    g & (r & (f & (h & (u & s))))
+}
+
+// Whether the allowances and the header are in bounds, and the memory has what they need.
+fn laid_ok(m: &[u8]) -> bool
+    ensures { λ r. ⌜ r ≡ laidOk (headerOf (now (m .entry))) (length (now (m .entry))) ⌝ }
+{
+    if m.len() < 128 {
+        return false;
+    }
+    if !tops_ok(m) {
+        return false;
+    }
+    if m.len() < need(m) {
+        return false;
+    }
+    header_ok(m)
+}
+
+// ---- rows
+
+// How long the text of row e is.
+fn row_len(rows: &[u8], e: u32) -> u32
+    requires { ⌜ 24 * e + 24 ≤ length (now rows) ⌝ }
+    ensures { λ r. ⌜ r ≡ len (now (rows .entry)) e ⌝ }
+{
+    get32(rows, 6 * (e as usize) + 4)
+}
+
+// The sum of the lengths of n texts.
+fn length_sum(rows: &[u8], n: u32) -> u64
+    requires { ⌜ 24 * n ≤ length (now rows) ⌝ }
+    ensures { λ r. ⌜ (r ≡ sumBelow (len (now (rows .entry))) n) × (r ≤ 4294967295 * n) ⌝ }
+{
+    let mut sum = 0;
+    let mut e = 0;
+    while e < n {
+        sum += row_len(rows, e) as u64;
+        e += 1;
+    }
+    sum
+}
+
+// Whether the text of row e lies in what is used, and is one.
+fn text_ok(used: u32, x: &[u8], rows: &[u8], e: u32) -> bool
+    requires { ⌜ (24 * e + 24 ≤ length (now rows)) × (used ≤ length (now x)) ⌝ }
+    ensures { λ r. ⌜ r ≡ textOk used (now (x .entry)) (now (rows .entry)) e ⌝ }
+{
+    let from = get32(rows, 6 * (e as usize) + 3) as usize;
+    let n = row_len(rows, e) as usize;
+    let to = from + n;
+    if (used as usize) < to {
+        return false;
+    }
+    if TEXT_BYTES < n {
+        return false;
+    }
+    is_utf8(&x[from..to])
+}
+
+// Whether each of n rows' texts lies in what is used, and is one.
+fn each_text_ok(used: u32, x: &[u8], rows: &[u8], n: u32) -> bool
+    requires { ⌜ (24 * n ≤ length (now rows)) × (used ≤ length (now x)) ⌝ }
+    ensures { λ r. ⌜ r ≡ allBelow (textOk used (now (x .entry)) (now (rows .entry))) n ⌝ }
+{
+    let mut e = 0;
+    while e < n {
+        if !text_ok(used, x, rows, e) {
+            return false;
+        }
+        e += 1;
+    }
+    true
+}
+
+// Whether a walk found entry e.
+fn is_place(e: u32, found: Entry) -> bool
+    ensures { λ r. ⌜ r ≡ isPlace e (entry found) ⌝ }
+{
+    match found {
+        Entry::At(i) => i == e,
+        Entry::Nowhere => false,
+    }
+}
+
+// Whether the key of row e finds it.
+fn found_ok(rows: &[u8], heads: &[u8], b: u32, n: u32, e: u32) -> bool
+    requires { ⌜ (24 * n ≤ length (now rows)) × (4 * b ≤ length (now heads)) × (0 < b) × (e < n) ⌝ }
+    ensures { λ r. ⌜ r ≡ foundOk (now (rows .entry)) (now (heads .entry)) b n e ⌝ }
+{
+    is_place(e, find_key(rows, heads, b, n, row_key(rows, e)))
+}
+
+// ---- the rows of each table, but for their texts
+
+fn guid_ok(rows: &[u8], heads: &[u8], b: u32, n: u32, e: u32) -> bool
+    requires { ⌜ (24 * n ≤ length (now rows)) × (4 * b ≤ length (now heads)) × (0 < b) × (e < n) ⌝ }
+    ensures { λ r. ⌜ r ≡ guidRow (now (rows .entry)) (now (heads .entry)) b n e ⌝ }
+{
+    if 0xFFFF_FFFF < row_key(rows, e) {
+        return false;
+    }
+    found_ok(rows, heads, b, n, e)
+}
+
+fn each_guid_ok(rows: &[u8], heads: &[u8], b: u32, n: u32) -> bool
+    requires { ⌜ (24 * n ≤ length (now rows)) × (4 * b ≤ length (now heads)) × (0 < b) ⌝ }
+    ensures { λ r. ⌜ r ≡ allBelow (guidRow (now (rows .entry)) (now (heads .entry)) b n) n ⌝ }
+{
+    let mut e = 0;
+    while e < n {
+        if !guid_ok(rows, heads, b, n, e) {
+            return false;
+        }
+        e += 1;
+    }
+    true
+}
+
+fn group_ok(rows: &[u8], heads: &[u8], b: u32, n: u32, e: u32) -> bool
+    requires { ⌜ (24 * n ≤ length (now rows)) × (4 * b ≤ length (now heads)) × (0 < b) × (e < n) ⌝ }
+    ensures { λ r. ⌜ r ≡ groupRow (now (rows .entry)) (now (heads .entry)) b n e ⌝ }
+{
+    if 0xFFFF_FFFF < row_key(rows, e) {
+        return false;
+    }
+    if 0x1_0000 < row_info(rows, e) {
+        return false;
+    }
+    found_ok(rows, heads, b, n, e)
+}
+
+fn each_group_ok(rows: &[u8], heads: &[u8], b: u32, n: u32) -> bool
+    requires { ⌜ (24 * n ≤ length (now rows)) × (4 * b ≤ length (now heads)) × (0 < b) ⌝ }
+    ensures { λ r. ⌜ r ≡ allBelow (groupRow (now (rows .entry)) (now (heads .entry)) b n) n ⌝ }
+{
+    let mut e = 0;
+    while e < n {
+        if !group_ok(rows, heads, b, n, e) {
+            return false;
+        }
+        e += 1;
+    }
+    true
+}
+
+// Whether k is a slot of one of n groups.
+fn slot_ok(groups: &[u8], n: u32, k: u64) -> bool
+    requires { ⌜ 24 * n ≤ length (now groups) ⌝ }
+    ensures { λ r. ⌜ r ≡ slotIn (now (groups .entry)) n k ⌝ }
+{
+    let g = k / 0x1_0000;
+    if (n as u64) <= g {
+        return false;
+    }
+    k % 0x1_0000 < row_info(groups, g as u32) as u64
+}
+
+fn field_ok(groups: &[u8], g: u32, rows: &[u8], heads: &[u8], b: u32, n: u32, e: u32) -> bool
+    requires { ⌜ (24 * g ≤ length (now groups)) × (24 * n ≤ length (now rows)) × (4 * b ≤ length (now heads)) × (0 < b) × (e < n) ⌝ }
+    ensures { λ r. ⌜ r ≡ fieldRow (now (groups .entry)) g (now (rows .entry)) (now (heads .entry)) b n e ⌝ }
+{
+    if !slot_ok(groups, g, row_key(rows, e)) {
+        return false;
+    }
+    found_ok(rows, heads, b, n, e)
+}
+
+fn each_field_ok(groups: &[u8], g: u32, rows: &[u8], heads: &[u8], b: u32, n: u32) -> bool
+    requires { ⌜ (24 * g ≤ length (now groups)) × (24 * n ≤ length (now rows)) × (4 * b ≤ length (now heads)) × (0 < b) ⌝ }
+    ensures { λ r. ⌜ r ≡ allBelow (fieldRow (now (groups .entry)) g (now (rows .entry)) (now (heads .entry)) b n) n ⌝ }
+{
+    let mut e = 0;
+    while e < n {
+        if !field_ok(groups, g, rows, heads, b, n, e) {
+            return false;
+        }
+        e += 1;
+    }
+    true
+}
+
+// ---- the keys of groups
+
+// Whether a walk found entry e or a later one.
+fn not_before(e: u32, found: Entry) -> bool
+    ensures { λ r. ⌜ r ≡ notBefore e (entry found) ⌝ }
+{
+    match found {
+        Entry::At(i) => e <= i,
+        Entry::Nowhere => false,
+    }
+}
+
+// Whether a key finds entry e or a later one.
+fn reaches(
+    rows: &[u8],
+    x: &[u8],
+    links: &[u8],
+    heads: &[u8],
+    b: u32,
+    n: u32,
+    e: u32,
+    k: &[u8],
+) -> bool
+    requires { ⌜ Walked (now rows) (now x) (now links) (now heads) 12 b n × (length (now k) < 2 ^ 31) ⌝ }
+    ensures { λ r. ⌜ r ≡ notBefore e (findPath (now (rows .entry)) (now (x .entry)) (now (links .entry)) (now (heads .entry)) b n (now (k .entry))) ⌝ }
+{
+    not_before(e, find_path(rows, x, links, heads, b, n, k))
+}
+
+// Whether an alias that is there finds entry e or a later one: it is spelled out, since no text holds it.
+fn alias_reaches(
+    rows: &[u8],
+    x: &[u8],
+    links: &[u8],
+    heads: &[u8],
+    b: u32,
+    n: u32,
+    e: u32,
+    path: &[u8],
+    key: Key,
+) -> bool
+    requires { ⌜ Walked (now rows) (now x) (now links) (now heads) 12 b n × (length (now path) ≤ 4096) ⌝ }
+    ensures { λ r. ⌜ r ≡ notBefore e (findPath (now (rows .entry)) (now (x .entry)) (now (links .entry)) (now (heads .entry)) b n (keyBytes (now (path .entry)) key)) ⌝ }
+{
+    let mut room = [0u8; KEY_BYTES];
+    let k = spell(&mut room, path, key);
+    reaches(rows, x, links, heads, b, n, e, &room[..k])
+}
+
+// Whether an alias, if it is there, finds entry e or a later one.
+fn alias_ok(
+    rows: &[u8],
+    x: &[u8],
+    links: &[u8],
+    heads: &[u8],
+    b: u32,
+    n: u32,
+    e: u32,
+    path: &[u8],
+    key: Key,
+) -> bool
+    requires { ⌜ Walked (now rows) (now x) (now links) (now heads) 12 b n × (length (now path) ≤ 4096) ⌝ }
+    ensures { λ r. ⌜ r ≡ reachOk (findPath (now (rows .entry)) (now (x .entry)) (now (links .entry)) (now (heads .entry)) b n) e (spelled (now (path .entry)) key) ⌝ }
+{
+    if is_absent(key) {
+        return true;
+    }
+    alias_reaches(rows, x, links, heads, b, n, e, path, key)
+}
+
+// Whether each key of group g finds its entry or a later one.
+fn keys_ok(rows: &[u8], x: &[u8], links: &[u8], heads: &[u8], b: u32, n: u32, g: u32) -> bool
+    requires { ⌜ Walked (now rows) (now x) (now links) (now heads) 12 b n × (g < n) ⌝ }
+    ensures { λ r. ⌜ r ≡ keysReach (now (rows .entry)) (now (x .entry)) (now (links .entry)) (now (heads .entry)) b n g ⌝ }
+{
+    let path = row_text(rows, x, g);
+    let e = 3 * g;
+    if !reaches(rows, x, links, heads, b, n, e, path) {
+        return false;
+    }
+    if !alias_ok(
+        rows,
+        x,
+        links,
+        heads,
+        b,
+        n,
+        e + 1,
+        path,
+        default_object_alias(path),
+    ) {
+        return false;
+    }
+    alias_ok(rows, x, links, heads, b, n, e + 2, path, core_alias(path))
+}
+
+fn each_keys_ok(rows: &[u8], x: &[u8], links: &[u8], heads: &[u8], b: u32, n: u32) -> bool
+    requires { ⌜ Walked (now rows) (now x) (now links) (now heads) 12 b n ⌝ }
+    ensures { λ r. ⌜ r ≡ allBelow (keysReach (now (rows .entry)) (now (x .entry)) (now (links .entry)) (now (heads .entry)) b n) n ⌝ }
+{
+    let mut g = 0;
+    while g < n {
+        if !keys_ok(rows, x, links, heads, b, n, g) {
+            return false;
+        }
+        g += 1;
+    }
+    true
+}
+
+// ---- the leaves of groups
+
+// Whether a claim is group g's, or nobody's.
+fn is_settled(g: u32, found: Claim) -> bool
+    ensures { λ r. ⌜ r ≡ isSettled g (claim found) ⌝ }
+{
+    if found == ABSENT {
+        return false;
+    }
+    if found == AMBIGUOUS {
+        return true;
+    }
+    found - 2 == g
+}
+
+// Whether the leaf of group g, if it has one, is claimed by it or by nobody.
+fn leaf_ok(rows: &[u8], x: &[u8], links: &[u8], heads: &[u8], b: u32, n: u32, g: u32) -> bool
+    requires { ⌜ Walked (now rows) (now x) (now links) (now heads) 4 b n × (g < n) ⌝ }
+    ensures { λ r. ⌜ r ≡ leafSettled (now (rows .entry)) (now (x .entry)) (now (links .entry)) (now (heads .entry)) b n g ⌝ }
+{
+    let path = row_text(rows, x, g);
+    match leaf_at(path) {
+        Leaf::At(i) => is_settled(g, leaf_claim(rows, x, links, heads, b, n, &path[i..]).claim),
+        Leaf::Absent => true,
+    }
+}
+
+fn each_leaf_ok(rows: &[u8], x: &[u8], links: &[u8], heads: &[u8], b: u32, n: u32) -> bool
+    requires { ⌜ Walked (now rows) (now x) (now links) (now heads) 4 b n ⌝ }
+    ensures { λ r. ⌜ r ≡ allBelow (leafSettled (now (rows .entry)) (now (x .entry)) (now (links .entry)) (now (heads .entry)) b n) n ⌝ }
+{
+    let mut g = 0;
+    while g < n {
+        if !leaf_ok(rows, x, links, heads, b, n, g) {
+            return false;
+        }
+        g += 1;
+    }
+    true
+}
+
+// ---- a memory
+
+// Whether the lengths of all texts add up to what the header says.
+fn sum_ok(m: &[u8]) -> bool
+    requires { ⌜ Laid (now m) ⌝ }
+    ensures { λ r. ⌜ r ≡ sumOk (storeOf (now (m .entry))) ⌝ }
+{
+    let g = length_sum(parts::guid_rows(m), parts::guids(m));
+    let r = length_sum(parts::group_rows(m), parts::groups(m));
+    let f = length_sum(parts::field_rows(m), parts::fields(m));
+    g + r + f == parts::held(m) as u64
+}
+
+// Whether each text lies in what is used, and is one.
+fn texts_ok(m: &[u8]) -> bool
+    requires { ⌜ Laid (now m) ⌝ }
+    ensures { λ r. ⌜ r ≡ textsOk (storeOf (now (m .entry))) ⌝ }
+{
+    let used = parts::used(m);
+    let x = parts::texts(m);
+    if !each_text_ok(used, x, parts::guid_rows(m), parts::guids(m)) {
+        return false;
+    }
+    if !each_text_ok(used, x, parts::group_rows(m), parts::groups(m)) {
+        return false;
+    }
+    each_text_ok(used, x, parts::field_rows(m), parts::fields(m))
+}
+
+fn guids_ok(m: &[u8]) -> bool
+    requires { ⌜ Laid (now m) ⌝ }
+    ensures { λ r. ⌜ r ≡ guidsOk (storeOf (now (m .entry))) ⌝ }
+{
+    let b = (4 * parts::guids_allowed(m) + 1) as u32;
+    each_guid_ok(
+        parts::guid_rows(m),
+        parts::guid_heads(m),
+        b,
+        parts::guids(m),
+    )
+}
+
+fn groups_ok(m: &[u8]) -> bool
+    requires { ⌜ Laid (now m) ⌝ }
+    ensures { λ r. ⌜ r ≡ groupsOk (storeOf (now (m .entry))) ⌝ }
+{
+    let b = (parts::groups_allowed(m) + 1) as u32;
+    each_group_ok(
+        parts::group_rows(m),
+        parts::group_heads(m),
+        b,
+        parts::groups(m),
+    )
+}
+
+fn fields_ok(m: &[u8]) -> bool
+    requires { ⌜ Laid (now m) ⌝ }
+    ensures { λ r. ⌜ r ≡ fieldsOk (storeOf (now (m .entry))) ⌝ }
+{
+    let b = (4 * parts::fields_allowed(m) + 1) as u32;
+    each_field_ok(
+        parts::group_rows(m),
+        parts::groups(m),
+        parts::field_rows(m),
+        parts::field_heads(m),
+        b,
+        parts::fields(m),
+    )
+}
+
+// Whether the keys of groups find them. The walks read texts of any group, so that all are tested before.
+fn paths_ok(m: &[u8]) -> bool
+    requires { ⌜ Laid (now m) × (groupTexts (storeOf (now m)) ≡ true) ⌝ }
+    ensures { λ r. ⌜ r ≡ pathsOk (storeOf (now (m .entry))) ⌝ }
+{
+    let b = (3 * parts::groups_allowed(m) + 1) as u32;
+    each_keys_ok(
+        parts::group_rows(m),
+        parts::texts(m),
+        parts::path_links(m),
+        parts::path_heads(m),
+        b,
+        parts::groups(m),
+    )
+}
+
+fn leaves_ok(m: &[u8]) -> bool
+    requires { ⌜ Laid (now m) × (groupTexts (storeOf (now m)) ≡ true) ⌝ }
+    ensures { λ r. ⌜ r ≡ leavesOk (storeOf (now (m .entry))) ⌝ }
+{
+    let b = (2 * parts::groups_allowed(m) + 1) as u32;
+    each_leaf_ok(
+        parts::group_rows(m),
+        parts::texts(m),
+        parts::leaf_links(m),
+        parts::leaf_heads(m),
+        b,
+        parts::groups(m),
+    )
+}
+
+// Whether the tables and the indexes are in order. The sum of the lengths comes first: after it the texts that are tested have no more
+// bytes than the memory has for texts, whatever its rows say.
+fn store_ok(m: &[u8]) -> bool
+    requires { ⌜ Laid (now m) ⌝ }
+    ensures { λ r. ⌜ r ≡ storeOk (storeOf (now (m .entry))) ⌝ }
+{
+    if !sum_ok(m) {
+        return false;
+    }
+    if !texts_ok(m) {
+        return false;
+    }
+    if !guids_ok(m) {
+        return false;
+    }
+    if !groups_ok(m) {
+        return false;
+    }
+    if !fields_ok(m) {
+        return false;
+    }
+    if !paths_ok(m) {
+        return false;
+    }
+    leaves_ok(m)
+}
+
+// Whether a lent memory holds a book.
+pub fn check(m: &[u8]) -> bool
+    ensures { λ r. ⌜ r ≡ check (now (m .entry)) ⌝ }
+{
+    if !laid_ok(m) {
+        return false;
+    }
+    store_ok(m)
+}
