@@ -9,9 +9,12 @@
 set -euo pipefail
 cd "$(dirname "$0")/../.."
 
-# Whether the log has an error in a file that is more than waiting for a declaration which was not admitted.
+# Whether a fact fails in a file: the log has an error there that is more than waiting for a declaration which was not admitted, and
+# none about a name that is not there. Such a name means that the proof is one of another program, and then it says nothing of this one.
 fails_in() { # LOG FILE, as an extended regular expression
-    grep -E "/$2:[0-9]+:[0-9]+: error: " "$1" | grep -v 'was not admitted' >/dev/null
+    local errors
+    errors=$(grep -E "/$2:[0-9]+:[0-9]+: error: " "$1" | grep -v 'was not admitted') || return 1
+    ! grep -qE 'can be named from here|is not in scope' <<<"$errors"
 }
 
 refuses() { # CRATE LOG PLACE
@@ -19,7 +22,7 @@ refuses() { # CRATE LOG PLACE
     */*) fails_in "$2" "${3//./\\.}" ;;
     *)
         local name=${3##*::} module=${3%"${3##*::}"}
-        grep -qE "^fn $1::$3: (not proved$|no proof: .* does not close )" "$2" || fails_in "$2" "proofs/${module//:://}[+]?$name/Proof\\.antt"
+        grep -qE "^fn $1::$3: no proof: .* does not close " "$2" || fails_in "$2" "proofs/${module//:://}[+]?$name/Proof\\.antt"
         ;;
     esac
 }
