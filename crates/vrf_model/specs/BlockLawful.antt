@@ -25,7 +25,7 @@ Texts t = Each IsText (t .literals)
 
 takeLiteral-kept : (n : ℕ) (a : Allowances) (c : Content) → Lawful a c → Kept a (takeLiteral n c)
 unfolding takeLiteral
-takeLiteral-kept n a c h = by-cond (Kept a) (ltb (c .allowed .literals) n) (λ _. kept-refuses 42 5 0) (λ _. kept-done tt _ h)
+takeLiteral-kept n a c h = by-cond (Kept a) (ltb (c .allowed .literals) n) (λ _. kept-refuses (Lawful a) 42 5 0) (λ _. kept-done (Lawful a) tt _ h)
 
 -- a path of either kind, and the table then
 pathOfKind-keeps : (entry : ℕ) (t : Table) → Texts t → (kind : ℕ) → Keeps (λ p. IsText (p .0) × Texts (p .1)) (pathOfKind entry t kind)
@@ -64,7 +64,7 @@ blockGuids-keeps (suc n) entry t texts = keeps-then one λ t′ texts′. blockG
 addFirst-kept : (path : List ℕ) (index slots : ℕ) → IsText path → Is32 index → slots ≤ 65536 → (a : Allowances) (c : Content) → Lawful a c → Kept a (addFirst path index slots c)
 unfolding addFirst
 addFirst-kept path index slots text small few a c h =
-    by-cond (Kept a) (isFound (indexPlace index (c .groups)) || isFound (pathPlace path (c .groups))) (λ _. kept-refuses 34 index 0)
+    by-cond (Kept a) (isFound (indexPlace index (c .groups)) || isFound (pathPlace path (c .groups))) (λ _. kept-refuses (Lawful a) 34 index 0)
     λ _. addGroup-kept path index slots text small few a c h
 
 blockSlot-keeps : (index slot : ℕ) → Keeps Any (blockSlot index slot)

@@ -1,23 +1,27 @@
--- Every call keeps a book lawful, with its allowances, and so does every list of calls; a refused call changes nothing, unless it is
--- a reader.
+-- Every call keeps a book lawful, with its allowances, and so does every list of calls; no call, whatever its numbers are, changes the
+-- allowances; a refused call changes nothing, unless it is a reader.
 use mathlib.Core.Path.{_≡_, refl}
 use mathlib.Core.List.{List}
+use mathlib.Core.Bool.{false, true}
+use mathlib.Core.Option.{Option, none, some}
 use Prim.Native.Nat.{ℕ}
 use native.Mathlib.Omega.{arith}
-use lib.Dec.{ltb}
+use lib.Dec.{eqb, ltb}
+use lib.ListN.{length}
 use borrow.Author.Tests.{ltb-false}
 use Rattle.vrf_bitio.specs.Reading.{Read, ok, refused}
 use Rattle.vrf_bitio.specs.Window.{window}
 use Rattle.vrf_text.specs.Cases.{by-cond}
 use Rattle.vrf_text.specs.Text.{IsText, CallerText, accepted, refusal, callerText}
 use Rattle.vrf_text.specs.TextLaws.{callerText-text}
-use Rattle.vrf_model.specs.Book.{Allowances, Content, Book, none-counted}
-use Rattle.vrf_model.specs.Setting.{Step, done, refuses}
+use Rattle.vrf_model.specs.Book.{Guid, Allowances, Content, Book, none-counted}
+use Rattle.vrf_model.specs.Lookup.{placeOr, pathPlace, indexPlace, guidPlace}
+use Rattle.vrf_model.specs.Setting.{Step, done, refuses, withGuids, withGroups, sameGuid, setGuidAt, setGuid, merge, addGroupAt, addGroup, setFieldAt, setField}
 use Rattle.vrf_model.specs.Intake.{Took, took, stopped, Intake}
 use Rattle.vrf_model.specs.Calls.{Window, Call, clear-book, add-export-group, set-field-on-group, set-net-guid-path, read-net-field-exports, read-export-guids, load-object, read-checkpoint-tables, get-group-by-index, get-group-by-path, get-path-by-guid, get-outer-guid, get-outer-path, get-gameplay-tag-name, get-field, unique-leaf-match, resolve-cnc-for-instance-name, find-class-net-cache-key, group-path, group-index, group-slots, field-name, guid-path}
 use Rattle.vrf_model.specs.Calls.{Answer, refusal-of, Result, only, ofStep, ofTook, overOpened, over, onText, addDirectly, run, runBook, play}
 use Rattle.vrf_model.specs.Lawful.{Each, nil, cons, Is32, Lawful, Sized}
-use Rattle.vrf_model.specs.SettingLawful.{Kept, kept-refuses, setGuid-kept, addGroup-kept, setField-kept, clear-kept}
+use Rattle.vrf_model.specs.SettingLawful.{Leaving, Kept, kept-done, kept-refuses, kept-keep, setGuid-kept, addGroup-kept, setField-kept, clear-kept}
 use Rattle.vrf_model.specs.ReadsLaws.{Any, Gives, window-gives}
 use Rattle.vrf_model.specs.IntakeLawful.{Leaves, Keeps}
 use Rattle.vrf_model.specs.RunsLawful.{fieldsRun-keeps, guidRun-keeps, objectAt-keeps}
@@ -28,22 +32,24 @@ use Rattle.vrf_model.specs.BlockLawful.{block-keeps}
 addDirectly-kept : (path : List ℕ) (index slots : ℕ) → IsText path → Is32 index → (a : Allowances) (c : Content) → Lawful a c → Kept a (addDirectly path index slots c)
 unfolding addDirectly
 addDirectly-kept path index slots text small a c h =
-    by-cond (Kept a) (ltb 65536 slots) (λ _. kept-refuses 22 slots 0)
+    by-cond (Kept a) (ltb 65536 slots) (λ _. kept-refuses (Lawful a) 22 slots 0)
     λ e. addGroup-kept path index slots text small (ltb-false 65536 slots e) a c h
 
-ofStep-lawful : {A : Type 0} (f : A → Answer) {a : Allowances} (c : Content) → Lawful a c → (s : Step A) → Kept a s → Lawful a (ofStep f c s .content)
-unfolding ofStep only
-ofStep-lawful f c h (done x c′ t) k = k x c′ t refl
-ofStep-lawful f c h (refuses n d b) k = h
+-- what holds of a book and of what a step leaves
+module _ (P : Content → Type 0) (c : Content) (h : P c) where
+  ofStep-leaves : {A : Type 0} (f : A → Answer) (s : Step A) → Leaving P s → P (ofStep f c s .content)
+  unfolding ofStep only
+  ofStep-leaves f (done x c′ t) k = k x c′ t refl
+  ofStep-leaves f (refuses n d b) k = h
 
--- a caller's text is refused, or one that may be held
-onText-lawful : (text : List ℕ) {a : Allowances} (c : Content) → Lawful a c → (r : Result) → (IsText text → Lawful a (r .content)) → Lawful a (onText c (callerText text) r .content)
-unfolding onText only
-onText-lawful text {a} c h r k = go (callerText text) refl
-  where
-    go : (x : CallerText) → callerText text ≡ x → Lawful a (onText c x r .content)
-    go accepted e = k (callerText-text text e)
-    go (refusal n d b) e = h
+  -- a caller's text is refused, or one that may be held
+  onText-leaves : (text : List ℕ) (r : Result) → (IsText text → P (r .content)) → P (onText c (callerText text) r .content)
+  unfolding onText only
+  onText-leaves text r k = go (callerText text) refl
+    where
+      go : (x : CallerText) → callerText text ≡ x → P (onText c x r .content)
+      go accepted e = k (callerText-text text e)
+      go (refusal n d b) e = h
 
 over-lawful : {A : Type 0} {P : A → Type 0} (w : Window) (f : A → ℕ → Answer) {r : Intake A} → Keeps P r → {a : Allowances} (c : Content) → Lawful a c → Lawful a (over w f r c .content)
 unfolding over overOpened ofTook only
@@ -59,24 +65,24 @@ over-lawful {A} {P} w f {r} k {a} c h = opened (window (w .bytes) (w .first) (w 
 
 pub run-lawful : (call : Call) → Sized call → {a : Allowances} (c : Content) → Lawful a c → Lawful a (run call c .content)
 unfolding run only
-run-lawful clear-book z c h = ofStep-lawful _ c h _ (clear-kept _ c h)
-run-lawful (add-export-group path index slots) z c h = onText-lawful path c h _ λ text. ofStep-lawful _ c h _ (addDirectly-kept path index slots text z _ c h)
-run-lawful (set-field-on-group index handle checksum name) z c h = onText-lawful name c h _ λ text. ofStep-lawful _ c h _ (setField-kept index handle checksum name z text _ c h)
-run-lawful (set-net-guid-path guid path outer) z c h = onText-lawful path c h _ λ text. ofStep-lawful _ c h _ (setGuid-kept (record { guid = guid; path = path; outer = outer }) (record { guid = z .0; outer = z .1; path = text }) _ c h)
+run-lawful clear-book z c h = ofStep-leaves (Lawful _) c h _ _ (clear-kept _ c h)
+run-lawful (add-export-group path index slots) z c h = onText-leaves (Lawful _) c h path _ λ text. ofStep-leaves (Lawful _) c h _ _ (addDirectly-kept path index slots text z _ c h)
+run-lawful (set-field-on-group index handle checksum name) z c h = onText-leaves (Lawful _) c h name _ λ text. ofStep-leaves (Lawful _) c h _ _ (setField-kept index handle checksum name z text _ c h)
+run-lawful (set-net-guid-path guid path outer) z c h = onText-leaves (Lawful _) c h path _ λ text. ofStep-leaves (Lawful _) c h _ _ (setGuid-kept (record { guid = guid; path = path; outer = outer }) (record { guid = z .0; outer = z .1; path = text }) _ c h)
 run-lawful (read-net-field-exports w) z c h = over-lawful w _ fieldsRun-keeps c h
 run-lawful (read-export-guids w) z c h = over-lawful w _ guidRun-keeps c h
 run-lawful (load-object w exporting depth) z c h = over-lawful w _ (objectAt-keeps exporting depth) c h
 run-lawful (read-checkpoint-tables w) z c h = over-lawful w _ block-keeps c h
 run-lawful (get-group-by-index index) z c h = h
-run-lawful (get-group-by-path path) z c h = onText-lawful path c h _ λ _. h
+run-lawful (get-group-by-path path) z c h = onText-leaves (Lawful _) c h path _ λ _. h
 run-lawful (get-path-by-guid guid) z c h = h
 run-lawful (get-outer-guid guid) z c h = h
 run-lawful (get-outer-path guid) z c h = h
 run-lawful (get-gameplay-tag-name tag) z c h = h
 run-lawful (get-field place slot) z c h = h
-run-lawful (unique-leaf-match name) z c h = onText-lawful name c h _ λ _. h
-run-lawful (resolve-cnc-for-instance-name name) z c h = onText-lawful name c h _ λ _. h
-run-lawful (find-class-net-cache-key path) z c h = onText-lawful path c h _ λ _. h
+run-lawful (unique-leaf-match name) z c h = onText-leaves (Lawful _) c h name _ λ _. h
+run-lawful (resolve-cnc-for-instance-name name) z c h = onText-leaves (Lawful _) c h name _ λ _. h
+run-lawful (find-class-net-cache-key path) z c h = onText-leaves (Lawful _) c h path _ λ _. h
 run-lawful (group-path place) z c h = h
 run-lawful (group-index place) z c h = h
 run-lawful (group-slots place) z c h = h
@@ -87,6 +93,69 @@ pub play-lawful : {calls : List Call} → Each Sized calls → {a : Allowances} 
 unfolding play runBook
 play-lawful nil b h = h
 play-lawful (cons {a = call} z zs) b h = play-lawful zs (runBook call b) (run-lawful call z (b .content) h)
+
+-- ---- the allowances stay, whatever the width of a call's numbers
+
+abbrev Allows : Allowances → Content → Type 0
+Allows a c = c .allowed ≡ a
+
+module _ {a : Allowances} (c : Content) (h : c .allowed ≡ a) where
+  setGuid-allows : (r : Guid) → Leaving (Allows a) (setGuid r c)
+  unfolding setGuid setGuidAt withGuids
+  setGuid-allows r = go (guidPlace (r .guid) (c .guids))
+    where
+      go : (o : Option ℕ) → Leaving (Allows a) (setGuidAt r c o)
+      go none = kept-keep (Allows a) tt _ _ (λ _. h)
+      go (some i) = by-cond (Leaving (Allows a)) (placeOr (sameGuid r) false (c .guids) i) (λ _. kept-done (Allows a) tt _ h) (λ _. kept-keep (Allows a) tt _ _ (λ _. h))
+
+  setField-allows : (index handle checksum : ℕ) (name : List ℕ) → Leaving (Allows a) (setField index handle checksum name c)
+  unfolding setField setFieldAt withGroups
+  setField-allows index handle checksum name = go (indexPlace index (c .groups))
+    where
+      go : (o : Option ℕ) → Leaving (Allows a) (setFieldAt handle checksum name c o)
+      go none = kept-done (Allows a) false _ h
+      go (some i) =
+          by-cond (Leaving (Allows a)) (ltb handle (placeOr (λ g. length (g .slots)) 0 (c .groups) i))
+          (λ _. kept-keep (Allows a) true _ _ (λ _. h))
+          (λ _. kept-done (Allows a) false _ h)
+
+  addDirectly-allows : (path : List ℕ) (index slots : ℕ) → Leaving (Allows a) (addDirectly path index slots c)
+  unfolding addDirectly addGroup addGroupAt merge withGroups
+  addDirectly-allows path index slots =
+      by-cond (Leaving (Allows a)) (ltb 65536 slots) (λ _. kept-refuses (Allows a) 22 slots 0)
+      λ _. go (pathPlace path (c .groups)) (indexPlace index (c .groups))
+    where
+      go : (o q : Option ℕ) → Leaving (Allows a) (addGroupAt path index slots c o q)
+      go none none = kept-keep (Allows a) _ _ _ (λ _. h)
+      go none (some j) = kept-keep (Allows a) _ _ _ (λ _. h)
+      go (some i) none = kept-keep (Allows a) _ _ _ (λ _. h)
+      go (some i) (some j) = by-cond (Leaving (Allows a)) (eqb i j) (λ _. kept-keep (Allows a) _ _ _ (λ _. h)) (λ _. kept-refuses (Allows a) 23 index 0)
+
+pub run-allowed : (call : Call) {a : Allowances} (c : Content) → Lawful a c → run call c .content .allowed ≡ a
+unfolding run only
+run-allowed (add-export-group path index slots) {a} c h = let e = h .allowed in onText-leaves (Allows a) c e path _ λ _. ofStep-leaves (Allows a) c e _ _ (addDirectly-allows c e path index slots)
+run-allowed (set-field-on-group index handle checksum name) {a} c h = let e = h .allowed in onText-leaves (Allows a) c e name _ λ _. ofStep-leaves (Allows a) c e _ _ (setField-allows c e index handle checksum name)
+run-allowed (set-net-guid-path guid path outer) {a} c h = let e = h .allowed in onText-leaves (Allows a) c e path _ λ _. ofStep-leaves (Allows a) c e _ _ (setGuid-allows c e _)
+run-allowed clear-book c h = run-lawful clear-book tt c h .allowed
+run-allowed (read-net-field-exports w) c h = run-lawful (read-net-field-exports w) tt c h .allowed
+run-allowed (read-export-guids w) c h = run-lawful (read-export-guids w) tt c h .allowed
+run-allowed (load-object w exporting depth) c h = run-lawful (load-object w exporting depth) tt c h .allowed
+run-allowed (read-checkpoint-tables w) c h = run-lawful (read-checkpoint-tables w) tt c h .allowed
+run-allowed (get-group-by-index index) c h = run-lawful (get-group-by-index index) tt c h .allowed
+run-allowed (get-group-by-path path) c h = run-lawful (get-group-by-path path) tt c h .allowed
+run-allowed (get-path-by-guid guid) c h = run-lawful (get-path-by-guid guid) tt c h .allowed
+run-allowed (get-outer-guid guid) c h = run-lawful (get-outer-guid guid) tt c h .allowed
+run-allowed (get-outer-path guid) c h = run-lawful (get-outer-path guid) tt c h .allowed
+run-allowed (get-gameplay-tag-name tag) c h = run-lawful (get-gameplay-tag-name tag) tt c h .allowed
+run-allowed (get-field place slot) c h = run-lawful (get-field place slot) tt c h .allowed
+run-allowed (unique-leaf-match name) c h = run-lawful (unique-leaf-match name) tt c h .allowed
+run-allowed (resolve-cnc-for-instance-name name) c h = run-lawful (resolve-cnc-for-instance-name name) tt c h .allowed
+run-allowed (find-class-net-cache-key path) c h = run-lawful (find-class-net-cache-key path) tt c h .allowed
+run-allowed (group-path place) c h = run-lawful (group-path place) tt c h .allowed
+run-allowed (group-index place) c h = run-lawful (group-index place) tt c h .allowed
+run-allowed (group-slots place) c h = run-lawful (group-slots place) tt c h .allowed
+run-allowed (field-name place slot) c h = run-lawful (field-name place slot) tt c h .allowed
+run-allowed (guid-path place) c h = run-lawful (guid-path place) tt c h .allowed
 
 -- ---- a refused call changes nothing, unless it is a reader
 

@@ -23,8 +23,8 @@ use Rattle.vrf_model.specs.IntakeLawful.{Leaves, Keeps, keeps-return, ke
 
 known-kept : (index : ℕ) (a : Allowances) (c : Content) → Lawful a c → (o : Option ℕ) → Kept a (known index c o)
 unfolding known
-known-kept index a c h none = kept-refuses 20 index 0
-known-kept index a c h (some i) = kept-done tt _ h
+known-kept index a c h none = kept-refuses (Lawful a) 20 index 0
+known-kept index a c h (some i) = kept-done (Lawful a) tt _ h
 
 declaredGroup-keeps : (index : ℕ) → Is32 index → Keeps Any (declaredGroup index)
 unfolding declaredGroup

@@ -87,7 +87,7 @@ module _ {a : Allowances} (early : Book) (law : Lawful a (early .content)) (lite
         together = λ further. lockstep further early (lateSeat a early) (sym lists) (stepped-fit _ _);
       }
 
-  seats : (room : ℕ) → Demand-3 a early room
+  pub seats : (room : ℕ) → Demand-3 a early room
   unfolding joining
   seats room = record {
     lawful = law;

@@ -44,19 +44,23 @@ keep-done x c t {x′} {c′} {t′} e = go (passed c) refl e
     go none q e = (cc, passed-within c q)
     go (some which) q e = absurd (let z : _≡_ {A = ℕ} 0 1 = cc in omega arith)
 
--- a step that is refused, or leaves a lawful book with the allowances a
+-- a step that is refused, or leaves a book of which P holds
+abbrev pub Leaving : (Content → Type 0) → {A : Type 0} → Step A → Type 0
+Leaving P {A} s = (x : A) (c : Content) (t : Tally) → s ≡ done x c t → P c
+
+-- a lawful one with the allowances a
 abbrev pub Kept : Allowances → {A : Type 0} → Step A → Type 0
-Kept a {A} s = (x : A) (c : Content) (t : Tally) → s ≡ done x c t → Lawful a c
+Kept a {A} s = Leaving (Lawful a) s
 
-module _ {a : Allowances} {A : Type 0} where
-  pub kept-done : (x : A) {c : Content} (t : Tally) → Lawful a c → Kept a (done x c t)
-  kept-done x {c} t h x′ c′ t′ e = let q : c ≡ c′ = cc in subst (Lawful a) q h
+module _ (P : Content → Type 0) {A : Type 0} where
+  pub kept-done : (x : A) {c : Content} (t : Tally) → P c → Leaving P (done x c t)
+  kept-done x {c} t h x′ c′ t′ e = let q : c ≡ c′ = cc in subst P q h
 
-  pub kept-refuses : (n d b : ℕ) → Kept a {A = A} (refuses n d b)
+  pub kept-refuses : (n d b : ℕ) → Leaving P {A = A} (refuses n d b)
   kept-refuses n d b x c t e = absurd (let z : _≡_ {A = ℕ} 0 1 = cc in omega arith)
 
-  kept-keep : (x : A) (c : Content) (t : Tally) → (Within c → Lawful a c) → Kept a (keep x c t)
-  kept-keep x c t h x′ c′ t′ e = let k = keep-done x c t e in subst (Lawful a) (k .0) (h (k .1))
+  pub kept-keep : (x : A) (c : Content) (t : Tally) → (Within c → P c) → Leaving P (keep x c t)
+  kept-keep x c t h x′ c′ t′ e = let k = keep-done x c t e in subst P (k .0) (h (k .1))
 
 -- other records or groups in a lawful book
 module _ {a : Allowances} (c : Content) (h : Lawful a c) where
@@ -75,10 +79,10 @@ unfolding setGuid setGuidAt guidPlace
 setGuid-kept r good a c h = go (guidPlace (r .guid) (c .guids)) refl
   where
     go : (o : Option ℕ) → guidPlace (r .guid) (c .guids) ≡ o → Kept a (setGuidAt r c o)
-    go none e = kept-keep tt _ _ (guids-lawful c h _ (each-append (h .guids) (cons good nil)) (distinct-append _ r (h .guids-distinct) (lastPlace-none _ _ e)))
+    go none e = kept-keep (Lawful a) tt _ _ (guids-lawful c h _ (each-append (h .guids) (cons good nil)) (distinct-append _ r (h .guids-distinct) (lastPlace-none _ _ e)))
     go (some i) e =
-        by-cond (Kept a) (placeOr (sameGuid r) false (c .guids) i) (λ _. kept-done tt _ h)
-        λ _. kept-keep tt _ _ (guids-lawful c h _ (each-set (h .guids) good i) (distinct-set-found _ (c .guids) r e (h .guids-distinct)))
+        by-cond (Kept a) (placeOr (sameGuid r) false (c .guids) i) (λ _. kept-done (Lawful a) tt _ h)
+        λ _. kept-keep (Lawful a) tt _ _ (guids-lawful c h _ (each-set (h .guids) good i) (distinct-set-found _ (c .guids) r e (h .guids-distinct)))
 
 -- ---- add_export_group
 
@@ -103,20 +107,20 @@ module _ (path : List ℕ) (index slots : ℕ) (text : IsText path) (small : Is3
     merge-kept i e d =
         let m : i < length (c .groups) = lastPlace-some _ (c .groups) e .below in
         rw (placeOr-at (mergedGroup path index slots) (newGroup path index slots) (c .groups) i noGroup m)
-        (kept-keep i _ _ (groups-lawful c h _ (each-set (h .groups) (mergedGroup-good _ (each-at (h .groups) i noGroup m)) i) d))
+        (kept-keep (Lawful a) i _ _ (groups-lawful c h _ (each-set (h .groups) (mergedGroup-good _ (each-at (h .groups) i noGroup m)) i) d))
 
     pub addGroup-kept : Kept a (addGroup path index slots c)
     unfolding addGroup addGroupAt indexPlace newGroup mergedGroup
     addGroup-kept = go (pathPlace path (c .groups)) (indexPlace index (c .groups)) refl refl
       where
         go : (o q : Option ℕ) → pathPlace path (c .groups) ≡ o → indexPlace index (c .groups) ≡ q → Kept a (addGroupAt path index slots c o q)
-        go none none e f = kept-keep _ _ _ (groups-lawful c h _ (each-append (h .groups) (cons newGroup-good nil)) (distinct-append _ _ (h .indices-distinct) (lastPlace-none _ _ f)))
-        go none (some j) e f = kept-keep _ _ _ (groups-lawful c h _ (each-set (h .groups) newGroup-good j) (distinct-set-found _ (c .groups) _ f (h .indices-distinct)))
+        go none none e f = kept-keep (Lawful a) _ _ _ (groups-lawful c h _ (each-append (h .groups) (cons newGroup-good nil)) (distinct-append _ _ (h .indices-distinct) (lastPlace-none _ _ f)))
+        go none (some j) e f = kept-keep (Lawful a) _ _ _ (groups-lawful c h _ (each-set (h .groups) newGroup-good j) (distinct-set-found _ (c .groups) _ f (h .indices-distinct)))
         go (some i) none e f = merge-kept i e (distinct-set-new _ i _ (h .indices-distinct) (lastPlace-none _ _ f))
         go (some i) (some j) e f =
             by-cond (Kept a) (eqb i j)
             (λ t. let same : i ≡ j = eqb-true i j t in merge-kept i e (rw same (distinct-set-found _ (c .groups) _ f (h .indices-distinct))))
-            λ _. kept-refuses 23 index 0
+            λ _. kept-refuses (Lawful a) 23 index 0
 
 -- ---- set_field_on_group
 
@@ -135,17 +139,17 @@ module _ (index handle checksum : ℕ) (name : List ℕ) (small : Is32 checksum)
   setField-kept a c h = go (indexPlace index (c .groups)) refl
     where
       go : (o : Option ℕ) → indexPlace index (c .groups) ≡ o → Kept a (setFieldAt handle checksum name c o)
-      go none e = kept-done false _ h
+      go none e = kept-done (Lawful a) false _ h
       go (some i) e =
           let m : i < length (c .groups) = lastPlace-some _ (c .groups) e .below in
           let groups = each-set (h .groups) (withSlot-good _ (each-at (h .groups) i noGroup m)) i in
           let indices = distinct-set-same _ (c .groups) i _ noGroup m refl (h .indices-distinct) in
           by-cond (Kept a) (ltb handle (placeOr (λ g. length (g .slots)) 0 (c .groups) i))
-          (λ _. rw (placeOr-at (withSlot handle (filled checksum name)) noGroup (c .groups) i noGroup m) (kept-keep true _ _ (groups-lawful c h _ groups indices)))
-          λ _. kept-done false _ h
+          (λ _. rw (placeOr-at (withSlot handle (filled checksum name)) noGroup (c .groups) i noGroup m) (kept-keep (Lawful a) true _ _ (groups-lawful c h _ groups indices)))
+          λ _. kept-done (Lawful a) false _ h
 
 -- ---- clear
 
 pub clear-kept : (a : Allowances) (c : Content) → Lawful a c → Kept a (clear c)
 unfolding clear
-clear-kept a c h = kept-done tt _ (rw (h .allowed) (fresh-lawful (h .tops)))
+clear-kept a c h = kept-done (Lawful a) tt _ (rw (h .allowed) (fresh-lawful (h .tops)))

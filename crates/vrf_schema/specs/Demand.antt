@@ -10,7 +10,8 @@ use lib.Seq.{take-append-seam}
 use Rattle.vrf_bitio.specs.PastedLaws.{pasted-front}
 use Rattle.vrf_model.specs.Book.{Allowances, Content, Book, fresh, freshBook}
 use Rattle.vrf_model.specs.Calls.{Call, Answer, counted, whole, read-checkpoint-tables, run, runBook, play, answers}
-use Rattle.vrf_model.specs.Lawful.{Each, nil, cons, Allowed, Sized}
+use Rattle.vrf_model.specs.Lawful.{Lawful}
+use Rattle.vrf_model.specs.CallsLawful.{run-allowed}
 use Rattle.vrf_model.specs.Writer.{encodeBook, write}
 use Rattle.vrf_model.specs.Answers.{wroteOf}
 use Rattle.vrf_model.specs.declared.Wrote.{Wrote}
@@ -23,6 +24,7 @@ use Rattle.vrf_model.specs.Seats
 use Rattle.vrf_model.specs.declared.Acted.the-variants.{Done}
 use Rattle.vrf_store.specs.Store.{contentOf, bookOf}
 use Rattle.vrf_store.specs.Good.{check-good}
+use Rattle.vrf_store.specs.Accepted.{valid-lawful}
 use Rattle.vrf_store.specs.Check.{check}
 use Rattle.vrf_schema.specs.Begun.{Begun}
 use Rattle.vrf_schema.specs.Called.{Called}
@@ -30,11 +32,11 @@ use Rattle.vrf_schema.specs.Writes.{Writes}
 
 -- ---- lists of calls
 
--- a chain of the exported functions' contracts: each call gets the memory as the one before left it, refused or not, and nobody else
--- writes it meanwhile. Its numbers have the width of the function's arguments.
+-- a chain of the exported functions' contracts, and nothing else: each call gets the memory as the one before left it, refused or not,
+-- and nobody else writes it meanwhile
 pub data Played : List Call → List ℕ → List Answer → List ℕ → Type 0 where
   nothing : {m : List ℕ} → Played [] m [] m
-  next : {k : Call} {ks : List Call} {m m₁ m′ : List ℕ} {r : Answer} {rs : List Answer} → Sized k → Called k m m₁ r → Played ks m₁ rs m′ → Played (k ∷ ks) m (r ∷ rs) m′
+  next : {k : Call} {ks : List Call} {m m₁ m′ : List ℕ} {r : Answer} {rs : List Answer} → Called k m m₁ r → Played ks m₁ rs m′ → Played (k ∷ ks) m (r ∷ rs) m′
 
 -- ---- the claim
 
@@ -88,35 +90,37 @@ pub record Left (calls : List Call) (m : List ℕ) (rs : List Answer) (m′ : Li
   pub accepted : check m′ ≡ true
   pub book : bookOf m′ ≡ play calls (bookOf m)
   pub answers : rs ≡ answers calls (bookOf m)
-  pub sized : Each Sized calls
+  pub allowed : bookOf m′ .content .allowed ≡ bookOf m .content .allowed
+
+-- a memory that passes its check holds a lawful book
+lawful : (m : List ℕ) → check m ≡ true → Lawful (bookOf m .content .allowed) (bookOf m .content)
+unfolding bookOf contentOf
+lawful m good = valid-lawful (check-good m good .valid)
 
 left : {calls : List Call} {m m′ : List ℕ} {rs : List Answer} → check m ≡ true → Played calls m rs m′ → Left calls m rs m′
-unfolding play answers
-left good nothing = record { accepted = good; book = refl; answers = refl; sized = nil }
-left {m = m} good (next {k = k} {ks = ks} z c p) =
+unfolding play answers runBook
+left good nothing = record { accepted = good; book = refl; answers = refl; allowed = refl }
+left {m = m} good (next {k = k} {ks = ks} c p) =
     let one = c .ran good in
     let all = left (one .accepted) p in
     record {
       accepted = all .accepted;
       book = all .book ∙ ap (play ks) (one .book);
       answers = cc (one .answer, all .answers, one .book);
-      sized = cons z (all .sized);
+      allowed = all .allowed ∙ ap (λ (b : Book). b .content .allowed) (one .book) ∙ run-allowed k (bookOf m .content) (lawful m good);
     }
 
 off-list : {m : List ℕ} → check m ≡ true → OffList m
 off-list {m} good = record { answered = λ k called c groups. called .ran good .answer ∙ lookups-off-lists k (bookOf m .content) c (sym groups) }
 
--- what is opened has allowances that may be
-opened-allowed : (a : Allowances) (m : List ℕ) → check m ≡ true → bookOf m ≡ freshBook a → Allowed a
-unfolding bookOf freshBook fresh contentOf
-opened-allowed a m good e = subst Allowed (ap (λ (b : Book). b .content .allowed) e) (check-good m good .valid .header .tops)
+-- what calls on an opened book leave is lawful, with the allowances it was opened with
+early-lawful : {a : Allowances} {calls : List Call} {m₀ m : List ℕ} {rs : List Answer} → bookOf m₀ ≡ freshBook a → Left calls m₀ rs m → Lawful a (bookOf m .content)
+unfolding freshBook fresh
+early-lawful {a} {m = m} opened l = subst (λ (x : Allowances). Lawful x (bookOf m .content)) (l .allowed ∙ ap (λ (b : Book). b .content .allowed) opened) (lawful m (l .accepted))
 
 -- ---- the late seat
 
-module _ (a : Allowances) (m : List ℕ) (good : check m ≡ true) {calls : List Call} (sized : Each Sized calls) (tops : Allowed a) (literals : a .guids ≤ a .literals) (e : bookOf m ≡ play calls (freshBook a)) where
-  seats : (room : ℕ) → Seats.Demand-3 a (bookOf m) room
-  seats room = subst (λ (b : Book). Seats.Demand-3 a b room) (sym e) (Seats.demand-3 a tops literals calls sized room)
-
+module _ (a : Allowances) (m : List ℕ) (good : check m ≡ true) (law : Lawful a (bookOf m .content)) (literals : a .guids ≤ a .literals) where
   module _ {before after : List ℕ} {n : ℕ} (w : Writes m before after (Length n)) where
     -- the block stands at the front of the buffer
     block : take n after ≡ encodeBook (bookOf m .content)
@@ -126,7 +130,7 @@ module _ (a : Allowances) (m : List ℕ) (good : check m ≡ true) {calls : List
         rw (h .bytes, pasted-front before (encodeBook (bookOf m .content)), long) (take-append-seam (encodeBook (bookOf m .content)) _)
 
     model : Joins a (bookOf m)
-    model = seats (length before) .joins n (sym (w .wrote good .answer))
+    model = Seats.seats (bookOf m) law literals (length before) .joins n (sym (w .wrote good .answer))
 
     joined : {late₀ late : List ℕ} {r : Answer} → check late₀ ≡ true → bookOf late₀ ≡ freshBook a → Called (read-checkpoint-tables (whole (take n after))) late₀ late r → Joined m late r
     unfolding joining lateSeat freshBook
@@ -156,11 +160,10 @@ pub demand-3 : (a : Allowances) → a .guids ≤ a .literals → {lent m₀ m : 
 demand-3 a literals {m₀ = m₀} {m} opened calls {rs} played =
     let l = left (opened .accepted) played in
     let e : bookOf m ≡ play calls (freshBook a) = l .book ∙ ap (play calls) (opened .book) in
-    let tops = opened-allowed a m₀ (opened .accepted) (opened .book) in
     record {
       book = e;
       answered = l .answers ∙ ap (answers calls) (opened .book);
       writing = λ w. (w .wrote (l .accepted) .answer, writing _ _);
-      joins = λ w opened′ called. joined a m (l .accepted) (l .sized) tops literals e w (opened′ .accepted) (opened′ .book) called;
+      joins = λ w opened′ called. joined a m (l .accepted) (early-lawful (opened .book) l) literals w (opened′ .accepted) (opened′ .book) called;
       lookups = off-list (l .accepted);
     }
