@@ -5,9 +5,10 @@
 #   refuses: FUNCTION      the function is not proved by itself, not for want of another that it calls
 #   refuses: specs/FILE    a law of that file does not hold by itself (a file of proofs/ likewise)
 #
-# The last line is still 'N passed, M failed'; an edit that is refused, but not so, has failed.
+# The last line is still 'N passed, M failed'; an edit that is refused, but not so, has failed. With a folder as its argument it looks for
+# edits and logs there: so `selftest.sh` tries it.
 set -euo pipefail
-cd "$(dirname "$0")/../.."
+cd "${1:-$(dirname "$0")/../..}"
 
 # Whether a fact fails in a file: the log has an error there that is more than waiting for a declaration which was not admitted, and
 # none about a name that is not there. Such a name means that the proof is one of another program, and then it says nothing of this one.

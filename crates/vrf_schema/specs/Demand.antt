@@ -82,6 +82,7 @@ pub record Seated (a : Allowances) (calls : List Call) (rs : List Answer) (m : L
   pub joins : {before after : List ℕ} {n : ℕ} → Writes m before after (Length n)
       → {lent late₀ late : List ℕ} {r : Answer} → Begun a lent late₀ Done → Called (read-checkpoint-tables (whole (take n after))) late₀ late r
       → Joined m late r
+  -- lookups of groups here; at both seats after further calls in `Together`
   pub lookups : OffList m
 
 -- ---- what a list of calls leaves
