@@ -1,6 +1,5 @@
--- No wrong program passes: what a contract of the door is met with is determined. Of two programs that keep one, both answer the same
--- and leave the same book, the same buffer and, where they are refused with 2, the same bytes; so whatever answers otherwise, on any
--- memory, breaks it.
+-- No wrong program passes: what a contract of the door is met with is determined. Of two programs that keep one, both give the same answer
+-- and leave the same book or buffer; so whatever answers or leaves something else, on any memory, breaks it.
 use mathlib.Core.Path.{_≡_, refl, sym, ap, _∙_}
 use mathlib.Core.Bool.{Bool, true, false}
 use mathlib.Core.List.{List}
