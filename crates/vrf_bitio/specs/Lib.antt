@@ -1,4 +1,5 @@
 -- Document 01, section Bits, as definitions. Read them in this order.
+pub mod Ascii
 pub mod Bits
 pub mod Reading
 pub mod Window

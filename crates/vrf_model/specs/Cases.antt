@@ -6,6 +6,7 @@ use mathlib.Core.Option.{none, some}
 use Prim.Native.Nat.{ℕ, suc, _-_, _*_, _^_}
 use Prim.Native.String.{String}
 use lib.ListN.{length, replicate}
+use Rattle.vrf_bitio.specs.Ascii.{ascii}
 use Rattle.vrf_bitio.specs.Reading.{ok, refused}
 use Rattle.vrf_model.specs.Book.{Book, freshBook}
 use Rattle.vrf_model.specs.Names.{limited}
@@ -13,7 +14,7 @@ use Rattle.vrf_model.specs.Writer.{encodeBook, written, notWritten, writ
 use Rattle.vrf_model.specs.Calls.{Call, clear-book, add-export-group, set-field-on-group, set-net-guid-path, read-net-field-exports, read-export-guids, load-object, read-checkpoint-tables, get-group-by-index, get-group-by-path, get-path-by-guid, get-outer-guid, get-outer-path, get-gameplay-tag-name, get-field, unique-leaf-match, resolve-cnc-for-instance-name, find-class-net-cache-key, group-path, group-slots, field-name, guid-path}
 use Rattle.vrf_model.specs.Calls.{whole, Answer, refusal-of, acted, field-placed, at-place, found, ran, counted, number, text, runBook, play}
 use Rattle.vrf_model.specs.Computing.{computing}
-use Rattle.vrf_model.specs.Examples.{ascii, _⇒_, calls, Answered, opened, after}
+use Rattle.vrf_model.specs.Examples.{_⇒_, calls, Answered, opened, after}
 
 -- ---- the book calls
 

@@ -3,10 +3,9 @@ use mathlib.Core.Path.{_≡_, refl}
 use mathlib.Core.Bool.{Bool}
 use mathlib.Core.List.{List, [], _∷_, map}
 use mathlib.Core.Option.{some}
-use Prim.Native.Char.{code}
 use Prim.Native.Nat.{ℕ}
-use Prim.Native.String.{String, [] as ended, _∷_ as _before_}
 use lib.IntN.{ℤ}
+use Rattle.vrf_bitio.specs.Ascii.{ascii}
 use Rattle.vrf_bitio.specs.Examples.{Packed-examples, packed-examples}
 use Rattle.vrf_path.specs.Keys.{defaultPrefix, keys}
 use Rattle.vrf_names.specs.Names.{rendered}
@@ -19,11 +18,6 @@ use Rattle.vrf_model.specs.Runs.{objectOver, objectAt}
 use Rattle.vrf_model.specs.Writer.{encodeBook, written, notWritten, write}
 use Rattle.vrf_model.specs.Calls.{Call, add-export-group, set-net-guid-path, get-group-by-path, group-path, Answer, acted, at-place, found, text, addDirectly, play, answers}
 use Rattle.vrf_model.specs.Computing.{computing}
-
--- the bytes of a text of ASCII characters
-unfoldable pub ascii : String → List ℕ
-ascii ended = []
-ascii (c before s) = code c ∷ ascii s
 
 -- a call and what it answers, and a list of calls that answers so on a book
 infix 70 _⇒_

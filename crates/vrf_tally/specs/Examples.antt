@@ -5,7 +5,7 @@ use mathlib.Core.List.{List, [], _∷_}
 use Prim.Native.Nat.{ℕ}
 use lib.ListN.{length, replicate}
 use Rattle.vrf_model.specs.Computing.{computing}
-use Rattle.vrf_model.specs.Examples.{ascii}
+use Rattle.vrf_bitio.specs.Ascii.{ascii}
 use Rattle.vrf_tally.specs.Tally.{line, lines, countLines, refusalLines, answerLines, allowances, answered, tally}
 
 pub record Tally-examples : Type 0 where

@@ -9,7 +9,7 @@ use Rattle.vrf_bitio.specs.Pasted.{pasted}
 use Rattle.vrf_bitio.specs.PastedLaws.{pasted-nil, pasted-cons, pasted-append, pasted-length}
 use Rattle.vrf_names.specs.Names.{decimal}
 use Rattle.vrf_model.specs.Block.{Counts}
-use Rattle.vrf_model.specs.Examples.{ascii}
+use Rattle.vrf_bitio.specs.Ascii.{ascii}
 use Rattle.vrf_tally.specs.Tally.{line, lines, countLines, refusalLines}
 
 -- the text stands in the buffer from a place on, all else is as it was, and r is the place behind it

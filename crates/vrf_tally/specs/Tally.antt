@@ -9,7 +9,7 @@ use Rattle.vrf_names.specs.Names.{decimal}
 use Rattle.vrf_model.specs.Book.{Allowances, fresh}
 use Rattle.vrf_model.specs.Block.{Counts}
 use Rattle.vrf_model.specs.Calls.{Answer, refusal-of, acted, field-placed, at-place, found, ran, counted, number, text, whole, read-checkpoint-tables, run}
-use Rattle.vrf_model.specs.Examples.{ascii}
+use Rattle.vrf_bitio.specs.Ascii.{ascii}
 
 -- a line: a name, `=`, a number in decimal, and a line end
 unfoldable pub line : List ℕ → ℕ → List ℕ

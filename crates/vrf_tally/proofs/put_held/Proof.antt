@@ -2,7 +2,7 @@
 use borrow.Author.Needs.{needs}
 use native.Mathlib.Omega.{arith}
 use Rattle.vrf_model.specs.Answers.{countsOf}
-use Rattle.vrf_model.specs.Examples.{ascii}
+use Rattle.vrf_bitio.specs.Ascii.{ascii}
 use Rattle.vrf_tally.specs.Put.{held-put}
 use Rattle.vrf_tally.proofs.put_held.Statement.{statement}
 use Rattle.vrf_tally.proofs.put_held.Tie as tie

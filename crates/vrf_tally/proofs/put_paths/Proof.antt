@@ -1,7 +1,7 @@
 -- `vrf_tally::put_paths` meets its contract.
 use borrow.Author.Needs.{needs}
 use Rattle.vrf_model.specs.Answers.{countsOf}
-use Rattle.vrf_model.specs.Examples.{ascii}
+use Rattle.vrf_bitio.specs.Ascii.{ascii}
 use Rattle.vrf_tally.specs.Put.{paths-put}
 use Rattle.vrf_tally.proofs.put_paths.Statement.{statement}
 use Rattle.vrf_tally.proofs.put_paths.Tie as tie

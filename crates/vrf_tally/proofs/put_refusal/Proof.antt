@@ -1,6 +1,6 @@
 -- `vrf_tally::put_refusal` meets its contract.
 use borrow.Author.Needs.{needs}
-use Rattle.vrf_model.specs.Examples.{ascii}
+use Rattle.vrf_bitio.specs.Ascii.{ascii}
 use Rattle.vrf_tally.specs.Put.{refusal-put}
 use Rattle.vrf_tally.proofs.put_refusal.Statement.{statement}
 use Rattle.vrf_tally.proofs.put_refusal.Tie as tie
