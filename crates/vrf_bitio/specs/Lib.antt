@@ -11,5 +11,7 @@ pub mod PastedLaws
 pub mod ReadingLaws
 pub mod WindowLaws
 pub mod NumberLaws
+pub mod FewestLaws
 pub mod AnswersLaws
+pub mod Determined
 pub mod Examples

@@ -54,7 +54,7 @@ lowBytes (suc k) n = n % 256 ∷ lowBytes k (n / 256)
 unfoldable pub encodeWord32 : ℕ → List ℕ
 encodeWord32 n = lowBytes 4 n
 
--- the writer's bytes of a packed number, the fewest; `more` is how many may follow this one
+-- the writer's bytes of a packed number, the fewest (`packed-fewest` of specs/FewestLaws.antt); `more` is how many may follow this one
 unfoldable pub encodeChunks : ℕ → ℕ → List ℕ
 encodeChunks zero n = 2 * n ∷ []
 encodeChunks (suc more) n = cond (ltb n 128) (2 * n ∷ []) ((2 * (n % 128) + 1) ∷ encodeChunks more (n / 128))

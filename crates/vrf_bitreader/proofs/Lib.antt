@@ -1,4 +1,9 @@
 pub mod Walk
 pub mod Held
+pub mod Said
 pub mod Taken
+pub mod TakenAlone
+pub mod Made
+pub mod Over
+pub mod OverNumber
 pub mod Whole

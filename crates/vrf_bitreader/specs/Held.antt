@@ -1,11 +1,12 @@
--- A reader is a slice with a cursor of it. What its functions answer is said by the definitions of the cursor's crate, at these.
+-- A reader is a slice with a cursor of it. What its functions answer is said by the definitions of the cursor's crate, at these. So each
+-- contract here is an equation of the result, or an answer relation of that crate, which its specs/Determined.antt proves to have one
+-- answer: no wrong program keeps a contract, and no theorem says so again here.
 use mathlib.Core.List.{List}
 use Prim.Native.Nat.{ℕ, _*_}
 use lib.ListN.{length}
 use denote.Ref.{RefT}
-use Rattle.vrf_bitio.specs.Reading.{Read, handOn}
+use Rattle.vrf_bitio.specs.Reading.{Read}
 use Rattle.vrf_bitio.specs.Window.{window}
-use Rattle.vrf_bitio.specs.Number.{packed}
 use Rattle.vrf_bitio.specs.declared.Cursor.{Cursor}
 use Rattle.vrf_bitreader.specs.declared.BitReader.{BitReader}
 
@@ -21,11 +22,3 @@ readerOf s c = record { «data» = s; first = c .first; count = c .count; pos = 
 -- the window of all of a slice's bits
 abbrev pub whole : List ℕ → Read (ℕ × ℕ)
 whole s = window s 0 (8 * length s)
-
--- its start
-abbrev pub start : List ℕ → Cursor
-start s = cursor 0 (8 * length s) 0
-
--- the packed number that a slice begins with
-abbrev pub firstPacked : List ℕ → Read ℕ
-firstPacked s = handOn (λ w. packed) (whole s)

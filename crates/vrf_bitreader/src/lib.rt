@@ -1,17 +1,29 @@
 // The bit reader of document 01 as a struct that holds the byte slice, over the cursor functions of vrf_bitio. Names follow
 // vrf-bitio's lib.rs. The borrow checker covers no function over such a struct, so each takes the reader apart and calls a
 // covered function on the slice and the numbers, and is proved by hand. A reader is passed by value: a refused reading moves nothing.
+use vrf_bitio::Bit;
 use vrf_bitio::Bits;
+use vrf_bitio::Byte;
 use vrf_bitio::Cursor;
+use vrf_bitio::Int;
 use vrf_bitio::Opened;
 use vrf_bitio::Sub;
 use vrf_bitio::Word;
 ghost use mathlib.Core.Path.{_≡_};
 ghost use Prim.Native.Nat.{_-_};
 ghost use Rattle.vrf_bitio.specs.Window.{window, inner, bits};
-ghost use Rattle.vrf_bitio.specs.Number.{packed};
-ghost use Rattle.vrf_bitio.specs.Answers.{readAt, OpenedAnswer, SubAnswer, BitsAnswer, WordAnswer};
-ghost use Rattle.vrf_bitreader.specs.Held.{cursor, cursorOf, readerOf, whole, start, firstPacked};
+ghost use Rattle.vrf_bitio.specs.Number.{byte, word32, int32, packed};
+ghost use Rattle.vrf_bitio.specs.Answers.{
+  readAt,
+  OpenedAnswer,
+  SubAnswer,
+  BitAnswer,
+  BitsAnswer,
+  ByteAnswer,
+  WordAnswer,
+  IntAnswer,
+};
+ghost use Rattle.vrf_bitreader.specs.Held.{cursor, cursorOf, readerOf, whole};
 
 // A window has at most this many bytes.
 const WINDOW_BYTES: usize = 268_435_456;
@@ -32,10 +44,34 @@ fn left_of(count: u32, pos: u32) -> u32
 }
 
 // The cursor's readings on a reader's fields, for the methods below. A method's own number comes first, and then the fields in their order.
+fn bit_of(s: &[u8], first: u32, count: u32, pos: u32) -> Bit
+    ensures { λ r. ⌜ BitAnswer (now (s .entry)) (cursor first count pos) (bits (now (s .entry)) first count 1 pos) r ⌝ }
+{
+    Cursor { first, count, pos }.read_bit(s)
+}
+
 fn bits_of(width: u32, s: &[u8], first: u32, count: u32, pos: u32) -> Bits
     ensures { λ r. ⌜ BitsAnswer (now (s .entry)) (cursor first count pos) (bits (now (s .entry)) first count width pos) r ⌝ }
 {
     Cursor { first, count, pos }.read_bits(s, width)
+}
+
+fn u8_of(s: &[u8], first: u32, count: u32, pos: u32) -> Byte
+    ensures { λ r. ⌜ ByteAnswer (now (s .entry)) (cursor first count pos) (readAt (now (s .entry)) (cursor first count pos) byte) r ⌝ }
+{
+    Cursor { first, count, pos }.read_u8(s)
+}
+
+fn u32_of(s: &[u8], first: u32, count: u32, pos: u32) -> Word
+    ensures { λ r. ⌜ WordAnswer (now (s .entry)) (cursor first count pos) (readAt (now (s .entry)) (cursor first count pos) word32) r ⌝ }
+{
+    Cursor { first, count, pos }.read_u32(s)
+}
+
+fn i32_of(s: &[u8], first: u32, count: u32, pos: u32) -> Int
+    ensures { λ r. ⌜ IntAnswer (now (s .entry)) (cursor first count pos) (readAt (now (s .entry)) (cursor first count pos) int32) r ⌝ }
+{
+    Cursor { first, count, pos }.read_i32(s)
 }
 
 fn packed_of(s: &[u8], first: u32, count: u32, pos: u32) -> Word
@@ -108,12 +144,44 @@ impl<'a> BitReader<'a> {
         left_of(self.count, self.pos)
     }
 
+    // Reads one bit.
+    pub fn read_bit(self) -> Bit
+        ensures { λ r. ⌜ BitAnswer (now (self .entry .«data»)) (cursorOf (self .entry))
+            (bits (now (self .entry .«data»)) (self .entry .first) (self .entry .count) 1 (self .entry .pos)) r ⌝ }
+    {
+        bit_of(self.data, self.first, self.count, self.pos)
+    }
+
     // Reads width bits, 0 to 64, as a number.
     pub fn read_bits(self, width: u32) -> Bits
         ensures { λ r. ⌜ BitsAnswer (now (self .entry .«data»)) (cursorOf (self .entry))
             (bits (now (self .entry .«data»)) (self .entry .first) (self .entry .count) width (self .entry .pos)) r ⌝ }
     {
         bits_of(width, self.data, self.first, self.count, self.pos)
+    }
+
+    // Reads a byte.
+    pub fn read_u8(self) -> Byte
+        ensures { λ r. ⌜ ByteAnswer (now (self .entry .«data»)) (cursorOf (self .entry))
+            (readAt (now (self .entry .«data»)) (cursorOf (self .entry)) byte) r ⌝ }
+    {
+        u8_of(self.data, self.first, self.count, self.pos)
+    }
+
+    // Reads a word of 32 bits.
+    pub fn read_u32(self) -> Word
+        ensures { λ r. ⌜ WordAnswer (now (self .entry .«data»)) (cursorOf (self .entry))
+            (readAt (now (self .entry .«data»)) (cursorOf (self .entry)) word32) r ⌝ }
+    {
+        u32_of(self.data, self.first, self.count, self.pos)
+    }
+
+    // Reads a word of 32 bits as a signed number.
+    pub fn read_i32(self) -> Int
+        ensures { λ r. ⌜ IntAnswer (now (self .entry .«data»)) (cursorOf (self .entry))
+            (readAt (now (self .entry .«data»)) (cursorOf (self .entry)) int32) r ⌝ }
+    {
+        i32_of(self.data, self.first, self.count, self.pos)
     }
 
     // Reads a packed number.
@@ -133,19 +201,51 @@ impl<'a> BitReader<'a> {
     }
 }
 
-// The packed number at a cursor of a slice.
-fn packed_over(data: &[u8], c: Cursor) -> Word
+// The reader's methods on a plain slice and cursor, for callers that the borrow checker covers: it covers no function that has a reader.
+pub fn position_over(data: &[u8], c: Cursor) -> u32
+    ensures { λ r. ⌜ r ≡ c .pos ⌝ }
+{
+    BitReader::over(data, c).position()
+}
+
+pub fn bit_over(data: &[u8], c: Cursor) -> Bit
+    ensures { λ r. ⌜ BitAnswer (now («data» .entry)) c (bits (now («data» .entry)) (c .first) (c .count) 1 (c .pos)) r ⌝ }
+{
+    BitReader::over(data, c).read_bit()
+}
+
+pub fn bits_over(data: &[u8], c: Cursor, width: u32) -> Bits
+    ensures { λ r. ⌜ BitsAnswer (now («data» .entry)) c (bits (now («data» .entry)) (c .first) (c .count) width (c .pos)) r ⌝ }
+{
+    BitReader::over(data, c).read_bits(width)
+}
+
+pub fn u8_over(data: &[u8], c: Cursor) -> Byte
+    ensures { λ r. ⌜ ByteAnswer (now («data» .entry)) c (readAt (now («data» .entry)) c byte) r ⌝ }
+{
+    BitReader::over(data, c).read_u8()
+}
+
+pub fn u32_over(data: &[u8], c: Cursor) -> Word
+    ensures { λ r. ⌜ WordAnswer (now («data» .entry)) c (readAt (now («data» .entry)) c word32) r ⌝ }
+{
+    BitReader::over(data, c).read_u32()
+}
+
+pub fn i32_over(data: &[u8], c: Cursor) -> Int
+    ensures { λ r. ⌜ IntAnswer (now («data» .entry)) c (readAt (now («data» .entry)) c int32) r ⌝ }
+{
+    BitReader::over(data, c).read_i32()
+}
+
+pub fn packed_over(data: &[u8], c: Cursor) -> Word
     ensures { λ r. ⌜ WordAnswer (now («data» .entry)) c (readAt (now («data» .entry)) c packed) r ⌝ }
 {
     BitReader::over(data, c).read_int_packed()
 }
 
-// The packed number that a slice begins with. Its parameters are plain, so whoever calls it needs no walk by hand.
-pub fn first_packed(data: &[u8]) -> Word
-    ensures { λ r. ⌜ WordAnswer (now («data» .entry)) (start (now («data» .entry))) (firstPacked (now («data» .entry))) r ⌝ }
+pub fn inner_over(data: &[u8], c: Cursor, n: u64) -> Sub
+    ensures { λ r. ⌜ SubAnswer (now («data» .entry)) c (inner (now («data» .entry)) (c .first) (c .count) n (c .pos)) r ⌝ }
 {
-    match BitReader::new(data) {
-        Opened::Refused(r) => Word::Refused(r),
-        Opened::Window(c) => packed_over(data, c),
-    }
+    BitReader::over(data, c).sub_reader(n)
 }

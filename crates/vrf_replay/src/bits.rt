@@ -1,4 +1,5 @@
-// The call `bits`: a window, and readings one after another.
+// The call `bits`: a window, and readings one after another. Bits, numbers, inner windows and positions go through vrf_bitreader, so that a
+// program runs its struct; texts and copies go through the cursor.
 use crate::answer;
 use crate::run::Run;
 use crate::script;
@@ -192,12 +193,12 @@ fn read(s: &[u8], c: Cursor, what: Reading, out: &mut [u8], to: usize) -> After
     ensures { λ r. ⌜ r .to ≤ length (now (out .entry)) ⌝ }
 {
     match what {
-        Reading::Bit => number(c, of_bit(c.read_bit(s)), out, to),
-        Reading::Bits(width) => number(c, c.read_bits(s, width), out, to),
-        Reading::U8 => number(c, of_byte(c.read_u8(s)), out, to),
-        Reading::U32 => number(c, of_word(c.read_u32(s)), out, to),
-        Reading::I32 => signed(c, c.read_i32(s), out, to),
-        Reading::Packed => number(c, of_word(c.read_int_packed(s)), out, to),
+        Reading::Bit => number(c, of_bit(vrf_bitreader::bit_over(s, c)), out, to),
+        Reading::Bits(width) => number(c, vrf_bitreader::bits_over(s, c, width), out, to),
+        Reading::U8 => number(c, of_byte(vrf_bitreader::u8_over(s, c)), out, to),
+        Reading::U32 => number(c, of_word(vrf_bitreader::u32_over(s, c)), out, to),
+        Reading::I32 => signed(c, vrf_bitreader::i32_over(s, c), out, to),
+        Reading::Packed => number(c, of_word(vrf_bitreader::packed_over(s, c)), out, to),
         Reading::Text => text(s, c, out, to),
         Reading::Name => name(s, c, out, to),
         Reading::Copy(room, n) => copy(s, c, room, n, out, to),
@@ -224,11 +225,11 @@ fn enter(s: &[u8], w: Windows, n: u64, out: &mut [u8], to: usize) -> Done
 {
     let c = w.current;
     let deep = w.deep;
-    match c.sub_reader(s, n) {
+    match vrf_bitreader::inner_over(s, c, n) {
         Sub::Refused(r) => Done {
             windows: w,
             to: answer::refusal(out, to, r),
-            position: c.pos,
+            position: vrf_bitreader::position_over(s, c),
             fits: true,
         },
         Sub::Inner(inner, behind) => {
@@ -236,21 +237,21 @@ fn enter(s: &[u8], w: Windows, n: u64, out: &mut [u8], to: usize) -> Done
                 return Done {
                     windows: w,
                     to: answer::word(out, to, b"too large"),
-                    position: c.pos,
+                    position: vrf_bitreader::position_over(s, c),
                     fits: false,
                 };
             }
             Done {
                 windows: w.inside(inner, behind),
                 to: answer::word(out, to, b"inner"),
-                position: behind.pos,
+                position: vrf_bitreader::position_over(s, behind),
                 fits: true,
             }
         }
     }
 }
 
-fn leave(w: Windows, out: &mut [u8], to: usize) -> Done
+fn leave(s: &[u8], w: Windows, out: &mut [u8], to: usize) -> Done
     requires { ⌜ w .deep ≤ 16 ⌝ }
     ensures { λ r. ⌜ (r .to ≤ length (now (out .entry))) × (r .windows .deep ≤ 16) ⌝ }
 {
@@ -259,7 +260,7 @@ fn leave(w: Windows, out: &mut [u8], to: usize) -> Done
     Done {
         windows,
         to: answer::word(out, to, b"up"),
-        position: c.pos,
+        position: vrf_bitreader::position_over(s, c),
         fits: true,
     }
 }
@@ -274,7 +275,7 @@ fn stay(s: &[u8], w: Windows, what: Reading, out: &mut [u8], to: usize) -> Done
     Done {
         windows: w.moved(next),
         to: done.to,
-        position: next.pos,
+        position: vrf_bitreader::position_over(s, next),
         fits: done.fits,
     }
 }
@@ -285,7 +286,7 @@ fn play_reading(s: &[u8], w: Windows, what: Reading, out: &mut [u8], to: usize) 
 {
     match what {
         Reading::Sub(n) => enter(s, w, n, out, to),
-        Reading::Up => leave(w, out, to),
+        Reading::Up => leave(s, w, out, to),
         _ => stay(s, w, what, out, to),
     }
 }

@@ -2,6 +2,7 @@
 // whoever takes numbers asks first whether enough bytes are left.
 use vrf_bitio::Cursor;
 use vrf_bitio::Opened;
+use vrf_bitreader::BitReader;
 ghost use mathlib.Core.Path.{_≡_};
 ghost use Prim.Native.Nat.{_+_, _-_, _≤_};
 ghost use lib.ListN.{length};
@@ -129,11 +130,18 @@ pub fn lay_out(dst: &mut [u8], head: &[u8], fill: u8)
     fill_from(dst, head.len(), fill);
 }
 
-// A window's two numbers stand behind its blob, whose bytes are s.
+// A window's two numbers stand behind its blob, whose bytes are s. Both ways of opening one are played: a window that starts at bit 0 is
+// opened by its bit count alone.
 pub fn window(s: &[u8], script: &[u8], at: usize) -> Opened
     requires { ⌜ at + 16 ≤ length (now script) ⌝ }
 {
-    Cursor::window(s, long_at(script, at), long_at(script, at + 8))
+    let first = long_at(script, at);
+    let count = long_at(script, at + 8);
+    if first == 0 {
+        BitReader::with_bit_len(s, count)
+    } else {
+        Cursor::window(s, first, count)
+    }
 }
 
 // How many bytes of arguments follow the byte of a reading.

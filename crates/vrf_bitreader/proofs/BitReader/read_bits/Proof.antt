@@ -1,21 +1,13 @@
 -- `BitReader::read_bits` meets its contract: it takes the reader apart and calls `bits_of` (`Taken.antt`).
 -- Assumes nothing.
-use Prim.Native.Nat.{ℕ}
 use mir.Syntax.{w32}
-use base.Logic.{emp}
-use contract.Monad.{factI}
 use contract.Running.{givenOf, tables, tablesOf}
 use denote.Enum.Laws as EL
-use denote.Ref.{now}
 use denote.Triple.Spec.{tripleOf}
 use denote.Triple.Table.{entered, cited}
-use Rattle.vrf_bitio.specs.Answers.{BitsAnswer}
-use Rattle.vrf_bitio.specs.Window.{bits}
-use Rattle.vrf_bitio.specs.declared.Bits.{Bits}
 use Rattle.vrf_bitio.proofs.Bits as S
 use Rattle.vrf_bitio.proofs.Bits.Laws as S′
-use Rattle.vrf_bitreader.specs.Held.{cursorOf}
-use Rattle.vrf_bitreader.specs.declared.BitReader.{BitReader}
+use Rattle.vrf_bitreader.proofs.Said.{BitsSaid}
 use Rattle.vrf_bitreader.proofs.Taken.{Asked, meets}
 use Rattle.vrf_bitreader.proofs.bits_of.Symbol as bits-of-def
 use Rattle.vrf_bitreader.proofs.bits_of.Symbol.{name as #bits-of}
@@ -25,13 +17,10 @@ use Rattle.vrf_bitreader.proofs.BitReader.read_bits as read-bits
 use Rattle.vrf_bitreader.proofs.BitReader.read_bits.Statement as stated
 use Rattle.vrf_bitreader.proofs.BitReader.read_bits.Code as code
 
-abbrev Said : BitReader → ℕ → Bits → Type 0
-Said d n = BitsAnswer (now (d .«data»)) (cursorOf d) (bits (now (d .«data»)) (d .first) (d .count) n (d .pos))
-
 pub read-bits-spec : {M : Type 1} → stated.statement M
 unfolding code.routine tablesOf
 read-bits-spec 𝓤 H 𝓜 𝓖 𝓡 =
     entered 𝓤 H (tripleOf 𝓤 H (𝓖 .A) read-bits.signature (read-bits.spec 𝓤 H (𝓖 .A) (𝓜 .mem) (𝓡 .run)))
     (tables 𝓤 H 𝓜 𝓡 code.env .C) (tables 𝓤 H 𝓜 𝓡 code.env .Λ) #read-bits code.function (code.unfolded 𝓤 H 𝓜 𝓡)
-    (meets w32 S.the-row Said 𝓤 H (𝓖 .A) (givenOf 𝓤 H 𝓜 𝓖) (read-bits.clauses 𝓤 H (𝓖 .A) (𝓜 .mem) (𝓡 .run)) (λ κs a g r e said. factI 𝓤 _ (emp 𝓤) said) #bits-of S′.mir (λ r u is. EL.lawful S.the-type S′.the-laws 𝓤 H (𝓖 .A) (givenOf 𝓤 H 𝓜 𝓖) tt .typed r _ is .0) (tablesOf 𝓤 H 𝓜 (tables 𝓤 H 𝓜 𝓡 code.env))
-    (cited 𝓤 H (Asked w32 S.the-row Said 𝓤 H (𝓖 .A)) 𝓜 𝓡 code.env #bits-of bits-of-def.routine code.calls-vrf-bitreader·bits-of (bits-of-thm.met 𝓤 H 𝓜 𝓖 𝓡)))
+    (meets w32 S.the-row BitsSaid 𝓤 H (𝓖 .A) (givenOf 𝓤 H 𝓜 𝓖) #bits-of S′.mir (λ r u is. EL.lawful S.the-type S′.the-laws 𝓤 H (𝓖 .A) (givenOf 𝓤 H 𝓜 𝓖) tt .typed r _ is .0) (tablesOf 𝓤 H 𝓜 (tables 𝓤 H 𝓜 𝓡 code.env))
+    (cited 𝓤 H (Asked w32 S.the-row BitsSaid 𝓤 H (𝓖 .A)) 𝓜 𝓡 code.env #bits-of bits-of-def.routine code.calls-vrf-bitreader·bits-of (bits-of-thm.met 𝓤 H 𝓜 𝓖 𝓡)))

@@ -1,21 +1,13 @@
 -- `BitReader::sub_reader` meets its contract: it takes the reader apart and calls `inner_of` (`Taken.antt`).
 -- Assumes nothing.
-use Prim.Native.Nat.{ℕ}
 use mir.Syntax.{w64}
-use base.Logic.{emp}
-use contract.Monad.{factI}
 use contract.Running.{givenOf, tables, tablesOf}
 use denote.Enum.Laws as EL
-use denote.Ref.{now}
 use denote.Triple.Spec.{tripleOf}
 use denote.Triple.Table.{entered, cited}
-use Rattle.vrf_bitio.specs.Answers.{SubAnswer}
-use Rattle.vrf_bitio.specs.Window.{inner}
-use Rattle.vrf_bitio.specs.declared.Sub.{Sub}
 use Rattle.vrf_bitio.proofs.Sub as S
 use Rattle.vrf_bitio.proofs.Sub.Laws as S′
-use Rattle.vrf_bitreader.specs.Held.{cursorOf}
-use Rattle.vrf_bitreader.specs.declared.BitReader.{BitReader}
+use Rattle.vrf_bitreader.proofs.Said.{InnerSaid}
 use Rattle.vrf_bitreader.proofs.Taken.{Asked, meets}
 use Rattle.vrf_bitreader.proofs.inner_of.Symbol as inner-of-def
 use Rattle.vrf_bitreader.proofs.inner_of.Symbol.{name as #inner-of}
@@ -25,13 +17,10 @@ use Rattle.vrf_bitreader.proofs.BitReader.sub_reader as sub-reader
 use Rattle.vrf_bitreader.proofs.BitReader.sub_reader.Statement as stated
 use Rattle.vrf_bitreader.proofs.BitReader.sub_reader.Code as code
 
-abbrev Said : BitReader → ℕ → Sub → Type 0
-Said d n = SubAnswer (now (d .«data»)) (cursorOf d) (inner (now (d .«data»)) (d .first) (d .count) n (d .pos))
-
 pub sub-reader-spec : {M : Type 1} → stated.statement M
 unfolding code.routine tablesOf
 sub-reader-spec 𝓤 H 𝓜 𝓖 𝓡 =
     entered 𝓤 H (tripleOf 𝓤 H (𝓖 .A) sub-reader.signature (sub-reader.spec 𝓤 H (𝓖 .A) (𝓜 .mem) (𝓡 .run)))
     (tables 𝓤 H 𝓜 𝓡 code.env .C) (tables 𝓤 H 𝓜 𝓡 code.env .Λ) #sub-reader code.function (code.unfolded 𝓤 H 𝓜 𝓡)
-    (meets w64 S.the-row Said 𝓤 H (𝓖 .A) (givenOf 𝓤 H 𝓜 𝓖) (sub-reader.clauses 𝓤 H (𝓖 .A) (𝓜 .mem) (𝓡 .run)) (λ κs a g r e said. factI 𝓤 _ (emp 𝓤) said) #inner-of S′.mir (λ r u is. EL.lawful S.the-type S′.the-laws 𝓤 H (𝓖 .A) (givenOf 𝓤 H 𝓜 𝓖) tt .typed r _ is .0) (tablesOf 𝓤 H 𝓜 (tables 𝓤 H 𝓜 𝓡 code.env))
-    (cited 𝓤 H (Asked w64 S.the-row Said 𝓤 H (𝓖 .A)) 𝓜 𝓡 code.env #inner-of inner-of-def.routine code.calls-vrf-bitreader·inner-of (inner-of-thm.met 𝓤 H 𝓜 𝓖 𝓡)))
+    (meets w64 S.the-row InnerSaid 𝓤 H (𝓖 .A) (givenOf 𝓤 H 𝓜 𝓖) #inner-of S′.mir (λ r u is. EL.lawful S.the-type S′.the-laws 𝓤 H (𝓖 .A) (givenOf 𝓤 H 𝓜 𝓖) tt .typed r _ is .0) (tablesOf 𝓤 H 𝓜 (tables 𝓤 H 𝓜 𝓡 code.env))
+    (cited 𝓤 H (Asked w64 S.the-row InnerSaid 𝓤 H (𝓖 .A)) 𝓜 𝓡 code.env #inner-of inner-of-def.routine code.calls-vrf-bitreader·inner-of (inner-of-thm.met 𝓤 H 𝓜 𝓖 𝓡)))
