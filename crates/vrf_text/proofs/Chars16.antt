@@ -5,57 +5,29 @@ use mathlib.Core.Path.{_≡_, refl, sym, ap, _∙_}
 use Prim.Native.Nat.{ℕ, _+_, _*_, _/_, _%_, _≤_, _<_}
 use native.Mathlib.Omega.{arith}
 use lib.ListN.{getD, drop}
-use borrow.Author.Tests.{le-leb, lt-leb}
 use Rattle.vrf_text.specs.Cases.{at-most, clash}
 use Rattle.vrf_text.specs.Utf16.{Kind, single, high, low, kind, pair, before, utf16From, utf16}
+use Rattle.vrf_text.specs.Utf16Laws.{kind-below, kind-above, kind-high, kind-low, single-first, high-first, low-second}
 use Rattle.vrf_text.specs.Steps.{Holds16, Taken, Step16}
 
--- ---- what a unit is
-
-module _ (a : ℕ) where
-  kind-below : a < 0xD800 → kind a ≡ single
-  unfolding kind
-  kind-below h = rw (le-leb a 0xD7FF (omega arith))
-
-  kind-above : 0xDFFF < a → kind a ≡ single
-  unfolding kind
-  kind-above h = rw (lt-leb a 0xD7FF (omega arith), lt-leb a 0xDBFF (omega arith), lt-leb a 0xDFFF h)
-
-  kind-high : 0xD800 ≤ a → a ≤ 0xDBFF → kind a ≡ high
-  unfolding kind
-  kind-high h k = rw (lt-leb a 0xD7FF h, le-leb a 0xDBFF k)
-
-  kind-low : 0xDBFF < a → a ≤ 0xDFFF → kind a ≡ low
-  unfolding kind
-  kind-low h k = rw (lt-leb a 0xD7FF (omega arith), lt-leb a 0xDBFF h, le-leb a 0xDFFF k)
-
-  pub low-range : kind a ≡ low → (0xDC00 ≤ a) × (a ≤ 0xDFFF)
-  unfolding kind
-  low-range =
-      let P : Kind → Type 0 = λ k. k ≡ low → (0xDC00 ≤ a) × (a ≤ 0xDFFF) in
-      at-most P a 0xD7FF (λ _ e. clash (cc)) λ _.
-      at-most P a 0xDBFF (λ _ e. clash (cc)) λ p.
-      at-most P a 0xDFFF (λ q _. (p, q)) λ _ e. clash (cc)
+pub low-range : (a : ℕ) → kind a ≡ low → (0xDC00 ≤ a) × (a ≤ 0xDFFF)
+unfolding kind
+low-range a =
+    let P : Kind → Type 0 = λ k. k ≡ low → (0xDC00 ≤ a) × (a ≤ 0xDFFF) in
+    at-most P a 0xD7FF (λ _ e. clash (cc)) λ _.
+    at-most P a 0xDBFF (λ _ e. clash (cc)) λ p.
+    at-most P a 0xDFFF (λ q _. (p, q)) λ _ e. clash (cc)
 
 -- ---- what begins a list of units
 
-module _ (a : ℕ) (l : List ℕ) where
-  one : kind a ≡ single → utf16 (a ∷ l) ≡ before a (utf16 l)
-  unfolding utf16 utf16From
-  one e = rw (e, utf16From)
-
-  stray : kind a ≡ low → utf16 (a ∷ l) ≡ none
-  unfolding utf16 utf16From
-  stray e = rw (e, utf16From)
-
-  paired : kind a ≡ high → utf16 (a ∷ l) ≡ utf16From (some a) l
-  unfolding utf16 utf16From
-  paired e = rw (e, utf16From)
+stray : (a : ℕ) (l : List ℕ) → kind a ≡ low → utf16 (a ∷ l) ≡ none
+unfolding utf16 utf16From
+stray a l e = rw (e, utf16From)
 
 two : (a : ℕ) (l : List ℕ) → kind (getD l 0 0) ≡ low → utf16From (some a) l ≡ before (pair a (getD l 0 0)) (utf16 (drop 1 l))
-unfolding utf16 utf16From kind
+unfolding kind
 two a [] e = clash (cc)
-two a (b ∷ l) e = rw (e, utf16From)
+two a (b ∷ l) e = low-second a b l e
 
 alone : (a : ℕ) (l : List ℕ) → (kind (getD l 0 0) ≡ low → ⊥) → utf16From (some a) l ≡ none
 unfolding utf16From
@@ -85,10 +57,10 @@ module _ (w : ℕ) where
       go (a ∷ l) q = rw (q .first) (f l (q .second))
 
   pub below : unit < 0xD800 → Step16 w unit 1
-  below h = begun unit 1 (omega arith) (omega arith) λ l _. one unit l (kind-below unit h)
+  below h = begun unit 1 (omega arith) (omega arith) λ l _. single-first unit l (kind-below unit h)
 
   pub above : 0xDFFF < unit → Step16 w unit 1
-  above h = begun unit 1 (omega arith) (omega arith) λ l _. one unit l (kind-above unit h)
+  above h = begun unit 1 (omega arith) (omega arith) λ l _. single-first unit l (kind-above unit h)
 
   pub low-first : 0xDBFF < unit → unit ≤ 0xDFFF → Step16 w 0 0
   low-first h k = begun 0 0 (omega arith) (omega arith) λ l _. stray unit l (kind-low unit h k)
@@ -96,9 +68,9 @@ module _ (w : ℕ) where
   module _ (h : 0xD800 ≤ unit) (k : unit ≤ 0xDBFF) where
     pub no-low : (kind next ≡ low → ⊥) → Step16 w 0 0
     no-low f = begun 0 0 (omega arith) (omega arith) λ l e.
-        paired unit l (kind-high unit h k) ∙ alone unit l (λ q. f (ap kind (sym e) ∙ q))
+        high-first unit l (kind-high unit h k) ∙ alone unit l (λ q. f (ap kind (sym e) ∙ q))
 
     pub pair-of : 0xDC00 ≤ next → next ≤ 0xDFFF → Step16 w (0x10000 + (unit % 0x400 * 0x400 + next % 0x400)) 2
     unfolding pair
     pair-of p q = begun _ 2 (omega arith) (omega arith) λ l e.
-        paired unit l (kind-high unit h k) ∙ two unit l (ap kind e ∙ kind-low next p q) ∙ rw e
+        high-first unit l (kind-high unit h k) ∙ two unit l (ap kind e ∙ kind-low next p q) ∙ rw e

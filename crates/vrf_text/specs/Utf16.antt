@@ -1,11 +1,42 @@
--- UTF-16 (RFC 2781) and its way to UTF-8: bytes make units, units characters, characters UTF-8 bytes.
+-- UTF-16 (RFC 2781) and its way to UTF-8: bytes make units, units characters, characters UTF-8 bytes; and the way back.
 use mathlib.Core.Bool.{cond}
 use mathlib.Core.List.{List, [], _∷_, _++_}
 use mathlib.Core.Option.{Option, none, some}
-use Prim.Native.Nat.{ℕ, _+_, _*_, _/_, _%_}
-use lib.Dec.{leb}
+use Prim.Native.Nat.{ℕ, _+_, _-_, _*_, _/_, _%_, _≤_}
+use lib.Dec.{leb, ltb}
+use lib.ListN.{getD}
+use Rattle.vrf_text.specs.Utf8.{In, within}
 
--- ---- RFC 2781: units and characters
+-- a Unicode scalar value: any character number but those of the surrogates
+pub data Scalar : ℕ → Type 0 where
+  below : {u : ℕ} → u ≤ 0xD7FF → Scalar u
+  above : {u : ℕ} → In 0xE000 0x10FFFF u → Scalar u
+
+-- characters that are all scalar values
+abbrev pub Scalars : List ℕ → Type 0
+Scalars [] = Unit {0}
+Scalars (u ∷ cs) = Scalar u × Scalars cs
+
+-- ---- RFC 2781: encoding, as section 2.1 has it
+
+-- steps 2 to 4: U' = U - 0x10000; W1 is 0xD800 with the ten high bits of U', W2 is 0xDC00 with the ten low bits
+unfoldable pub surrogates : ℕ → List ℕ
+surrogates u′ = (0xD800 + u′ / 0x400) ∷ (0xDC00 + u′ % 0x400) ∷ []
+
+-- step 1: if U < 0x10000, the unit is U itself
+unfoldable pub encodeChar : ℕ → List ℕ
+encodeChar u = cond (ltb u 0x10000) (u ∷ []) (surrogates (u - 0x10000))
+
+unfoldable pub encodeUtf16 : List ℕ → List ℕ
+encodeUtf16 [] = []
+encodeUtf16 (u ∷ cs) = encodeChar u ++ encodeUtf16 cs
+
+-- UTF-16LE: the two bytes of each unit, low byte first
+unfoldable pub unitBytes : List ℕ → List ℕ
+unitBytes [] = []
+unitBytes (w ∷ ws) = w % 256 ∷ w / 256 ∷ unitBytes ws
+
+-- ---- RFC 2781: decoding, units and characters
 
 -- UTF-16LE: the 16-bit units of bytes, low byte first; an odd last byte makes none
 unfoldable pub units : List ℕ → List ℕ
@@ -56,6 +87,19 @@ utf8Of u =
 unfoldable pub utf8Chars : List ℕ → List ℕ
 utf8Chars [] = []
 utf8Chars (u ∷ cs) = utf8Of u ++ utf8Chars cs
+
+-- the character that the byte a begins, with the bytes l behind it: the bits x of the table's four lines
+unfoldable pub charOf : ℕ → List ℕ → ℕ
+charOf a l =
+    cond (leb a 0x7F) a
+    (cond (leb a 0xDF) (a % 32 * 64 + getD l 0 0 % 64)
+    (cond (leb a 0xEF) (a % 16 * 4096 + getD l 0 0 % 64 * 64 + getD l 1 0 % 64)
+    (a % 8 * 262144 + getD l 0 0 % 64 * 4096 + getD l 1 0 % 64 * 64 + getD l 2 0 % 64)))
+
+-- the characters of a valid text: each byte that is no tail byte begins one
+unfoldable pub utf8Decode : List ℕ → List ℕ
+utf8Decode [] = []
+utf8Decode (a ∷ l) = cond (within 0x80 0xBF a) (utf8Decode l) (charOf a l ∷ utf8Decode l)
 
 -- ---- the two together
 

@@ -1,22 +1,19 @@
--- UTF-16: the decoder's characters are Unicode scalar values, and their encoding is valid UTF-8.
+-- UTF-16: what the decoder accepts is the encoding of its characters (`encode-utf16`), which are Unicode scalar values; their UTF-8
+-- is valid.
 use mathlib.Core.Bool.{true}
-use mathlib.Core.List.{List, [], _∷_}
+use mathlib.Core.List.{List, [], _∷_, _++_}
 use mathlib.Core.Option.{Option, none, some}
-use mathlib.Core.Path.{_≡_}
-use Prim.Native.Nat.{ℕ, zero, suc, _+_, _/_, _%_, _≤_, _<_, zero-le}
+use mathlib.Core.Path.{_≡_, refl, subst}
+use Prim.Native.Nat.{ℕ, zero, suc, _+_, _-_, _*_, _/_, _%_, _≤_, _<_, zero-le}
 use native.Mathlib.Omega.{arith}
 use lib.ListN.{getD}
+use borrow.Author.Tests.{lt-ltb, le-ltb, le-leb, lt-leb}
 use Rattle.vrf_text.specs.Cases.{by-order, at-most}
 use Rattle.vrf_text.specs.Utf8.{In, UTF8-tail, UTF8-char, UTF8-octets, nil, char, utf8}
 use Rattle.vrf_text.specs.Utf8.{UTF8-1, UTF8-2, UTF8-3-E0, UTF8-3-E1, UTF8-3-ED, UTF8-3-EE, UTF8-4-F0, UTF8-4-F1, UTF8-4-F4}
 use Rattle.vrf_text.specs.Utf8Laws.{octets-utf8}
-use Rattle.vrf_text.specs.Utf16.{units, Kind, single, high, low, kind, pair, before, utf16From, utf16}
+use Rattle.vrf_text.specs.Utf16.{Scalar, below, above, Scalars, surrogates, encodeChar, encodeUtf16, units, Kind, single, high, low, kind, pair, before, utf16From, utf16}
 use Rattle.vrf_text.specs.Utf16.{utf8Of, utf8Chars, unitsToUtf8}
-
--- a Unicode scalar value: any character number but those of the surrogates
-pub data Scalar : ℕ → Type 0 where
-  below : {u : ℕ} → u ≤ 0xD7FF → Scalar u
-  above : {u : ℕ} → In 0xE000 0x10FFFF u → Scalar u
 
 -- ---- the encoder, by the grammar's alternatives of three and four bytes
 
@@ -104,38 +101,111 @@ scalar-char u s =
     at-most UTF8-char u 0x7FF (λ h. two-char u (record { low = p; high = h })) λ p.
     at-most UTF8-char u 0xFFFF (λ h. three-char u (record { low = p; high = h }) s) λ p. four-char u p s
 
--- ---- the decoder's characters are scalar values
+scalars-octets : (cs : List ℕ) → Scalars cs → UTF8-octets (utf8Chars cs)
+unfolding utf8Chars
+scalars-octets [] s = nil
+scalars-octets (u ∷ cs) s = char (scalar-char u (s .0)) (scalars-octets cs (s .1))
 
--- an error, or characters whose encoding is valid
-abbrev Good : Option (List ℕ) → Type 0
-Good none = Unit {0}
-Good (some cs) = UTF8-octets (utf8Chars cs)
+-- the UTF-8 of scalar values is valid
+pub utf8Chars-valid : (cs : List ℕ) → Scalars cs → utf8 (utf8Chars cs) ≡ true
+utf8Chars-valid cs s = octets-utf8 (scalars-octets cs s)
 
-good-before : (u : ℕ) (o : Option (List ℕ)) → Scalar u → Good o → Good (before u o)
-unfolding before utf8Chars
-good-before u none s g = tt
-good-before u (some cs) s g = char (scalar-char u s) g
+-- ---- what begins a list of units
+
+module _ (a : ℕ) where
+  pub kind-below : a < 0xD800 → kind a ≡ single
+  unfolding kind
+  kind-below h = rw (le-leb a 0xD7FF (omega arith))
+
+  pub kind-above : 0xDFFF < a → kind a ≡ single
+  unfolding kind
+  kind-above h = rw (lt-leb a 0xD7FF (omega arith), lt-leb a 0xDBFF (omega arith), lt-leb a 0xDFFF h)
+
+  pub kind-high : 0xD800 ≤ a → a ≤ 0xDBFF → kind a ≡ high
+  unfolding kind
+  kind-high h k = rw (lt-leb a 0xD7FF h, le-leb a 0xDBFF k)
+
+  pub kind-low : 0xDBFF < a → a ≤ 0xDFFF → kind a ≡ low
+  unfolding kind
+  kind-low h k = rw (lt-leb a 0xD7FF (omega arith), lt-leb a 0xDBFF h, le-leb a 0xDFFF k)
+
+  pub single-first : (l : List ℕ) → kind a ≡ single → utf16 (a ∷ l) ≡ before a (utf16 l)
+  unfolding utf16 utf16From
+  single-first l e = rw (e, utf16From)
+
+  pub high-first : (l : List ℕ) → kind a ≡ high → utf16 (a ∷ l) ≡ utf16From (some a) l
+  unfolding utf16 utf16From
+  high-first l e = rw (e, utf16From)
+
+  pub low-second : (b : ℕ) (l : List ℕ) → kind b ≡ low → utf16From (some a) (b ∷ l) ≡ before (pair a b) (utf16 l)
+  unfolding utf16 utf16From
+  low-second b l e = rw (e, utf16From)
+
+-- ---- what the decoder accepts: the encoding of scalar values, and nothing else
+
+-- an error, or scalar values of which ws is the encoding
+abbrev Decoded : List ℕ → Option (List ℕ) → Type 0
+Decoded ws none = Unit {0}
+Decoded ws (some cs) = Scalars cs × (encodeUtf16 cs ≡ ws)
+
+pub encode-single : (u : ℕ) → u ≤ 0xFFFF → encodeChar u ≡ u ∷ []
+unfolding encodeChar
+encode-single u h = rw (lt-ltb u 0x10000 (omega arith))
+
+encode-pair : (w1 w2 : ℕ) → In 0xD800 0xDBFF w1 → In 0xDC00 0xDFFF w2 → encodeChar (pair w1 w2) ≡ w1 ∷ w2 ∷ []
+unfolding encodeChar surrogates pair
+encode-pair w1 w2 h k =
+    let u : ℕ = 0x10000 + (w1 % 0x400 * 0x400 + w2 % 0x400) in
+    let a : 0xD800 + (u - 0x10000) / 0x400 ≡ w1 = omega arith in
+    let b : 0xDC00 + (u - 0x10000) % 0x400 ≡ w2 = omega arith in
+    rw (le-ltb u 0x10000 (omega arith), a, b)
 
 pair-scalar : (w1 w2 : ℕ) → Scalar (pair w1 w2)
 unfolding pair
 pair-scalar w1 w2 = above {u = pair w1 w2} (omega arith)
 
-good-from : (o : Option ℕ) (ws : List ℕ) → ((i : ℕ) → getD ws i 0 ≤ 0xFFFF) → Good (utf16From o ws)
-unfolding utf16From kind utf8Chars
-good-from none [] h = nil
-good-from (some w1) [] h = tt
-good-from none (w ∷ l) h =
-    let g : Good (utf16From none l) = good-from none l (λ i. h (suc i)) in
-    let P : Kind → Type 0 = λ k. Good (elim k [ single ↦ before w (utf16From none l) | high ↦ utf16From (some w) l | low ↦ none ]) in
-    at-most P w 0xD7FF (λ p. good-before w (utf16From none l) (below p) g) λ _.
-    at-most P w 0xDBFF (λ _. good-from (some w) l (λ i. h (suc i))) λ _.
-    at-most P w 0xDFFF (λ _. tt) λ p. good-before w (utf16From none l) (above (record { low = p; high = omega (arith, h 0) })) g
-good-from (some w1) (w ∷ l) h =
-    let g : Good (utf16From none l) = good-from none l (λ i. h (suc i)) in
-    let P : Kind → Type 0 = λ k. Good (elim k [ single ↦ none | high ↦ none | low ↦ before (pair w1 w) (utf16From none l) ]) in
+decoded-before : (u : ℕ) (x l : List ℕ) (o : Option (List ℕ)) → Scalar u → encodeChar u ≡ x → Decoded l o → Decoded (x ++ l) (before u o)
+unfolding before encodeUtf16
+decoded-before u x l none s e g = tt
+decoded-before u x l (some cs) s e g = ((s, g .0), rw (e, g .1))
+
+-- units behind a high surrogate, or behind none
+abbrev behind : Option ℕ → List ℕ → List ℕ
+behind none l = l
+behind (some w1) l = w1 ∷ l
+
+abbrev IsHigh : Option ℕ → Type 0
+IsHigh none = Unit {0}
+IsHigh (some w1) = In 0xD800 0xDBFF w1
+
+decoded-from : (o : Option ℕ) (ws : List ℕ) → IsHigh o → ((i : ℕ) → getD ws i 0 ≤ 0xFFFF) → Decoded (behind o ws) (utf16From o ws)
+unfolding utf16From kind encodeUtf16
+decoded-from none [] k h = (tt, refl)
+decoded-from (some w1) [] k h = tt
+decoded-from none (w ∷ l) k h =
+    let g : Decoded l (utf16From none l) = decoded-from none l tt (λ i. h (suc i)) in
+    let one : Scalar w → Decoded (w ∷ l) (before w (utf16From none l)) = λ s. decoded-before w (w ∷ []) l _ s (encode-single w (h 0)) g in
+    let P : Kind → Type 0 = λ k. Decoded (w ∷ l) (elim k [ single ↦ before w (utf16From none l) | high ↦ utf16From (some w) l | low ↦ none ]) in
+    at-most P w 0xD7FF (λ p. one (below p)) λ p.
+    at-most P w 0xDBFF (λ q. decoded-from (some w) l (record { low = p; high = q }) (λ i. h (suc i))) λ _.
+    at-most P w 0xDFFF (λ _. tt) λ p. one (above (record { low = p; high = omega (arith, h 0) }))
+decoded-from (some w1) (w ∷ l) k h =
+    let g : Decoded l (utf16From none l) = decoded-from none l tt (λ i. h (suc i)) in
+    let P : Kind → Type 0 = λ k. Decoded (w1 ∷ w ∷ l) (elim k [ single ↦ none | high ↦ none | low ↦ before (pair w1 w) (utf16From none l) ]) in
     at-most P w 0xD7FF (λ _. tt) λ _.
-    at-most P w 0xDBFF (λ _. tt) λ _.
-    at-most P w 0xDFFF (λ _. good-before (pair w1 w) (utf16From none l) (pair-scalar w1 w) g) λ _. tt
+    at-most P w 0xDBFF (λ _. tt) λ p.
+    at-most P w 0xDFFF
+    (λ q. decoded-before (pair w1 w) (w1 ∷ w ∷ []) l _ (pair-scalar w1 w) (encode-pair w1 w k (record { low = p; high = q })) g)
+    λ _. tt
+
+module _ (ws : List ℕ) (h : (i : ℕ) → getD ws i 0 ≤ 0xFFFF) where
+  decoded : Decoded ws (utf16 ws)
+  unfolding utf16
+  decoded = decoded-from none ws tt h
+
+  -- the units of an accepted text are the encoding of its characters, which are scalar values
+  pub encode-utf16 : {cs : List ℕ} → utf16 ws ≡ some cs → Scalars cs × (encodeUtf16 cs ≡ ws)
+  encode-utf16 e = subst (Decoded ws) e decoded
 
 -- ---- what comes out is valid UTF-8
 
@@ -145,12 +215,12 @@ Valid none = Unit {0}
 Valid (some t) = utf8 t ≡ true
 
 pub unitsToUtf8-valid : (ws : List ℕ) → ((i : ℕ) → getD ws i 0 ≤ 0xFFFF) → Valid (unitsToUtf8 ws)
-unfolding unitsToUtf8 utf16
-unitsToUtf8-valid ws h = go (utf16From none ws) (good-from none ws h)
+unfolding unitsToUtf8
+unitsToUtf8-valid ws h = go (utf16 ws) (decoded ws h)
   where
-    go : (o : Option (List ℕ)) → Good o → Valid (elim o [ none ↦ none | some cs ↦ some (utf8Chars cs) ])
+    go : (o : Option (List ℕ)) → Decoded ws o → Valid (elim o [ none ↦ none | some cs ↦ some (utf8Chars cs) ])
     go none g = tt
-    go (some cs) g = octets-utf8 g
+    go (some cs) g = utf8Chars-valid cs (g .0)
 
 -- a unit of two bytes has 16 bits
 pub units-16 : (l : List ℕ) → ((i : ℕ) → getD l i 0 < 256) → (i : ℕ) → getD (units l) i 0 ≤ 0xFFFF
