@@ -1,33 +1,39 @@
 -- What the functions that render names need.
-use mathlib.Core.Path.{_≡_, sym, _∙_}
+use mathlib.Core.Path.{_≡_, refl, sym, _∙_}
 use mathlib.Core.List.{List, [], _∷_, _++_, append-assoc}
-use Prim.Native.Nat.{ℕ, suc, _+_, _/_, _%_, _<_, _≤_}
+use Prim.Native.Char.{code}
+use Prim.Native.Nat.{ℕ, suc, _+_, _*_, _/_, _%_, _<_, _≤_}
 use native.Mathlib.Omega.{arith}
 use lib.IntN.{ℤ}
 use lib.ListN.{length, take, drop, set, length-append, length-set}
 use lib.Seq.{length-take-le}
+use mir.Syntax.{w32}
+use mir.Val.{SFits, toZ, ofZ}
 use Rattle.vrf_bitio.specs.Pasted.{pasted}
-use Rattle.vrf_names.specs.Names.{decimal, suffix, rendered}
-use Rattle.vrf_names.specs.Answers.{suffixText}
-use Rattle.vrf_names.specs.NamesLaws.{decimal-one, decimal-more, more-length}
+use Rattle.vrf_names.specs.Names.{decimal, suffix, rendered, refused, renderedInto}
+use Rattle.vrf_names.specs.Answers.{suffixText, answerOf, RenderedAnswer}
+use Rattle.vrf_names.specs.NamesLaws.{decimal-one, decimal-more, more-length, into-long, into-short, into-fits}
 use Rattle.vrf_bitio.specs.PastedLaws.{pasted-nil, pasted-cons, pasted-snoc, pasted-front}
+use Rattle.vrf_names.proofs.Signed.{as-passed}
 use Rattle.vrf_names.specs.declared.Suffix.{Suffix}
 use Rattle.vrf_names.specs.declared.Suffix.the-variants.{Empty, Plain, Minus}
+use Rattle.vrf_names.specs.declared.Rendered.{Rendered}
+use Rattle.vrf_names.specs.declared.Rendered.the-variants.{Length, Refused}
 
 -- a number put into a buffer: what is left of it, its last digit at place end
 module _ (out : List ℕ) (at rest end : ℕ) (e : end + 1 ≡ at + length (decimal rest)) (h : end < length out) where
-  pub digit-next : 10 ≤ rest → pasted out at (decimal rest) ≡ pasted (set out end (48 + rest % 10)) at (decimal (rest / 10))
+  pub digit-next : 10 ≤ rest → pasted out at (decimal rest) ≡ pasted (set out end (code "0" + rest % 10)) at (decimal (rest / 10))
   digit-next l =
       let p : end ≡ at + length (decimal (rest / 10)) = omega (arith, more-length rest l) in
       let b : at + length (decimal (rest / 10)) < length out = omega arith in
-      rw (p, decimal-more rest l) (pasted-snoc out at (48 + rest % 10) (decimal (rest / 10)) b)
+      rw (p, decimal-more rest l) (pasted-snoc out at (code "0" + rest % 10) (decimal (rest / 10)) b)
 
-  pub digit-last : rest < 10 → pasted out at (decimal rest) ≡ set out end (48 + rest)
+  pub digit-last : rest < 10 → pasted out at (decimal rest) ≡ set out end (code "0" + rest)
   digit-last l =
       let n : length (decimal rest) ≡ 1 = rw (decimal-one rest l) in
       let p : end ≡ at = omega arith in
       let b : at < length out = omega arith in
-      rw (p, decimal-one rest l) (pasted-cons out at (48 + rest) [] b ∙ pasted-nil (set out at (48 + rest)) (at + 1))
+      rw (p, decimal-one rest l) (pasted-cons out at (code "0" + rest) [] b ∙ pasted-nil (set out at (code "0" + rest)) (at + 1))
 
 -- what a number adds, put into a buffer
 module _ (out : List ℕ) (at : ℕ) {s : Suffix} where
@@ -38,29 +44,54 @@ module _ (out : List ℕ) (at : ℕ) {s : Suffix} where
     pub plain-room : s ≡ Plain n → at + (1 + length (decimal n)) ≤ length out
     plain-room e = let g : at + suc (length (decimal n)) ≤ length out = rw e at h in omega arith
 
-    pub put-plain : s ≡ Plain n → {o : List ℕ} → o ≡ pasted (set out at 95) (at + 1) (decimal n) → o ≡ pasted out at (suffixText s)
-    put-plain e eo = eo ∙ rw e (sym (pasted-cons out at 95 (decimal n) (omega (arith, plain-room e))))
+    pub put-plain : s ≡ Plain n → {o : List ℕ} → o ≡ pasted (set out at (code "_")) (at + 1) (decimal n) → o ≡ pasted out at (suffixText s)
+    put-plain e eo = eo ∙ rw e (sym (pasted-cons out at (code "_") (decimal n) (omega (arith, plain-room e))))
 
     pub minus-room : s ≡ Minus n → at + (2 + length (decimal n)) ≤ length out
     minus-room e = let g : at + suc (suc (length (decimal n))) ≤ length out = rw e at h in omega arith
 
-    pub put-minus : s ≡ Minus n → {o : List ℕ} → o ≡ pasted (set (set out at 95) (at + 1) 45) (at + 2) (decimal n) → o ≡ pasted out at (suffixText s)
+    pub put-minus : s ≡ Minus n → {o : List ℕ} → o ≡ pasted (set (set out at (code "_")) (at + 1) (code "-")) (at + 2) (decimal n) → o ≡ pasted out at (suffixText s)
     put-minus e eo =
         let two : at + 2 ≡ at + 1 + 1 = omega arith in
         let a : at < length out = omega (arith, minus-room e) in
-        let b : at + 1 < length (set out at 95) = rw length-set (omega (arith, minus-room e)) in
-        eo ∙ rw (e, two) (sym (pasted-cons out at 95 (45 ∷ decimal n) a ∙ pasted-cons (set out at 95) (at + 1) 45 (decimal n) b))
+        let b : at + 1 < length (set out at (code "_")) = rw length-set (omega (arith, minus-room e)) in
+        eo ∙ rw (e, two) (sym (pasted-cons out at (code "_") (code "-" ∷ decimal n) a ∙ pasted-cons (set out at (code "_")) (at + 1) (code "-") (decimal n) b))
 
--- a text at the front of a buffer
-pub put-front : (out t : List ℕ) {o : List ℕ} {n : ℕ} → n ≡ length t → o ≡ pasted out 0 t → o ≡ t ++ drop n out
-put-front out t en eo = eo ∙ pasted-front out t ∙ rw en
+-- what a rendering answers, for a text t of so many bytes: too long, a buffer of m bytes that is too short, and written
+module _ (m : ℕ) (t before : List ℕ) {len : ℕ} (en : len ≡ length t) where
+  pub answer-long : 4096 < len → RenderedAnswer (renderedInto m t) before before (Refused (record { number = 41; a = len; b = 0 }))
+  answer-long h = rw (into-long m t (omega arith), en) (record { answer = refl; bytes = refl })
+
+  pub answer-short : len ≤ 4096 → m < len → {r : Rendered} → r ≡ answerOf (refused 15 (8 * len) (8 * m)) → RenderedAnswer (renderedInto m t) before before r
+  answer-short l h er = rw (into-short m t (omega arith) (omega arith), er, en) (record { answer = refl; bytes = refl })
+
+  pub answer-fits : len ≤ 4096 → len ≤ m → {after : List ℕ} → after ≡ pasted before 0 t → RenderedAnswer (renderedInto m t) before after (Length len)
+  answer-fits l h ea = rw (into-fits m t (omega arith) (omega arith), ea, en) (record { answer = refl; bytes = refl })
+
+-- what a number adds, behind the first n bytes of a buffer
+written : (out : List ℕ) (n : ℕ) (z : ℤ) (s : Suffix) → suffixText s ≡ suffix z → {r : ℕ} → r ≡ length (suffixText s)
+    → pasted out n (suffixText s) ≡ rendered (take n out) z ++ drop (n + r) out
+unfolding rendered pasted
+written out n z s e er = rw (er, e, append-assoc)
 
 -- a base text at the front of a buffer, and what its number adds
-module _ (out : List ℕ) (n : ℕ) (base : n ≤ length out) (z : ℤ) (s : Suffix) (e : suffixText s ≡ suffix z) {r : ℕ} (er : r ≡ length (suffixText s)) where
-  pub rendered-length : n + r ≡ length (rendered (take n out) z)
-  unfolding rendered
-  rendered-length = rw (er, e, length-append, length-take-le n out base)
+module _ (out : List ℕ) (n : ℕ) (base : n ≤ length out) (z : ℤ) (fits : SFits w32 z) (s : Suffix) (e : suffixText s ≡ suffix (toZ w32 (ofZ w32 z))) {r : ℕ} (er : r ≡ length (suffixText s)) where
+  abbrev name : List ℕ
+  name = rendered (take n out) z
 
-  pub put-rendered : {p : List ℕ} → p ≡ pasted out n (suffixText s) → p ≡ rendered (take n out) z ++ drop (n + r) out
-  unfolding rendered pasted
-  put-rendered ep = ep ∙ rw (er, e, append-assoc)
+  long : n + r ≡ length name
+  unfolding rendered
+  long = rw (er, as-passed z fits e, length-append, length-take-le n out base)
+
+  pub append-long : 4096 < n + r → RenderedAnswer (renderedInto (length out) name) out out (Refused (record { number = 41; a = n + r; b = 0 }))
+  append-long h = answer-long (length out) name out long h
+
+  pub append-short : n + r ≤ 4096 → length out < n + r → {q : Rendered} → q ≡ answerOf (refused 15 (8 * (n + r)) (8 * length out))
+      → RenderedAnswer (renderedInto (length out) name) out out q
+  append-short l h eq = answer-short (length out) name out long l h eq
+
+  pub append-fits : n + r ≤ 4096 → n + r ≤ length out → {p : List ℕ} → p ≡ pasted out n (suffixText s)
+      → RenderedAnswer (renderedInto (length out) name) out p (Length (n + r))
+  append-fits l h ep =
+      let front : pasted out n (suffixText s) ≡ pasted out 0 name = written out n z s (as-passed z fits e) er ∙ rw long (sym (pasted-front out name)) in
+      answer-fits (length out) name out long l h (ep ∙ front)

@@ -2,6 +2,7 @@
 use mathlib.Core.Path.{_≡_, refl, sym, ap, _∙_, subst}
 use mathlib.Core.Bool.{true, false}
 use mathlib.Core.List.{List, _∷_}
+use Prim.Native.Char.{code}
 use Prim.Native.Nat.{ℕ, zero, suc, _+_, _<_, _≤_}
 use native.Mathlib.Numerals.{add-one}
 use native.Mathlib.Omega.{arith}
@@ -56,7 +57,7 @@ module _ (z : ℤ) (h : SFits w32 z) (m : ℕ) (e : z ≡ pos (suc m)) where
   pub less-casts : T (nonNeg (toZ w32 (ofZ w32 (toZ w32 (ofZ w32 z) -ℤ pos 1)))) × Fits w32 (natAbs (toZ w32 (ofZ w32 (toZ w32 (ofZ w32 z) -ℤ pos 1))))
   less-casts = rw less (tt, record { fits = omega (arith, below) })
 
-  pub plain : 95 ∷ decimal (natAbs (toZ w32 (ofZ w32 (toZ w32 (ofZ w32 z) -ℤ pos 1)))) ≡ suffix z
+  pub plain : code "_" ∷ decimal (natAbs (toZ w32 (ofZ w32 (toZ w32 (ofZ w32 z) -ℤ pos 1)))) ≡ suffix z
   unfolding suffix
   plain = rw (less, e)
 
@@ -95,6 +96,6 @@ module _ (z : ℤ) (h : SFits w32 z) (m : ℕ) (e : z ≡ negsuc m) where
   pub magnitude-fits : Fits w32 (natAbs (toZ w32 (ofZ w32 (pos 0 -ℤ toZ w32 (ofZ w32 (toZ w32 (ofZ w32 z) +ℤ pos 1))))) + 1)
   magnitude-fits = rw lacking (record { fits = omega (arith, below-half) })
 
-  pub minus : 95 ∷ 45 ∷ decimal (natAbs (toZ w32 (ofZ w32 (pos 0 -ℤ toZ w32 (ofZ w32 (toZ w32 (ofZ w32 z) +ℤ pos 1))))) + 1) ≡ suffix z
+  pub minus : code "_" ∷ code "-" ∷ decimal (natAbs (toZ w32 (ofZ w32 (pos 0 -ℤ toZ w32 (ofZ w32 (toZ w32 (ofZ w32 z) +ℤ pos 1))))) + 1) ≡ suffix z
   unfolding suffix
   minus = rw (lacking, e, add-one)

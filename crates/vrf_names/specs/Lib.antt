@@ -3,3 +3,4 @@ pub mod Names
 pub mod Answers
 pub mod Examples
 pub mod NamesLaws
+pub mod Determined

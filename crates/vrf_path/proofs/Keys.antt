@@ -3,6 +3,7 @@ use mathlib.Core.Path.{_≡_, refl, sym, ap, _∙_}
 use mathlib.Core.Bool.{Bool, true, false}
 use mathlib.Core.List.{List, _∷_, _++_}
 use mathlib.Core.Option.{Option}
+use Prim.Native.Char.{code}
 use Prim.Native.Nat.{ℕ, suc, _+_, _-_, _<_, _≤_}
 use native.Mathlib.Omega.{arith}
 use borrow.Author.Tests.{ltb-true, ltb-false}
@@ -44,33 +45,33 @@ past p t i h =
 -- the bytes of a path with `/` for its `/_Core/`
 module _ (t : List ℕ) (at i : ℕ) where
   module _ (h : length t < at) where
-    pub cut-past-slash : i ≡ length t → 47 ≡ getD (keyBytes t (Cut at)) i 0
-    cut-past-slash e = sym (getD-at (take at t) 47 (drop (at + 7) t) 0 i (rw (take-all at t (omega arith)) (sym e)))
+    pub cut-past-slash : i ≡ length t → code "/" ≡ getD (keyBytes t (Cut at)) i 0
+    cut-past-slash e = sym (getD-at (take at t) (code "/") (drop (at + 7) t) 0 i (rw (take-all at t (omega arith)) (sym e)))
 
     pub cut-past : (i ≡ length t → ⊥) → {r : ℕ} → r ≡ getD t i 0 → r ≡ getD (keyBytes t (Cut at)) i 0
     cut-past e er = er ∙ sym (by (ltb i (length t)) refl)
       where
-        size : length (take at t ++ (47 ∷ drop (at + 7) t)) ≡ length t + 1
+        size : length (take at t ++ (code "/" ∷ drop (at + 7) t)) ≡ length t + 1
         size = simp (length-append, length-take, length-drop) (omega arith)
 
-        by : (x : Bool) → ltb i (length t) ≡ x → getD (take at t ++ (47 ∷ drop (at + 7) t)) i 0 ≡ getD t i 0
+        by : (x : Bool) → ltb i (length t) ≡ x → getD (take at t ++ (code "/" ∷ drop (at + 7) t)) i 0 ≡ getD t i 0
         by true x =
             let hi : i < length t = ltb-true i (length t) x in
-            List·getD-append (take at t) (47 ∷ drop (at + 7) t) 0 i (rw length-take (omega arith)) ∙ getD-take at t i 0 (omega arith)
+            List·getD-append (take at t) (code "/" ∷ drop (at + 7) t) 0 i (rw length-take (omega arith)) ∙ getD-take at t i 0 (omega arith)
         by false x =
             let hi : length t ≤ i = ltb-false i (length t) x in
-            List·getD-eq-default (take at t ++ (47 ∷ drop (at + 7) t)) 0 (omega (arith, size)) ∙ sym (List·getD-eq-default t 0 hi)
+            List·getD-eq-default (take at t ++ (code "/" ∷ drop (at + 7) t)) 0 (omega (arith, size)) ∙ sym (List·getD-eq-default t 0 hi)
 
   module _ (h : at ≤ length t) where
     pub cut-before : i < at → {r : ℕ} → r ≡ getD t i 0 → r ≡ getD (keyBytes t (Cut at)) i 0
-    cut-before hi er = er ∙ sym (List·getD-append (take at t) (47 ∷ drop (at + 7) t) 0 i (rw length-take (omega arith)) ∙ getD-take at t i 0 hi)
+    cut-before hi er = er ∙ sym (List·getD-append (take at t) (code "/" ∷ drop (at + 7) t) 0 i (rw length-take (omega arith)) ∙ getD-take at t i 0 hi)
 
-    pub cut-slash : i ≡ at → 47 ≡ getD (keyBytes t (Cut at)) i 0
-    cut-slash e = sym (getD-at (take at t) 47 (drop (at + 7) t) 0 i (length-take-le at t h ∙ sym e))
+    pub cut-slash : i ≡ at → code "/" ≡ getD (keyBytes t (Cut at)) i 0
+    cut-slash e = sym (getD-at (take at t) (code "/") (drop (at + 7) t) 0 i (length-take-le at t h ∙ sym e))
 
     pub cut-behind : at ≤ i → (i ≡ at → ⊥) → {r : ℕ} → r ≡ getD t (i + 6) 0 → r ≡ getD (keyBytes t (Cut at)) i 0
     cut-behind hi e er =
-        er ∙ sym (past (take at t) (47 ∷ drop (at + 7) t) i (rw length-take (omega arith))
+        er ∙ sym (past (take at t) (code "/" ∷ drop (at + 7) t) i (rw length-take (omega arith))
         ∙ rw (length-take-le at t h, next) (getD-drop (at + 7) t (i - at - 1) 0 ∙ ap (λ (n : ℕ). getD t n 0) place))
       where
         next : i - at ≡ suc (i - at - 1)

@@ -1,15 +1,16 @@
 -- What the code's answers stand for.
 use mathlib.Core.Path.{_≡_}
-use mathlib.Core.Bool.{Bool, true, false}
+use mathlib.Core.Bool.{Bool, true, false, cond}
 use mathlib.Core.List.{List, [], _∷_, _++_}
 use mathlib.Core.Option.{Option, none, some, Option·getD}
+use Prim.Native.Char.{code}
 use Prim.Native.Nat.{ℕ, _+_, _<_, _≤_}
-use lib.ListN.{length, take, drop}
-use Rattle.vrf_path.specs.Text.{same}
-use Rattle.vrf_path.specs.Keys.{defaultPrefix, charactersCore}
+use lib.ListN.{length, getD, take, drop}
+use Rattle.vrf_path.specs.Text.{same, startsWith, firstFrom}
+use Rattle.vrf_path.specs.Keys.{defaultPrefix, coreSegment, charactersRoot, charactersCore, hasSeparator}
 use Rattle.vrf_path.specs.Leaf.{leaf}
 use Rattle.vrf_path.specs.Toggle.{classNetCache, toggle}
-use Rattle.vrf_path.specs.Stems.{cutsBelow, digitsFrom, digitStems, capitalStems}
+use Rattle.vrf_path.specs.Stems.{cutsBelow, isDigit, isCapital, digitsFrom, digitStems, capitalStems}
 use Rattle.vrf_path.specs.declared.Found.{Found}
 use Rattle.vrf_path.specs.declared.Found.the-variants.{At as FoundAt, Nowhere}
 use Rattle.vrf_path.specs.declared.Key.{Key}
@@ -42,9 +43,25 @@ abbrev pub spelled : List ℕ → Key → Option (List ℕ)
 spelled t Itself = some t
 spelled t Stripped = some (drop 9 t)
 spelled t Prefixed = some (defaultPrefix ++ t)
-spelled t (Cut i) = some (take i t ++ (47 ∷ drop (i + 7) t))
+spelled t (Cut i) = some (take i t ++ (code "/" ∷ drop (i + 7) t))
 spelled t Inserted = some (charactersCore ++ drop 17 t)
 spelled t Absent = none
+
+-- how the default alias and the core alias of the path t are spelled, by the cases of `defaultAlias` and `coreAlias`
+unfoldable pub defaultKey : List ℕ → Key
+defaultKey t = cond (startsWith defaultPrefix t) Stripped (cond (hasSeparator t) Absent Prefixed)
+
+unfoldable pub coreKeyAt : List ℕ → Option ℕ → Key
+coreKeyAt t (some i) = Cut i
+coreKeyAt t none = cond (startsWith charactersRoot t) Inserted Absent
+
+unfoldable pub coreKey : List ℕ → Key
+coreKey t = coreKeyAt t (firstFrom coreSegment 0 t)
+
+-- the key spells the alias of the path t, and in this way: `/_Core/_Core/_Core/` could be cut at two places to the same text
+pub record KeyAnswer (t : List ℕ) (alias : List ℕ → Option (List ℕ)) (key : List ℕ → Key) (r : Key) : Type 0 where
+  pub text : spelled t r ≡ alias t
+  pub made : r ≡ key t
 
 -- whether there is no such key
 abbrev pub absent : Key → Bool
@@ -86,7 +103,16 @@ abbrev pub stemLength : Stem → ℕ
 stemLength (StemAt n phase) = n
 stemLength End = 0
 
--- the stems l are this one and those that follow it
+-- by which rule the stem of n bytes was made: behind it stands a digit, a capital, or neither
+unfoldable pub ruleAt : List ℕ → ℕ → Phase
+ruleAt name n = cond (isDigit (getD name n 0)) Digits (cond (isCapital (getD name n 0)) Capital Underscore)
+
+abbrev pub Ruled : List ℕ → Stem → Type 0
+Ruled name (StemAt n phase) = phase ≡ ruleAt name n
+Ruled name End = Unit {0}
+
+-- the stems l are this one, made by its rule, and those that follow it
 pub record StemAnswer (name : List ℕ) (l : List (List ℕ)) (s : Stem) : Type 0 where
   pub stems : l ≡ stemsFrom name s
   pub within : stemLength s ≤ length name
+  pub rule : Ruled name s

@@ -2,30 +2,32 @@
 use mathlib.Core.Bool.{Bool, false, cond, _||_}
 use mathlib.Core.List.{List, [], _∷_, _++_, Option·toList}
 use mathlib.Core.Option.{Option, none, some}
+use Prim.Native.Char.{code}
 use Prim.Native.Nat.{ℕ, _+_}
 use lib.Dec.{eqb}
 use lib.ListN.{length, take, drop}
+use Rattle.vrf_bitio.specs.Ascii.{ascii}
 use Rattle.vrf_path.specs.Text.{same, startsWith, firstFrom}
 
--- `Default__`
 unfoldable pub defaultPrefix : List ℕ
-defaultPrefix = 68 ∷ 101 ∷ 102 ∷ 97 ∷ 117 ∷ 108 ∷ 116 ∷ 95 ∷ 95 ∷ []
+unfolding ascii
+defaultPrefix = ascii "Default__"
 
--- `/_Core/`
 unfoldable pub coreSegment : List ℕ
-coreSegment = 47 ∷ 95 ∷ 67 ∷ 111 ∷ 114 ∷ 101 ∷ 47 ∷ []
+unfolding ascii
+coreSegment = ascii "/_Core/"
 
--- `/Game/Characters/`
 unfoldable pub charactersRoot : List ℕ
-charactersRoot = 47 ∷ 71 ∷ 97 ∷ 109 ∷ 101 ∷ 47 ∷ 67 ∷ 104 ∷ 97 ∷ 114 ∷ 97 ∷ 99 ∷ 116 ∷ 101 ∷ 114 ∷ 115 ∷ 47 ∷ []
+unfolding ascii
+charactersRoot = ascii "/Game/Characters/"
 
--- `/Game/Characters/_Core/`
 unfoldable pub charactersCore : List ℕ
-charactersCore = 47 ∷ 71 ∷ 97 ∷ 109 ∷ 101 ∷ 47 ∷ 67 ∷ 104 ∷ 97 ∷ 114 ∷ 97 ∷ 99 ∷ 116 ∷ 101 ∷ 114 ∷ 115 ∷ 47 ∷ 95 ∷ 67 ∷ 111 ∷ 114 ∷ 101 ∷ 47 ∷ []
+unfolding ascii
+charactersCore = ascii "/Game/Characters/_Core/"
 
 -- one of `/ . :`
 unfoldable pub isSeparator : ℕ → Bool
-isSeparator b = eqb b 47 || (eqb b 46 || eqb b 58)
+isSeparator b = eqb b (code "/") || (eqb b (code ".") || eqb b (code ":"))
 
 unfoldable pub hasSeparator : List ℕ → Bool
 hasSeparator [] = false
@@ -38,9 +40,9 @@ defaultAlias t =
     (cond (hasSeparator t) none
     (some (defaultPrefix ++ t)))
 
--- core alias: the first `/_Core/`, at place i, becomes `/` (47); else a leading `/Game/Characters/` becomes `/Game/Characters/_Core/`; else none
+-- core alias: the first `/_Core/`, at place i, becomes `/`; else a leading `/Game/Characters/` becomes `/Game/Characters/_Core/`; else none
 unfoldable pub coreAliasAt : List ℕ → Option ℕ → Option (List ℕ)
-coreAliasAt t (some i) = some (take i t ++ (47 ∷ drop (i + length coreSegment) t))
+coreAliasAt t (some i) = some (take i t ++ (code "/" ∷ drop (i + length coreSegment) t))
 coreAliasAt t none = cond (startsWith charactersRoot t) (some (charactersCore ++ drop (length charactersRoot) t)) none
 
 unfoldable pub coreAlias : List ℕ → Option (List ℕ)

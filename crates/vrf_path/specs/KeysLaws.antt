@@ -4,6 +4,7 @@ use mathlib.Core.Bool.{Bool, true, false, _||_, or-false}
 use mathlib.Core.Logic.{_⊎_, inl, inr, ⊎-elim}
 use mathlib.Core.List.{List, [], _∷_, _++_, Option·toList}
 use mathlib.Core.Option.{Option, none, some}
+use Prim.Native.Char.{code}
 use Prim.Native.Nat.{ℕ, zero, suc, _+_, _-_, _<_, _≤_}
 use native.Mathlib.Numerals.{add-one}
 use native.Mathlib.Omega.{arith}
@@ -11,6 +12,8 @@ use lib.ListN.{length, getD, take, drop, drop-of-length-le, length-append, lengt
 use lib.Seq.{drop-cons, drop-drop}
 use Rattle.vrf_path.specs.Text.{same, startsWith, firstFrom}
 use Rattle.vrf_path.specs.Keys.{isSeparator, hasSeparator, defaultPrefix, charactersRoot, charactersCore, coreSegment, defaultAlias, coreAliasAt, coreAlias, keys, isOneOf, hasKey, isThe}
+use Rattle.vrf_path.specs.Answers.{defaultKey, coreKeyAt, coreKey, KeyAnswer}
+use Rattle.vrf_path.specs.declared.Key.the-variants.{Stripped, Prefixed, Cut, Inserted, Absent}
 use Rattle.vrf_path.specs.TextLaws.{same-lengths, same-true, starts-length, first-within}
 
 -- separators from a place on
@@ -73,33 +76,33 @@ module _ (t : List ℕ) (i p j : ℕ) (hp : i ≤ p) (hj : p ≤ j) where
 
 -- the default alias by cases
 module _ (t : List ℕ) where
-  pub default-stripped : startsWith defaultPrefix t ≡ true → defaultAlias t ≡ some (drop 9 t)
-  unfolding defaultAlias defaultPrefix
-  default-stripped e = rw e
+  pub default-stripped : startsWith defaultPrefix t ≡ true → KeyAnswer t defaultAlias defaultKey Stripped
+  unfolding defaultAlias defaultKey defaultPrefix
+  default-stripped e = record { text = rw e; made = rw e }
 
   module _ (e : startsWith defaultPrefix t ≡ false) where
-    pub default-none : hasSeparator t ≡ true → defaultAlias t ≡ none
-    unfolding defaultAlias
-    default-none h = rw (e, h)
+    pub default-none : hasSeparator t ≡ true → KeyAnswer t defaultAlias defaultKey Absent
+    unfolding defaultAlias defaultKey
+    default-none h = record { text = rw (e, h); made = rw (e, h) }
 
-    pub default-prefixed : hasSeparator t ≡ false → defaultAlias t ≡ some (defaultPrefix ++ t)
-    unfolding defaultAlias
-    default-prefixed h = rw (e, h)
+    pub default-prefixed : hasSeparator t ≡ false → KeyAnswer t defaultAlias defaultKey Prefixed
+    unfolding defaultAlias defaultKey
+    default-prefixed h = record { text = rw (e, h); made = rw (e, h) }
 
 -- the core alias by cases
 module _ (t : List ℕ) where
-  pub core-cut : {i : ℕ} → firstFrom coreSegment 0 t ≡ some i → coreAlias t ≡ some (take i t ++ (47 ∷ drop (i + 7) t))
-  unfolding coreAlias coreAliasAt coreSegment
-  core-cut e = rw e
+  pub core-cut : {i : ℕ} → firstFrom coreSegment 0 t ≡ some i → KeyAnswer t coreAlias coreKey (Cut i)
+  unfolding coreAlias coreAliasAt coreKey coreKeyAt coreSegment
+  core-cut e = record { text = rw e; made = rw e }
 
   module _ (e : firstFrom coreSegment 0 t ≡ none) where
-    pub core-inserted : startsWith charactersRoot t ≡ true → coreAlias t ≡ some (charactersCore ++ drop 17 t)
-    unfolding coreAlias coreAliasAt charactersRoot
-    core-inserted h = rw (e, h)
+    pub core-inserted : startsWith charactersRoot t ≡ true → KeyAnswer t coreAlias coreKey Inserted
+    unfolding coreAlias coreAliasAt coreKey coreKeyAt charactersRoot
+    core-inserted h = record { text = rw (e, h); made = rw (e, h) }
 
-    pub core-none : startsWith charactersRoot t ≡ false → coreAlias t ≡ none
-    unfolding coreAlias coreAliasAt
-    core-none h = rw (e, h)
+    pub core-none : startsWith charactersRoot t ≡ false → KeyAnswer t coreAlias coreKey Absent
+    unfolding coreAlias coreAliasAt coreKey coreKeyAt
+    core-none h = record { text = rw (e, h); made = rw (e, h) }
 
 -- how long an alias is: `Default__` has 9 bytes and `_Core/` has 6
 pub default-length : (t : List ℕ) {k : List ℕ} → defaultAlias t ≡ some k → (length k + 9 ≡ length t) ⊎ (length k ≡ length t + 9)
@@ -108,11 +111,11 @@ default-length t {k} e = by (startsWith defaultPrefix t) refl (hasSeparator t) r
   where
     by : (x : Bool) → startsWith defaultPrefix t ≡ x → (y : Bool) → hasSeparator t ≡ y → (length k + 9 ≡ length t) ⊎ (length k ≡ length t + 9)
     by true ex y ey =
-        let ek : k ≡ drop 9 t = cc (default-stripped t ex) in
+        let ek : k ≡ drop 9 t = cc (default-stripped t ex .text) in
         inl (rw (ek, length-drop) (omega (arith, starts-length defaultPrefix t ex)))
-    by false ex true ey = absurd (let z : _≡_ {A = ℕ} 0 1 = cc (default-none t ex ey) in omega arith)
+    by false ex true ey = absurd (let z : _≡_ {A = ℕ} 0 1 = cc (default-none t ex ey .text) in omega arith)
     by false ex false ey =
-        let ek : k ≡ defaultPrefix ++ t = cc (default-prefixed t ex ey) in
+        let ek : k ≡ defaultPrefix ++ t = cc (default-prefixed t ex ey .text) in
         inr (rw ek (omega arith))
 
 pub core-length : (t : List ℕ) {k : List ℕ} → coreAlias t ≡ some k → (length k + 6 ≡ length t) ⊎ (length k ≡ length t + 6)
@@ -121,12 +124,12 @@ core-length t {k} e = by (firstFrom coreSegment 0 t) refl (startsWith characters
   where
     by : (x : Option ℕ) → firstFrom coreSegment 0 t ≡ x → (y : Bool) → startsWith charactersRoot t ≡ y → (length k + 6 ≡ length t) ⊎ (length k ≡ length t + 6)
     by (some i) ex y ey =
-        let ek : k ≡ take i t ++ (47 ∷ drop (i + 7) t) = cc (core-cut t ex) in
+        let ek : k ≡ take i t ++ (code "/" ∷ drop (i + 7) t) = cc (core-cut t ex .text) in
         inl (rw ek (simp (length-append, length-take, length-drop) (omega (arith, first-within coreSegment t 0 ex))))
     by none ex true ey =
-        let ek : k ≡ charactersCore ++ drop 17 t = cc (core-inserted t ex ey) in
+        let ek : k ≡ charactersCore ++ drop 17 t = cc (core-inserted t ex ey .text) in
         inr (rw ek (simp length-drop (omega (arith, starts-length charactersRoot t ey))))
-    by none ex false ey = absurd (let z : _≡_ {A = ℕ} 0 1 = cc (core-none t ex ey) in omega arith)
+    by none ex false ey = absurd (let z : _≡_ {A = ℕ} 0 1 = cc (core-none t ex ey .text) in omega arith)
 
 -- a text of another length is not the core alias
 pub core-other : (t k : List ℕ) → (length k + 6 ≡ length t → ⊥) → (length t + 6 ≡ length k → ⊥) → isThe (coreAlias t) k ≡ false

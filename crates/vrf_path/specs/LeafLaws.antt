@@ -3,6 +3,7 @@ use mathlib.Core.Path.{_≡_, refl, sym, ap, _∙_}
 use mathlib.Core.Bool.{Bool, true, false, cond}
 use mathlib.Core.List.{List, [], _∷_, _++_}
 use mathlib.Core.Option.{Option, none, some}
+use Prim.Native.Char.{code}
 use Prim.Native.Nat.{ℕ, zero, suc, _+_, _-_, _<_, _≤_}
 use native.Mathlib.Omega.{arith}
 use borrow.Author.Tests.{eqb-true, eqb-false, ne-eqb, leb-true, leb-false}
@@ -15,7 +16,7 @@ use Rattle.vrf_path.specs.KeysLaws.{neither}
 use Rattle.vrf_path.specs.Leaf.{leafAfter, leaf, Dotless}
 use Rattle.vrf_path.specs.TextLaws.{non-empty, all-empty, last-here}
 
-module _ (t : List ℕ) {i : ℕ} (e : lastBelow 46 t (length t) ≡ some i) where
+module _ (t : List ℕ) {i : ℕ} (e : lastBelow (code ".") t (length t) ≡ some i) where
   pub leaf-behind : i + 1 < length t → leaf t ≡ some (drop (i + 1) t)
   unfolding leaf leafAfter
   leaf-behind h = rw e (non-empty (drop (i + 1) t) (rw length-drop (omega arith)))
@@ -24,7 +25,7 @@ module _ (t : List ℕ) {i : ℕ} (e : lastBelow 46 t (length t) ≡ some i) whe
   unfolding leaf leafAfter
   leaf-empty h = rw e (all-empty (drop (i + 1) t) (rw length-drop (omega arith)))
 
-pub leaf-no-dot : (t : List ℕ) → lastBelow 46 t (length t) ≡ none → leaf t ≡ none
+pub leaf-no-dot : (t : List ℕ) → lastBelow (code ".") t (length t) ≡ none → leaf t ≡ none
 unfolding leaf leafAfter
 leaf-no-dot t e = rw e
 
@@ -64,12 +65,12 @@ separators-take (suc n) (b ∷ t) h = let k = neither (isSeparator b) (hasSepara
 pub record LeafIs (t l : List ℕ) : Type 0 where
   pub shorter : length l < length t
   pub tail : drop (length t - length l) t ≡ l
-  pub dot : getD t (length t - length l - 1) 0 ≡ 46
+  pub dot : getD t (length t - length l - 1) 0 ≡ code "."
   pub some-bytes : 0 < length l
   pub dotless : Dotless l
 
 -- the last byte b below n: it is one, and none behind it is
-last-is : (b : ℕ) (t : List ℕ) (n : ℕ) {i : ℕ} → lastBelow b t n ≡ some i → (getD t i 0 ≡ b) × ((j : ℕ) → i < j → j < n → getD t j 0 ≡ b → ⊥)
+pub last-is : (b : ℕ) (t : List ℕ) (n : ℕ) {i : ℕ} → lastBelow b t n ≡ some i → (getD t i 0 ≡ b) × ((j : ℕ) → i < j → j < n → getD t j 0 ≡ b → ⊥)
 unfolding lastBelow
 last-is b t zero e = absurd (let z : _≡_ {A = ℕ} 0 1 = cc in omega arith)
 last-is b t (suc n) {i} e = by (eqb (getD t n 0) b) refl e (λ es. last-is b t n es)
@@ -95,9 +96,9 @@ last-skip b t k (suc d) h =
 
 -- the leaf, by the place of the last dot
 pub leaf-is : (t l : List ℕ) → leaf t ≡ some l → LeafIs t l
-leaf-is t l e = by (lastBelow 46 t (length t)) refl
+leaf-is t l e = by (lastBelow (code ".") t (length t)) refl
   where
-    by : (o : Option ℕ) → lastBelow 46 t (length t) ≡ o → LeafIs t l
+    by : (o : Option ℕ) → lastBelow (code ".") t (length t) ≡ o → LeafIs t l
     by none eo = absurd (let z = leaf-no-dot t eo in let y : _≡_ {A = ℕ} 0 1 = cc in omega arith)
     by (some i) eo = in-order (length t) (i + 1)
         (λ h. absurd (let z = leaf-empty t eo h in let y : _≡_ {A = ℕ} 0 1 = cc in omega arith))
@@ -105,14 +106,14 @@ leaf-is t l e = by (lastBelow 46 t (length t)) refl
         let size : length l ≡ length t - (i + 1) = rw el (length-drop (i + 1) t) in
         let behind : length t - length l ≡ i + 1 = omega arith in
         let before : length t - length l - 1 ≡ i = omega arith in
-        let last = last-is 46 t (length t) eo in
+        let last = last-is (code ".") t (length t) eo in
         record {
           shorter = omega arith;
           tail = rw behind (sym el);
           dot = rw before (last .0);
           some-bytes = omega arith;
           dotless = λ j ej.
-              let there : getD t (i + 1 + j) 0 ≡ 46 = sym (getD-drop (i + 1) t j 0) ∙ rw el at ej in
+              let there : getD t (i + 1 + j) 0 ≡ code "." = sym (getD-drop (i + 1) t j 0) ∙ rw el at ej in
               in-order (length t) (i + 1 + j) (λ past. omega (arith, getD-past t (i + 1 + j) past)) (λ within. last .1 (i + 1 + j) (omega arith) within there);
         })
 
@@ -120,7 +121,7 @@ pub is-leaf : (t l : List ℕ) → LeafIs t l → leaf t ≡ some l
 is-leaf t l is =
     let k : ℕ = length t - length l in
     let whole : length t ≡ k + length l = omega (arith, is .shorter) in
-    let dotless : (j : ℕ) → j < length l → getD t (k + j) 0 ≡ 46 → ⊥ = λ j _ e. is .dotless j (rw (is .tail) at (getD-drop k t j 0 ∙ e)) in
-    let last : lastBelow 46 t (length t) ≡ some (k - 1) = ap (lastBelow 46 t) whole ∙ last-skip 46 t k (length l) dotless ∙ last-here 46 t (k - 1) (omega (arith, is .shorter)) (is .dot) in
+    let dotless : (j : ℕ) → j < length l → getD t (k + j) 0 ≡ code "." → ⊥ = λ j _ e. is .dotless j (rw (is .tail) at (getD-drop k t j 0 ∙ e)) in
+    let last : lastBelow (code ".") t (length t) ≡ some (k - 1) = ap (lastBelow (code ".") t) whole ∙ last-skip (code ".") t k (length l) dotless ∙ last-here (code ".") t (k - 1) (omega (arith, is .shorter)) (is .dot) in
     let behind : k - 1 + 1 ≡ k = omega (arith, is .shorter) in
     rw (behind, is .tail) at (leaf-behind t last (omega (arith, is .shorter, is .some-bytes)))

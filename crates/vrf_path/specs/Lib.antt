@@ -7,6 +7,11 @@ pub mod Stems
 pub mod Base
 pub mod Answers
 pub mod Examples
+pub mod DefaultExamples
+pub mod CoreExamples
+pub mod LeafExamples
+pub mod ToggleExamples
+pub mod StemsExamples
 pub mod TextLaws
 pub mod KeysLaws
 pub mod LeafLaws
@@ -14,3 +19,4 @@ pub mod ToggleLaws
 pub mod StemsLaws
 pub mod BaseLaws
 pub mod AnswersLaws
+pub mod Determined

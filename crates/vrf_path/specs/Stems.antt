@@ -1,23 +1,25 @@
 -- The stems that `resolve_cnc_for_instance_name` tries, in its order, and the leaves that it and `unique_leaf_match` try (resolve.rs).
 use mathlib.Core.Bool.{Bool, cond, _&&_}
 use mathlib.Core.List.{List, [], _∷_, _++_}
+use Prim.Native.Char.{code}
 use Prim.Native.Nat.{ℕ, zero, suc}
 use lib.Dec.{eqb, leb, ltb}
 use lib.ListN.{length, getD, take}
+use Rattle.vrf_bitio.specs.Ascii.{ascii}
 use Rattle.vrf_path.specs.Toggle.{classNetCache}
 
--- name cut at each `_` (95) that stands below place n and above place 0, the last one first
+-- name cut at each `_` that stands below place n and above place 0, the last one first
 unfoldable pub cutsBelow : List ℕ → ℕ → List (List ℕ)
 cutsBelow name zero = []
 cutsBelow name (suc zero) = []
-cutsBelow name (suc (suc i)) = cond (eqb (getD name (suc i) 0) 95) (take (suc i) name ∷ cutsBelow name (suc i)) (cutsBelow name (suc i))
+cutsBelow name (suc (suc i)) = cond (eqb (getD name (suc i) 0) (code "_")) (take (suc i) name ∷ cutsBelow name (suc i)) (cutsBelow name (suc i))
 
 -- an ASCII digit, and an ASCII capital
 unfoldable pub isDigit : ℕ → Bool
-isDigit b = leb 48 b && leb b 57
+isDigit b = leb (code "0") b && leb b (code "9")
 
 unfoldable pub isCapital : ℕ → Bool
-isCapital b = leb 65 b && leb b 90
+isCapital b = leb (code "A") b && leb b (code "Z")
 
 -- how long the first n bytes of a name are without their trailing digits
 unfoldable pub digitsFrom : List ℕ → ℕ → ℕ
@@ -38,13 +40,13 @@ digitStems name n = cond (ltb 0 n && ltb n (length name)) (take n name ∷ capit
 unfoldable pub stems : List ℕ → List (List ℕ)
 stems name = name ∷ (cutsBelow name (length name) ++ digitStems name (digitsFrom name (length name)))
 
--- `Component`
 unfoldable pub component : List ℕ
-component = 67 ∷ 111 ∷ 109 ∷ 112 ∷ 111 ∷ 110 ∷ 101 ∷ 110 ∷ 116 ∷ []
+unfolding ascii
+component = ascii "Component"
 
--- `_C`
 unfoldable pub underscoreC : List ℕ
-underscoreC = 95 ∷ 67 ∷ []
+unfolding ascii
+underscoreC = ascii "_C"
 
 -- the leaves that a stem is tried as
 unfoldable pub stemLeaves : List ℕ → List (List ℕ)

@@ -1,18 +1,21 @@
 -- Laws of stems, place by place. `cuts-last` is the loop of resolve.rs: a stem is followed by that stem cut at its last `_`, as long as
 -- this one stands above place 0.
 use mathlib.Core.Path.{_≡_, refl, sym, ap, _∙_}
-use mathlib.Core.Bool.{Bool, true, false, cond}
+use mathlib.Core.Bool.{Bool, true, false, cond, _&&_}
 use mathlib.Core.Logic.{⊎-elim}
 use mathlib.Core.List.{List, [], _∷_}
 use mathlib.Core.Option.{Option, none, some}
+use Prim.Native.Char.{code}
 use Prim.Native.Nat.{ℕ, zero, suc, _<_, _≤_}
 use native.Mathlib.Nat.{eq-or-lt-of-le}
 use native.Mathlib.Omega.{arith}
-use borrow.Author.Tests.{lt-ltb, le-ltb}
-use lib.Dec.{eqb}
+use borrow.Author.Tests.{lt-ltb, le-ltb, leb-true, le-leb, lt-leb}
+use lib.Dec.{eqb, leb}
 use lib.ListN.{length, getD, take, List·getD-eq-default}
 use Rattle.vrf_path.specs.Text.{lastBelow}
 use Rattle.vrf_path.specs.Stems.{cutsBelow, isDigit, isCapital, digitsFrom, capitalStems, digitStems}
+use Rattle.vrf_path.specs.Answers.{ruleAt}
+use Rattle.vrf_path.specs.declared.Phase.the-variants.{Underscore, Digits, Capital}
 
 -- the stems that follow, given where the last `_` stands
 abbrev pub cutAt : List ℕ → Option ℕ → List (List ℕ)
@@ -20,18 +23,18 @@ cutAt name none = []
 cutAt name (some zero) = []
 cutAt name (some (suc i)) = take (suc i) name ∷ cutsBelow name (suc i)
 
-pub cuts-last : (name : List ℕ) (n : ℕ) → cutsBelow name n ≡ cutAt name (lastBelow 95 name n)
+pub cuts-last : (name : List ℕ) (n : ℕ) → cutsBelow name n ≡ cutAt name (lastBelow (code "_") name n)
 unfolding cutsBelow lastBelow
 cuts-last name zero = refl
-cuts-last name (suc zero) = by (eqb (getD name 0 0) 95)
+cuts-last name (suc zero) = by (eqb (getD name 0 0) (code "_"))
   where
     by : (x : Bool) → [] ≡ cutAt name (cond x (some 0) none)
     by true = refl
     by false = refl
-cuts-last name (suc (suc i)) = by (eqb (getD name (suc i) 0) 95) (cuts-last name (suc i))
+cuts-last name (suc (suc i)) = by (eqb (getD name (suc i) 0) (code "_")) (cuts-last name (suc i))
   where
-    by : (x : Bool) → cutsBelow name (suc i) ≡ cutAt name (lastBelow 95 name (suc i))
-        → cond x (take (suc i) name ∷ cutsBelow name (suc i)) (cutsBelow name (suc i)) ≡ cutAt name (cond x (some (suc i)) (lastBelow 95 name (suc i)))
+    by : (x : Bool) → cutsBelow name (suc i) ≡ cutAt name (lastBelow (code "_") name (suc i))
+        → cond x (take (suc i) name ∷ cutsBelow name (suc i)) (cutsBelow name (suc i)) ≡ cutAt name (cond x (some (suc i)) (lastBelow (code "_") name (suc i)))
     by true e = refl
     by false e = e
 
@@ -94,3 +97,43 @@ pub capital-at : (name : List ℕ) {n : ℕ} (j : ℕ) → n ≡ suc j → 0 < j
 unfolding capitalStems
 capital-at name zero e h = absurd (omega arith)
 capital-at name (suc i) e h = rw e
+
+-- ---- the rule of a stem, by the byte behind it
+
+-- behind what is left without trailing digits stands a digit
+digit-behind : (name : List ℕ) (k : ℕ) → digitsFrom name k < k → isDigit (getD name (digitsFrom name k) 0) ≡ true
+unfolding digitsFrom
+digit-behind name zero h = absurd (omega arith)
+digit-behind name (suc i) h = by (isDigit (getD name i 0)) refl (digit-behind name i) h
+  where
+    by : (x : Bool) → isDigit (getD name i 0) ≡ x → (digitsFrom name i < i → isDigit (getD name (digitsFrom name i) 0) ≡ true)
+        → cond x (digitsFrom name i) (suc i) < suc i → isDigit (getD name (cond x (digitsFrom name i) (suc i)) 0) ≡ true
+    by true e earlier h = ⊎-elim (λ here. rw here e) earlier (eq-or-lt-of-le (omega arith))
+    by false e earlier h = absurd (omega arith)
+
+capital-no-digit : (b : ℕ) → isCapital b ≡ true → isDigit b ≡ false
+unfolding isDigit isCapital
+capital-no-digit b e = by (leb (code "A") b) refl e
+  where
+    by : (x : Bool) → leb (code "A") b ≡ x → (x && leb b (code "Z")) ≡ true → (leb (code "0") b && leb b (code "9")) ≡ false
+    by true ex _ =
+        let above : 65 ≤ b = leb-true (code "A") b ex in
+        rw (le-leb (code "0") b (omega arith), lt-leb b (code "9") (omega arith))
+    by false ex e = absurd (let z : _≡_ {A = ℕ} 0 1 = cc in omega arith)
+
+module _ (name : List ℕ) (n : ℕ) where
+  pub rule-digits : {k : ℕ} → n ≡ digitsFrom name k → n < k → Digits ≡ ruleAt name n
+  unfolding ruleAt
+  rule-digits {k} e h = let digit : isDigit (getD name n 0) ≡ true = rw e (digit-behind name k (rw e at h)) in rw digit
+
+  pub rule-capital : isCapital (getD name n 0) ≡ true → Capital ≡ ruleAt name n
+  unfolding ruleAt
+  rule-capital e = rw (capital-no-digit (getD name n 0) e, e)
+
+  pub rule-cut : getD name n 0 ≡ code "_" → Underscore ≡ ruleAt name n
+  unfolding ruleAt isDigit isCapital
+  rule-cut e = rw e
+
+  pub rule-whole : length name ≤ n → Underscore ≡ ruleAt name n
+  unfolding ruleAt isDigit isCapital
+  rule-whole h = rw (List·getD-eq-default name 0 h)

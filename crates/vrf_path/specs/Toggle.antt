@@ -4,12 +4,13 @@ use mathlib.Core.List.{List, [], _∷_, _++_, Option·toList}
 use mathlib.Core.Option.{Option, some}
 use Prim.Native.Nat.{ℕ, _-_}
 use lib.ListN.{length, take}
+use Rattle.vrf_bitio.specs.Ascii.{ascii}
 use Rattle.vrf_path.specs.Text.{endsWith, nonEmpty}
 use Rattle.vrf_path.specs.Keys.{keys}
 
--- `_ClassNetCache`
 unfoldable pub classNetCache : List ℕ
-classNetCache = 95 ∷ 67 ∷ 108 ∷ 97 ∷ 115 ∷ 115 ∷ 78 ∷ 101 ∷ 116 ∷ 67 ∷ 97 ∷ 99 ∷ 104 ∷ 101 ∷ []
+unfolding ascii
+classNetCache = ascii "_ClassNetCache"
 
 -- the suffix removed if present, appended if absent; removed to the empty text it is no key
 unfoldable pub toggle : List ℕ → Option (List ℕ)

@@ -12,6 +12,9 @@ ghost use Rattle.vrf_path.specs.Answers.{
   Differ,
   Front,
   spelled,
+  defaultKey,
+  coreKey,
+  KeyAnswer,
   keyBytes,
   absent,
   LeafAnswer,
@@ -84,7 +87,7 @@ fn four(t: &[u8], i: usize) -> u64
 }
 
 // Eight bytes from i on as one number, low byte first: one load.
-pub fn eight(t: &[u8], i: usize) -> u64
+fn eight(t: &[u8], i: usize) -> u64
     requires { ⌜ i + 8 ≤ length (now t) ⌝ }
     ensures { λ r. ⌜ r ≡ eight (now (t .entry)) i ⌝ }
 {
@@ -298,7 +301,7 @@ pub fn has_path_separator(text: &[u8]) -> bool
 
 // The default alias: the `Default__` prefix toggled.
 pub fn default_object_alias(path: &[u8]) -> Key
-    ensures { λ r. ⌜ spelled (now (path .entry)) r ≡ defaultAlias (now (path .entry)) ⌝ }
+    ensures { λ r. ⌜ KeyAnswer (now (path .entry)) defaultAlias defaultKey r ⌝ }
 {
     if starts_with(path, b"Default__") {
         return Key::Stripped;
@@ -311,7 +314,7 @@ pub fn default_object_alias(path: &[u8]) -> Key
 
 // The core alias: the first `/_Core/` as `/`, or `_Core/` put in after a leading `/Game/Characters/`.
 pub fn core_alias(path: &[u8]) -> Key
-    ensures { λ r. ⌜ spelled (now (path .entry)) r ≡ coreAlias (now (path .entry)) ⌝ }
+    ensures { λ r. ⌜ KeyAnswer (now (path .entry)) coreAlias coreKey r ⌝ }
 {
     match find(path, b"/_Core/") {
         Found::At(i) => Key::Cut(i),

@@ -11,7 +11,7 @@ use Rattle.vrf_text.specs.declared.Text.{Text}
 use Rattle.vrf_text.specs.declared.Text.the-variants.{Read as Done, Refused as NoText}
 use Rattle.vrf_names.specs.Names.{rendered}
 use Rattle.vrf_names.specs.declared.Rendered.{Rendered}
-use Rattle.vrf_names.specs.declared.Rendered.the-variants.{Length, TooLong, Short}
+use Rattle.vrf_names.specs.declared.Rendered.the-variants.{Length, Refused}
 use Rattle.vrf_model.specs.Names.{limited}
 
 -- the reading x gave the text that the first n bytes of the room are
@@ -29,14 +29,12 @@ TextIn s c x room (NoText r) = Refuses x r
 abbrev pub numbered : List ℕ → Reader (List ℕ)
 numbered base = int32 >>= λ number. limited (rendered base number)
 
--- a rendered name as the answer of its reading: 41 a name that is too long. A room of 4,096 bytes is never too short
+-- a rendered name as the answer of its reading
 abbrev pub namedBy : Rendered → Cursor → Text
 namedBy (Length n) d = Done n d
-namedBy (TooLong n) d = NoText (record { number = 41; a = n; b = 0 })
-namedBy Short d = NoText (record { number = 41; a = 0; b = 0 })
+namedBy (Refused r) d = NoText r
 
 -- a rendered name's length, if it is one
 abbrev pub Small : Rendered → Type 0
 Small (Length n) = n ≤ 4096
-Small (TooLong n) = Unit {0}
-Small Short = Unit {0}
+Small (Refused r) = Unit {0}

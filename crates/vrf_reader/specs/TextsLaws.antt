@@ -1,16 +1,17 @@
 -- Texts and names, one reading after another, into a room of 4,096 bytes.
 use mathlib.Core.Path.{_≡_, refl, sym, ap, subst, _∙_}
-use mathlib.Core.Bool.{cond}
+use mathlib.Core.Bool.{Bool, true, false, cond}
 use mathlib.Core.List.{List}
-use Prim.Native.Nat.{ℕ, _^_, _≤_, _<_}
+use Prim.Native.Nat.{ℕ, _*_, _^_, _≤_, _<_}
 use native.Mathlib.Omega.{arith}
-use lib.Dec.{eqb}
+use lib.Dec.{eqb, ltb}
 use lib.IntN.{ℤ}
-use lib.ListN.{length, take, drop, length-append}
+use lib.ListN.{length, take}
 use lib.Seq.{length-take-le, take-append-seam}
-use borrow.Author.Tests.{lt-ltb, le-ltb, eq-eqb, ne-eqb}
+use borrow.Author.Tests.{le-ltb, ltb-true, ltb-false, eq-eqb, ne-eqb}
 use Rattle.vrf_bitio.specs.BitsLaws.{Bytes}
-use Rattle.vrf_bitio.specs.Reading.{Read, ok, refused, Reader, return, handOn, _>>=_}
+use Rattle.vrf_bitio.specs.Pasted.{pasted}
+use Rattle.vrf_bitio.specs.Reading.{Read, ok, refused as not-read, Reader, return, handOn, _>>=_}
 use Rattle.vrf_bitio.specs.Number.{byte, int32, packed}
 use Rattle.vrf_bitio.specs.Window.{rest}
 use Rattle.vrf_bitio.specs.Answers.{restOf, readAt, Gave}
@@ -22,11 +23,11 @@ use Rattle.vrf_text.specs.TextLaws.{fstring-text}
 use Rattle.vrf_text.specs.Answers.{TextAnswer}
 use Rattle.vrf_text.specs.declared.Text.{Text}
 use Rattle.vrf_text.specs.declared.Text.the-variants.{Read as Done, Refused as NoText}
-use Rattle.vrf_names.specs.Names.{decimal, rendered}
-use Rattle.vrf_names.specs.NamesLaws.{decimal-length}
-use Rattle.vrf_names.specs.Answers.{RenderedAnswer}
+use Rattle.vrf_names.specs.Names.{decimal, rendered, named, refused, renderedInto}
+use Rattle.vrf_names.specs.NamesLaws.{decimal-length, into-long, into-fits}
+use Rattle.vrf_names.specs.Answers.{answerOf, RenderedAnswer}
 use Rattle.vrf_names.specs.declared.Rendered.{Rendered}
-use Rattle.vrf_names.specs.declared.Rendered.the-variants.{Length, TooLong, Short}
+use Rattle.vrf_names.specs.declared.Rendered.the-variants.{Length, Refused}
 use Rattle.vrf_model.specs.Names.{limited, textName, indexName, fname}
 use Rattle.vrf_model.specs.ReadsLaws.{bytesOf-bytes, Gives, Reads, fstring-reads}
 use Rattle.vrf_reader.specs.Texts.{Texted, TextIn, numbered, Small, namedBy}
@@ -68,7 +69,7 @@ into-all n h pos l b = go (fstring pos l) refl
   where
     go : (x : Read (List ℕ)) → fstring pos l ≡ x → handOn (roomFor n) x ≡ x
     go (ok t p m) e = rw (le-ltb n (length t) (omega (arith, fstring-text pos l b e .short)))
-    go (refused a x y) e = refl
+    go (not-read a x y) e = refl
 
 pub text-in : (s : List ℕ) (c : Cursor) (room after : List ℕ) → 4096 ≤ length room → (o : Text)
     → TextAnswer s c (readAt s c (fstringInto (length room))) room after o → TextIn s c (readAt s c fstring) after o
@@ -87,29 +88,47 @@ text-in s c room after h (NoText q) a = sym (into-all (length room) h (c .pos) (
 
 -- ---- names
 
--- a rendered text as the answer of its reading
-rendered-in : (s : List ℕ) (c : Cursor) (room after text : List ℕ) → 4096 ≤ length room → (o : Rendered) → RenderedAnswer text room after o
+-- a rendered text as the answer of its reading: a room of 4,096 bytes is never too short
+rendered-in : (s : List ℕ) (c : Cursor) (room after text : List ℕ) → 4096 ≤ length room → (o : Rendered) → RenderedAnswer (renderedInto (length room) text) room after o
     → TextIn s c (readAt s c (limited text)) after (namedBy o c)
 unfolding limited return
-rendered-in s c room after text h (Length n) a =
-    record {
-      text = text;
-      gave = record { read = rw (le-ltb 4096 (length text) (omega (arith, a .0, a .1))); first = refl; count = refl };
-      here = rw (a .3, a .0) (take-append-seam text _);
-      fits = omega (arith, a .0, ap (λ (x : List ℕ). length x) (a .3), length-append text (drop n room));
-    }
-rendered-in s c room after text h (TooLong n) a = rw (lt-ltb 4096 (length text) (omega (arith, a .0, a .1)), a .0)
-rendered-in s c room after text h Short a = absurd (omega (arith, a .0, a .1, h))
+rendered-in s c room after text h o a = by (ltb 4096 (length text)) refl
+  where
+    by : (x : Bool) → ltb 4096 (length text) ≡ x → TextIn s c (readAt s c (limited text)) after (namedBy o c)
+    by true e =
+        let long : 4096 < length text = ltb-true 4096 (length text) e in
+        let answer : o ≡ Refused (record { number = 41; a = length text; b = 0 }) = rw (into-long (length room) text long) at (a .answer) in
+        rw (answer, e)
+    by false e =
+        let short : length text ≤ 4096 = ltb-false 4096 (length text) e in
+        let into = into-fits (length room) text short (omega arith) in
+        let answer : o ≡ Length (length text) = rw into at (a .answer) in
+        let bytes : after ≡ pasted room 0 text = rw into at (a .bytes) in
+        let gave : Gave s c (readAt s c (limited text)) text c = record { read = rw e; first = refl; count = refl } in
+        rw answer (record {
+          text = text;
+          gave = gave;
+          here = rw (bytes, pasted-front room text) (take-append-seam text _);
+          fits = omega (arith, ap length bytes, pasted-length text room 0 (omega arith));
+        })
 
 -- a length that was rendered fits its type
-pub is-small : (text room after : List ℕ) (o : Rendered) → RenderedAnswer text room after o → Small o
-is-small text room after (Length n) a = a .1
-is-small text room after (TooLong n) a = tt
-is-small text room after Short a = tt
+small-answer : (m : ℕ) (text : List ℕ) → Small (answerOf (renderedInto m text))
+unfolding renderedInto
+small-answer m text = by (ltb 4096 (length text)) refl (ltb m (length text))
+  where
+    by : (x : Bool) → ltb 4096 (length text) ≡ x → (y : Bool)
+        → Small (answerOf (cond x (refused 41 (length text) 0) (cond y (refused 15 (8 * length text) (8 * m)) (named text))))
+    by true e y = tt
+    by false e true = tt
+    by false e false = ltb-false 4096 (length text) e
+
+pub is-small : (text room after : List ℕ) (o : Rendered) → RenderedAnswer (renderedInto (length room) text) room after o → Small o
+is-small text room after o a = subst Small (sym (a .answer)) (small-answer (length room) text)
 
 module _ {s : List ℕ} {c d : Cursor} (room after : List ℕ) (h : 4096 ≤ length room) (o : Rendered) {t : Text} (e : t ≡ namedBy o d) where
   -- a base text with its number, which goes to the rendering as it was read
-  pub numbered-in : (base : List ℕ) {z y : ℤ} → Gave s c (readAt s c int32) z d → y ≡ z → RenderedAnswer (rendered base y) room after o
+  pub numbered-in : (base : List ℕ) {z y : ℤ} → Gave s c (readAt s c int32) z d → y ≡ z → RenderedAnswer (renderedInto (length room) (rendered base y)) room after o
       → TextIn s c (readAt s c (numbered base)) after t
   numbered-in base {z} g same a =
       rw e
@@ -117,7 +136,7 @@ module _ {s : List ℕ} {c d : Cursor} (room after : List ℕ) (h : 4096 ≤ len
       (rendered-in s d room after (rendered base z) h o (rw same at a)))
 
   -- an index in decimal, which is never too long
-  pub index-in : {index : ℕ} → index < 2 ^ 32 → Gave s c (readAt s c packed) index d → RenderedAnswer (decimal index) room after o
+  pub index-in : {index : ℕ} → index < 2 ^ 32 → Gave s c (readAt s c packed) index d → RenderedAnswer (renderedInto (length room) (decimal index)) room after o
       → TextIn s c (readAt s c indexName) after t
   unfolding indexName limited
   index-in {index} small g a =

@@ -2,12 +2,10 @@
 use vrf_bitio::Byte;
 use vrf_bitio::Cursor;
 use vrf_bitio::Int;
-use vrf_bitio::Refusal;
 use vrf_bitio::Word;
 use vrf_names::Rendered;
 use vrf_names::render_fname;
 use vrf_names::render_index;
-use vrf_text::TEXT_TOO_LONG;
 use vrf_text::Text;
 use vrf_text::read_fstring;
 ghost use mathlib.Core.Path.{_≡_};
@@ -26,23 +24,14 @@ pub fn read_text(s: &[u8], c: Cursor, room: &mut [u8]) -> Text
     read_fstring(s, c, room)
 }
 
-// A rendered name as the answer of its reading: 41 over 4,096 bytes. A room of 4,096 bytes is never too short for one.
+// A rendered name as the answer of its reading.
 fn named(r: Rendered, next: Cursor) -> Text
     requires { ⌜ Small r ⌝ }
     ensures { λ t. ⌜ t ≡ namedBy r next ⌝ }
 {
     match r {
         Rendered::Length(n) => Text::Read(n as u32, next),
-        Rendered::TooLong(n) => Text::Refused(Refusal {
-            number: TEXT_TOO_LONG,
-            a: n as u64,
-            b: 0,
-        }),
-        Rendered::Short => Text::Refused(Refusal {
-            number: TEXT_TOO_LONG,
-            a: 0,
-            b: 0,
-        }),
+        Rendered::Refused(r) => Text::Refused(r),
     }
 }
 

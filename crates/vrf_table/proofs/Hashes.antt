@@ -1,11 +1,14 @@
 -- What the hashes need: sums and products that fit 64 bits, and one word of a text after another.
-use mathlib.Core.Path.{_≡_}
+use mathlib.Core.Path.{_≡_, ap, _∙_}
 use mathlib.Core.List.{List}
 use Prim.Native.Nat.{ℕ, suc, _+_, _-_, _*_, _/_, _%_, _^_, _<_, _≤_}
 use native.Mathlib.Omega.{arith}
 use native.Mathlib.Nat.{mul-le-mul-right}
-use lib.ListN.{length}
+use lib.ListN.{length, getD, take, drop}
+use lib.Seq.{getD-drop}
 use Rattle.vrf_path.specs.Text.{four, eight}
+use Rattle.vrf_words.specs.Words.{word}
+use Rattle.vrf_table.specs.Rooms.{part-behind}
 use Rattle.vrf_table.specs.TextIndex.{turn, fourTurns, hashUpTo, lastTurns, textHash}
 
 pub mixed-fits : (a b : ℕ) → a < 2 ^ 32 → b < 2 ^ 32 → a * 2654435761 + b * 40503 < 2 ^ 64
@@ -13,6 +16,26 @@ mixed-fits a b h k = omega arith
 
 pub product-fits : (a b : ℕ) → a < 2 ^ 32 → b < 2 ^ 32 → a * b < 2 ^ 64
 product-fits a b h k = omega (arith, mul-le-mul-right {m = a} {n = 2 ^ 32} b (omega arith))
+
+-- eight bytes of a text from place i on are the first two words of the rest
+eight-words : (t : List ℕ) (i : ℕ) → word (drop i t) 0 + 2 ^ 32 * word (drop i t) (0 + 1) ≡ eight t i
+unfolding word four eight
+eight-words t i =
+    let at : (j k : ℕ) → i + j ≡ k → getD (drop i t) j 0 ≡ getD t k 0 = λ j k e. getD-drop i t j 0 ∙ ap (λ (p : ℕ). getD t p 0) e in
+    rw (
+      at 0 i (omega arith),
+      at 1 (i + 1) (omega arith),
+      at 2 (i + 2) (omega arith),
+      at 3 (i + 3) (omega arith),
+      at 4 (i + 4) (omega arith),
+      at 5 (i + 4 + 1) (omega arith),
+      at 6 (i + 4 + 2) (omega arith),
+      at 7 (i + 4 + 3) (omega arith),
+    )
+
+pub eight-from : (t : List ℕ) (i : ℕ) → i ≤ length t → {r : ℕ}
+    → r ≡ word (take (length t - i) (drop i t)) 0 + 2 ^ 32 * word (take (length t - i) (drop i t)) (0 + 1) → r ≡ eight t i
+eight-from t i h e = e ∙ ap (λ (s : List ℕ). word s 0 + 2 ^ 32 * word s (0 + 1)) (part-behind t i i (omega arith)) ∙ eight-words t i
 
 -- the hash of a short text is four turns by one word, from its length
 pub hash-short : (t : List ℕ) (a b h i j k : ℕ) → length t < 8 → a ≡ four t 0 → b ≡ four t 4 → h ≡ turn (length t) (a + 4294967296 * b) → i ≡ turn h (a + 4294967296 * b) → j ≡ turn i (a + 4294967296 * b) → k ≡ turn j (a + 4294967296 * b) → k ≡ textHash t

@@ -3,7 +3,6 @@ pub mod spell;
 
 use vrf_path::core_alias;
 use vrf_path::default_object_alias;
-use vrf_path::eight;
 use vrf_path::is_key;
 use vrf_path::leaf_base;
 use vrf_path::left;
@@ -18,7 +17,7 @@ ghost use Prim.Native.Nat.{_+_, _*_, _/_, _^_, _<_, _≤_};
 ghost use lib.ListN.{length, getD, drop};
 ghost use Rattle.vrf_path.specs.Keys.{isThe};
 ghost use Rattle.vrf_path.specs.Leaf.{leaf, Dotless};
-ghost use Rattle.vrf_path.specs.Text.{four, same};
+ghost use Rattle.vrf_path.specs.Text.{four, eight, same};
 ghost use Rattle.vrf_words.specs.Words.{word};
 ghost use Rattle.vrf_table.specs.Chain.{walk};
 ghost use Rattle.vrf_table.specs.Table.{at, len, bucket, keyHash, keyBucket, findKey, setKey, setText};
@@ -143,6 +142,14 @@ fn four_or_zeros(t: &[u8], i: usize) -> u64
         + 0x100 * byte_at(t, i + 1)
         + 0x1_0000 * byte_at(t, i + 2)
         + 0x100_0000 * byte_at(t, i + 3)
+}
+
+// Eight bytes of a text from i on as one number: one load.
+fn eight(t: &[u8], i: usize) -> u64
+    requires { ⌜ i + 8 ≤ length (now t) ⌝ }
+    ensures { λ r. ⌜ r ≡ eight (now (t .entry)) i ⌝ }
+{
+    get64(&t[i..], 0)
 }
 
 // Eight more bytes of a text go into its hash.

@@ -8,6 +8,8 @@ use lib.ListN.{length, set, length-append}
 use Rattle.vrf_bitio.specs.Pasted.{pasted}
 use Rattle.vrf_bitio.specs.PastedLaws.{pasted-nil, pasted-cons, pasted-append, pasted-length}
 use Rattle.vrf_names.specs.Names.{decimal}
+use Rattle.vrf_names.specs.Answers.{putInto}
+use Rattle.vrf_names.specs.NamesLaws.{put-fits}
 use Rattle.vrf_model.specs.Block.{Counts}
 use Rattle.vrf_bitio.specs.Ascii.{ascii}
 use Rattle.vrf_tally.specs.Tally.{line, lines, countLines, refusalLines}
@@ -87,12 +89,13 @@ byte-put b l at h = record {
 }
 
 pub line-put : (name : List ℕ) (n : ℕ) {l l₁ l₂ : List ℕ} (at : ℕ) {digits : ℕ} → at + length name + digits + 2 ≤ length l
-    → l₁ ≡ pasted l at name → l₂ ≡ pasted (set l₁ (at + length name) 61) (at + length name + 1) (decimal n) → digits ≡ length (decimal n)
+    → l₁ ≡ pasted l at name → l₂ ≡ putInto (set l₁ (at + length name) 61) (at + length name + 1) (decimal n) → digits ≡ length (decimal n)
     → Put (line name n) l at (set l₂ (at + length name + 1 + digits) 10) (at + length name + 1 + digits + 1)
 unfolding line
 line-put name n {l₁ = l₁} {l₂} at {digits} room e₁ e₂ e =
     let named = pasted-put e₁ refl (omega arith) in
     let signed = byte-put 61 l₁ (at + length name) (omega (arith, put-long named)) in
-    let numbered = pasted-put e₂ (ap (λ (d : ℕ). at + length name + 1 + d) e) (omega (arith, put-long named, put-long signed)) in
+    let fits = put-fits (set l₁ (at + length name) 61) (decimal n) (at + length name + 1) (omega (arith, put-long named, put-long signed)) in
+    let numbered = pasted-put (e₂ ∙ fits) (ap (λ (d : ℕ). at + length name + 1 + d) e) (omega (arith, put-long named, put-long signed)) in
     let ended = byte-put 10 l₂ (at + length name + 1 + digits) (omega (arith, put-long named, put-long signed, put-long numbered)) in
     put-append named (put-append signed (put-append numbered ended))

@@ -14,7 +14,7 @@ use Rattle.vrf_schema.specs.Begun.{Begun}
 use Rattle.vrf_schema.specs.Called.{Called}
 use Rattle.vrf_tally.specs.Tally.{allowances, answered}
 
--- no allowance is above its top, and they need 25,876 bytes
+-- no allowance is above its top, and they need 29,332 bytes
 opens : {n : ℕ} → 29332 ≤ n → opening allowances n ≡ opened
 unfolding opening unlessAbove aboveTop unlessShort allowances
 opens {n} h = rw (le-ltb n 29332 h)

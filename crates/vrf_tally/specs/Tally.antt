@@ -1,6 +1,7 @@
 -- Document 01, Blocks: what `tally` prints, to the byte.
 use mathlib.Core.Bool.{cond}
 use mathlib.Core.List.{List, [], _∷_, _++_}
+use Prim.Native.Char.{code}
 use Prim.Native.Nat.{ℕ}
 use Prim.Native.String.{String}
 use lib.Dec.{ltb}
@@ -13,7 +14,7 @@ use Rattle.vrf_bitio.specs.Ascii.{ascii}
 
 -- a line: a name, `=`, a number in decimal, and a line end
 unfoldable pub line : List ℕ → ℕ → List ℕ
-line name n = name ++ (61 ∷ (decimal n ++ (10 ∷ [])))
+line name n = name ++ (code "=" ∷ (decimal n ++ (code "\n" ∷ [])))
 
 unfoldable pub lines : List (String × ℕ) → List ℕ
 lines [] = []

@@ -44,7 +44,7 @@ returns-2 c =
     let find = findPath (now (x .rows)) (now (x .x)) (now (x .links)) (now (x .heads)) (x .b) (x .n) in
     let path = c .before .before .before .before .before .row-text .ensures in
     and-on (holds (itself find path (x .g) (c .before .before .before .before .reaches .ensures)) (c .before .before .before .if1 .left))
-    (and-stop _ (fails (default-key find path (x .g) (c .before .before .default-object-alias .ensures) (c .before .alias-ok .ensures)) (c .if2 .taken)))
+    (and-stop _ (fails (default-key find path (x .g) (c .before .before .default-object-alias .ensures .text) (c .before .alias-ok .ensures)) (c .if2 .taken)))
 
 add-alias-ok-2 : tie.Need-add-alias-ok-2
 add-alias-ok-2 c = search needs
@@ -64,8 +64,8 @@ returns-3 c =
     let find = findPath (now (x .rows)) (now (x .x)) (now (x .links)) (now (x .heads)) (x .b) (x .n) in
     let path = c .before .before .before .before .before .before .before .row-text .ensures in
     and-on (holds (itself find path (x .g) (c .before .before .before .before .before .before .reaches .ensures)) (c .before .before .before .before .before .if1 .left))
-    (and-on (holds (default-key find path (x .g) (c .before .before .before .before .default-object-alias .ensures) (c .before .before .before .alias-ok .ensures)) (c .before .before .if2 .left))
-    (core-key find path (x .g) (c .before .core-alias .ensures) (c .alias-ok2 .ensures)))
+    (and-on (holds (default-key find path (x .g) (c .before .before .before .before .default-object-alias .ensures .text) (c .before .before .before .alias-ok .ensures)) (c .before .before .if2 .left))
+    (core-key find path (x .g) (c .before .core-alias .ensures .text) (c .alias-ok2 .ensures)))
 
 pub keys-ok-spec : {M : Type 1} → statement M
 keys-ok-spec =

@@ -4,15 +4,15 @@ use Prim.Native.Nat.{_-_}
 use native.Mathlib.Omega.{arith}
 use denote.Ref.{now}
 use borrow.Author.Needs.{needs}
-use Rattle.vrf_path.specs.StemsLaws.{capital-short, capital-past, capital-at}
+use Rattle.vrf_path.specs.StemsLaws.{capital-short, capital-past, capital-at, rule-capital}
 use Rattle.vrf_path.proofs.capital_stem.Statement.{statement}
 use Rattle.vrf_path.proofs.capital_stem.Tie as tie
 
 returns : tie.Need-returns
-returns c = record { stems = capital-short (now (c .before .before .args .name)) (c .before .before .args .n) (c .if1 .taken); within = omega arith }
+returns c = record { stems = capital-short (now (c .before .before .args .name)) (c .before .before .args .n) (c .if1 .taken); within = omega arith; rule = tt }
 
 returns-2 : tie.Need-returns-2
-returns-2 c = record { stems = capital-past (now (c .before .before .before .args .name)) (c .before .before .before .args .n) (c .if2 .taken); within = omega arith }
+returns-2 c = record { stems = capital-past (now (c .before .before .before .args .name)) (c .before .before .before .args .n) (c .if2 .taken); within = omega arith; rule = tt }
 
 sub-is-capital : tie.Need-sub-is-capital
 sub-is-capital c = search needs
@@ -27,10 +27,17 @@ sub-t8 : tie.Need-sub-t8
 sub-t8 c = search needs
 
 returns-3 : tie.Need-returns-3
-returns-3 c = record { stems = capital-at (now (c .before .before .before .before .before .before .args .name)) (c .before .before .before .before .before .before .args .n - 1) (omega arith) (omega arith) ∙ rw (sym (c .before .is-capital .ensures) ∙ c .if3 .taken); within = omega arith }
+returns-3 c =
+    let start = c .before .before .before .before .before .before .args in
+    let name = now (start .name) in
+    let capital = sym (c .before .is-capital .ensures) ∙ c .if3 .taken in
+    record { stems = capital-at name (start .n - 1) (omega arith) (omega arith) ∙ rw capital; within = omega arith; rule = rule-capital name _ capital }
 
 returns-4 : tie.Need-returns-4
-returns-4 c = record { stems = capital-at (now (c .before .before .before .before .before .before .args .name)) (c .before .before .before .before .before .before .args .n - 1) (omega arith) (omega arith) ∙ rw (sym (c .before .is-capital .ensures) ∙ c .if3 .left); within = omega arith }
+returns-4 c =
+    let start = c .before .before .before .before .before .before .args in
+    let other = sym (c .before .is-capital .ensures) ∙ c .if3 .left in
+    record { stems = capital-at (now (start .name)) (start .n - 1) (omega arith) (omega arith) ∙ rw other; within = omega arith; rule = tt }
 
 pub capital-stem-spec : {M : Type 1} → statement M
 capital-stem-spec =

@@ -28,15 +28,15 @@ starts-with-requires c κs = search needs
 
 returns : tie.Need-returns
 unfolding coreSegment charactersRoot
-returns c = sym (core-inserted (now (c .before .before .before .before .before .before .before .before .args .path)) (sym (c .before .before .before .before .before .find .ensures) ∙ ap place (c .before .before .before .enum-told .given .1)) (sym (c .before .starts-with .ensures) ∙ c .if1 .taken))
+returns c = core-inserted (now (c .before .before .before .before .before .before .before .before .args .path)) (sym (c .before .before .before .before .before .find .ensures) ∙ ap place (c .before .before .before .enum-told .given .1)) (sym (c .before .starts-with .ensures) ∙ c .if1 .taken)
 
 returns-2 : tie.Need-returns-2
 unfolding coreSegment
-returns-2 c = sym (core-cut (now (c .before .before .before .before .before .before .args .path)) (sym (c .before .before .before .find .ensures) ∙ ap place (c .before .i .given .1)))
+returns-2 c = core-cut (now (c .before .before .before .before .before .before .args .path)) (sym (c .before .before .before .find .ensures) ∙ ap place (c .before .i .given .1))
 
 returns-3 : tie.Need-returns-3
 unfolding coreSegment charactersRoot
-returns-3 c = sym (core-none (now (c .before .before .before .before .before .before .before .before .args .path)) (sym (c .before .before .before .before .before .find .ensures) ∙ ap place (c .before .before .before .enum-told .given .1)) (sym (c .before .starts-with .ensures) ∙ c .if1 .left))
+returns-3 c = core-none (now (c .before .before .before .before .before .before .before .before .args .path)) (sym (c .before .before .before .before .before .find .ensures) ∙ ap place (c .before .before .before .enum-told .given .1)) (sym (c .before .starts-with .ensures) ∙ c .if1 .left)
 
 pub core-alias-spec : {M : Type 1} → statement M
 core-alias-spec =

@@ -15,18 +15,18 @@ starts-with-requires c κs = search needs
 
 returns : tie.Need-returns
 unfolding defaultPrefix
-returns c = sym (default-stripped (now (c .before .before .before .before .args .path)) (sym (c .before .starts-with .ensures) ∙ c .if1 .taken))
+returns c = default-stripped (now (c .before .before .before .before .args .path)) (sym (c .before .starts-with .ensures) ∙ c .if1 .taken)
 
 has-path-separator-requires : tie.Need-has-path-separator-requires
 has-path-separator-requires c κs = search needs
 
 returns-2 : tie.Need-returns-2
 unfolding defaultPrefix
-returns-2 c = sym (default-none (now (c .before .before .before .before .before .before .args .path)) (sym (c .before .before .before .starts-with .ensures) ∙ c .before .before .if1 .left) (sym (c .before .has-path-separator .ensures) ∙ c .if2 .taken))
+returns-2 c = default-none (now (c .before .before .before .before .before .before .args .path)) (sym (c .before .before .before .starts-with .ensures) ∙ c .before .before .if1 .left) (sym (c .before .has-path-separator .ensures) ∙ c .if2 .taken)
 
 returns-3 : tie.Need-returns-3
 unfolding defaultPrefix
-returns-3 c = sym (default-prefixed (now (c .before .before .before .before .before .before .args .path)) (sym (c .before .before .before .starts-with .ensures) ∙ c .before .before .if1 .left) (sym (c .before .has-path-separator .ensures) ∙ c .if2 .left))
+returns-3 c = default-prefixed (now (c .before .before .before .before .before .before .args .path)) (sym (c .before .before .before .starts-with .ensures) ∙ c .before .before .if1 .left) (sym (c .before .has-path-separator .ensures) ∙ c .if2 .left)
 
 pub default-object-alias-spec : {M : Type 1} → statement M
 default-object-alias-spec =

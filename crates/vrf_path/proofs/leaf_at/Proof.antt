@@ -1,5 +1,6 @@
 -- `vrf_path::leaf_at` meets its contract.
 use mathlib.Core.Path.{sym, ap, _∙_}
+use Prim.Native.Char.{code}
 use native.Mathlib.Omega.{arith}
 use denote.Ref.{now}
 use borrow.Author.Needs.{needs}
@@ -20,7 +21,7 @@ enum-known-i : tie.Need-enum-known-i
 enum-known-i c = search needs
 
 add-if1 : tie.Need-add-if1
-add-if1 c = omega (arith, last-within 46 (now (c .before .before .before .before .before .args .path)) (length (now (c .before .before .before .before .before .args .path))) (sym (c .before .before .before .rfind .ensures) ∙ ap place (c .before .i .given .1)))
+add-if1 c = omega (arith, last-within (code ".") (now (c .before .before .before .before .before .args .path)) (length (now (c .before .before .before .before .before .args .path))) (sym (c .before .before .before .rfind .ensures) ∙ ap place (c .before .i .given .1)))
 
 add-t8 : tie.Need-add-t8
 add-t8 c = search needs

@@ -36,7 +36,7 @@ returns-3 : tie.Need-returns-3
 returns-3 c = renamed (ap (stemsAfter (now (c .before .before .before .before .args .name)) (c .before .before .before .before .args .len)) (c .before .enum-told2 .given .1)) (c .capital-stem .ensures)
 
 returns-4 : tie.Need-returns-4
-returns-4 c = record { stems = ap (stemsAfter (now (c .before .before .before .args .name)) (c .before .before .before .args .len)) (c .enum-told3 .given .1); within = omega arith }
+returns-4 c = record { stems = ap (stemsAfter (now (c .before .before .before .args .name)) (c .before .before .before .args .len)) (c .enum-told3 .given .1); within = omega arith; rule = tt }
 
 pub next-stem-spec : {M : Type 1} → statement M
 next-stem-spec =

@@ -24,7 +24,7 @@ is-key-requires c κs = search needs
 
 returns-2 : tie.Need-returns-2
 unfolding numbered
-returns-2 c = rw (c .before .before .if2 .taken, ← c .before .default-object-alias .ensures) (c .is-key .ensures)
+returns-2 c = rw (c .before .before .if2 .taken, ← c .before .default-object-alias .ensures .text) (c .is-key .ensures)
 
 add-if3 : tie.Need-add-if3
 add-if3 c = search needs
@@ -39,7 +39,7 @@ returns-3 : tie.Need-returns-3
 returns-3 c =
     let x = c .before .before .before .before .before .before .before .args in
     let core = numbered-core (now (x .path)) (x .number) (c .before .before .before .before .if1 .left) (c .before .before .before .if2 .left) in
-    rw (core, ← c .before .core-alias .ensures) (c .is-key2 .ensures)
+    rw (core, ← c .before .core-alias .ensures .text) (c .is-key2 .ensures)
 
 add-if4 : tie.Need-add-if4
 add-if4 c = search needs
@@ -54,7 +54,7 @@ returns-4 : tie.Need-returns-4
 returns-4 c =
     let x = c .before .before .before .before .before .before .before .before .args in
     let core = numbered-core (now (x .path)) (x .number) (c .before .before .before .before .before .if1 .left) (c .before .before .before .before .if2 .left) in
-    rw (core, ← c .before .core-alias2 .ensures) (c .is-key3 .ensures)
+    rw (core, ← c .before .core-alias2 .ensures .text) (c .is-key3 .ensures)
 
 returns-5 : tie.Need-returns-5
 returns-5 c =

@@ -3,7 +3,6 @@ use mathlib.Core.Path.{_∙_}
 use native.Mathlib.Omega.{arith}
 use denote.Ref.{now}
 use lib.ListN.{length-set}
-use Rattle.vrf_names.specs.NamesLaws.{decimal-length}
 use Rattle.vrf_tally.specs.Put.{line-put}
 use borrow.Author.Needs.{needs}
 use Rattle.vrf_tally.proofs.put_line.Statement.{statement}
@@ -22,7 +21,7 @@ add-put-decimal : tie.Need-add-put-decimal
 add-put-decimal c = search needs
 
 put-decimal-requires : tie.Need-put-decimal-requires
-put-decimal-requires c κs = rw length-set (omega (arith, decimal-length 19 (c .before .before .before .before .before .before .before .args .n) (omega arith)))
+put-decimal-requires c κs = search needs
 
 add-end : tie.Need-add-end
 add-end c = search needs

@@ -15,7 +15,7 @@ default-object-alias-requires : tie.Need-default-object-alias-requires
 default-object-alias-requires c κs = search needs
 
 find-alias-requires : tie.Need-find-alias-requires
-find-alias-requires c κs = (c .before .before .before .pre .0, omega (arith, default-fits (now (c .before .before .before .args .path)) (c .default-object-alias .result) (c .default-object-alias .ensures)))
+find-alias-requires c κs = (c .before .before .before .pre .0, omega (arith, default-fits (now (c .before .before .before .args .path)) (c .default-object-alias .result) (c .default-object-alias .ensures .text)))
 
 enum-known-e : tie.Need-enum-known-e
 enum-known-e c = search needs
@@ -27,14 +27,14 @@ core-alias-requires : tie.Need-core-alias-requires
 core-alias-requires c κs = search needs
 
 find-alias-requires-2 : tie.Need-find-alias-requires-2
-find-alias-requires-2 c κs = (c .before .before .before .before .before .before .before .pre .0, omega (arith, core-fits (now (c .before .before .before .before .before .before .before .args .path)) (c .core-alias .result) (c .core-alias .ensures)))
+find-alias-requires-2 c κs = (c .before .before .before .before .before .before .before .pre .0, omega (arith, core-fits (now (c .before .before .before .before .before .before .before .args .path)) (c .core-alias .result) (c .core-alias .ensures .text)))
 
 returns : tie.Need-returns
 unfolding orElse
 returns c =
     let args = c .before .before .before .before .before .before .before .args in
     let found = sym (c .before .before .before .find-alias .ensures) ∙ ap entry (c .before .e .given .1) in
-    sym (alias-turn (held (now (args .m)) .groups) (now (args .path)) (c .before .before .before .before .default-object-alias .ensures) found)
+    sym (alias-turn (held (now (args .m)) .groups) (now (args .path)) (c .before .before .before .before .default-object-alias .ensures .text) found)
 
 returns-2 : tie.Need-returns-2
 unfolding orElse
@@ -42,8 +42,8 @@ returns-2 c =
     let args = c .before .before .before .before .before .before .before .before .args in
     let groups = held (now (args .m)) .groups in
     let missing = sym (c .before .before .before .before .find-alias .ensures) ∙ ap entry (c .before .before .enum-told .given .1) in
-    let turn = alias-turn groups (now (args .path)) (c .before .before .before .before .before .default-object-alias .ensures) missing in
-    c .find-alias2 .ensures ∙ ap (withToggle groups) (c .before .core-alias .ensures) ∙ sym turn
+    let turn = alias-turn groups (now (args .path)) (c .before .before .before .before .before .default-object-alias .ensures .text) missing in
+    c .find-alias2 .ensures ∙ ap (withToggle groups) (c .before .core-alias .ensures .text) ∙ sym turn
 
 pub find-aliases-spec : {M : Type 1} → statement M
 find-aliases-spec =

@@ -16,18 +16,11 @@ cast-t6 c = record { fits = omega (arith, subst Small (c .before .r .given .1) (
 enum-known-r-2 : tie.Need-enum-known-r-2
 enum-known-r-2 c = search needs
 
-enum-told : tie.Need-enum-told
-enum-told c = search needs
-
 returns : tie.Need-returns
 returns c = sym (ap (λ (x : Rendered). namedBy x (c .before .before .before .args .next)) (c .before .r .given .1))
 
 returns-2 : tie.Need-returns-2
 returns-2 c = sym (ap (λ (x : Rendered). namedBy x (c .before .before .before .args .next)) (c .before .r2 .given .1))
 
-returns-3 : tie.Need-returns-3
-returns-3 c = sym (ap (λ (x : Rendered). namedBy x (c .before .before .args .next)) (c .enum-told .given .1))
-
 pub named-spec : {M : Type 1} → statement M
-named-spec =
-    tie.close (tie.spec enum-known-r cast-t6 enum-known-r-2 enum-told returns returns-2 returns-3)
+named-spec = tie.close (tie.spec enum-known-r cast-t6 enum-known-r-2 returns returns-2)

@@ -42,7 +42,7 @@ same-length : tie.Need-same-length
 same-length c = search needs
 
 returns : tie.Need-returns
-returns c = narrowed-keys (storeOf (now (c .before .before .before .before .before .before .before .before .before .before .before .before .before .before .args .m))) (c .before .before .before .before .before .before .before .before .before .before .before .before .before .before .args .h) (path-is (c .before .before .before .before .before .before .before .before .before .before .before)) (c .before .before .before .before .before .before .before .before .default-object-alias .ensures) (c .before .before .before .core-alias .ensures) (c .before .before .before .before .before .before .before .before .before .before .clash-behind .ensures) (c .before .before .before .before .before .before .before .clash-alias .ensures) (c .before .before .clash-alias2 .ensures)
+returns c = narrowed-keys (storeOf (now (c .before .before .before .before .before .before .before .before .before .before .before .before .before .before .args .m))) (c .before .before .before .before .before .before .before .before .before .before .before .before .before .before .args .h) (path-is (c .before .before .before .before .before .before .before .before .before .before .before)) (c .before .before .before .before .before .before .before .before .default-object-alias .ensures .text) (c .before .before .before .core-alias .ensures .text) (c .before .before .before .before .before .before .before .before .before .before .clash-behind .ensures) (c .before .before .before .before .before .before .before .clash-alias .ensures) (c .before .before .clash-alias2 .ensures)
 
 pub clash-after-spec : {M : Type 1} → statement M
 clash-after-spec =
