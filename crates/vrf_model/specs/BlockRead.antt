@@ -2,7 +2,6 @@
 -- is counted is what they hold.
 use mathlib.Core.Path.{_≡_, refl, _∙_}
 use mathlib.Core.List.{List, [], _++_, append-nil, map}
-use mathlib.Core.Option.{none}
 use Prim.Native.Nat.{ℕ, _+_, _-_, _*_, _/_, _≤_}
 use native.Mathlib.Nat.{zero-add}
 use native.Mathlib.Omega.{arith}
@@ -14,7 +13,9 @@ use Rattle.vrf_bitio.specs.NumberLaws.{lowBytes-length}
 use Rattle.vrf_model.specs.Book.{Guid, Allowances, Content, Tally, none-counted, fresh, sum, groupFields, heldFields}
 use Rattle.vrf_model.specs.Intake.{Intake, took, return, read, readFrom, handOn, _>>=_}
 use Rattle.vrf_model.specs.Block.{Counts, Table, blockGuids, blockGroups, zeroWord, countUpTo, blockEnd, block}
-use Rattle.vrf_model.specs.Writer.{encodeGuid, encodeGroup, encodeAll, encodeTables, encodeBook, firstClash}
+use Rattle.vrf_model.specs.Writer.{encodeGuid, encodeGroup, encodeAll, encodeTables, encodeBook}
+use Rattle.vrf_model.specs.Clash.{NoClash}
+use Rattle.vrf_model.specs.ClashLaws.{no-clash}
 use Rattle.vrf_model.specs.Lawful.{Is32, Within, Lawful}
 use Rattle.vrf_model.specs.HeldLaws.{listed, groups-within}
 use Rattle.vrf_model.specs.IntakeLaws.{Brings, brings-return, brings-last, brings-word, BringsAt, then-at}
@@ -92,7 +93,7 @@ module _ {a : Allowances} (c : Content) (law : Lawful a c) where
   unfolding fresh
   guids-part room = guids-brought a 0 noTable [] (c .guids) (law .guids) (law .guids-distinct) (omega (arith, all-within .guids, room)) (groups-within a (c .guids) [] (c .groups) all-within)
 
-  module _ (clear : firstClash [] (c .groups) ≡ none) (size : length (encodeBook c) ≤ 268435456) (room : a .guids ≤ a .literals) where
+  module _ (clear : NoClash (c .groups)) (size : length (encodeBook c) ≤ 268435456) (room : a .guids ≤ a .literals) where
     -- the groups, the end byte and the counts
     groups-part : (pos : ℕ) → (pos + 8 * length (encodeAll encodeGroup (c .groups))) / 8 ≡ wordOf c + 8 → (f : ℕ → ℕ → Counts) → f (0 + sum groupFields (c .groups)) (wordOf c + 8) ≡ countsOf c
         → BringsAt pos (blockGroups (length (c .groups)) 0 >>= (λ fields. blockEnd (wordOf c) >>= (λ end. return (f fields end)))) (encodeAll encodeGroup (c .groups)) (countsOf c)
@@ -101,7 +102,7 @@ module _ {a : Allowances} (c : Content) (law : Lawful a c) where
         let h : List ℕ = encodeAll encodeGroup (c .groups) in
         let fields : ℕ = 0 + sum groupFields (c .groups) in
         let d : Content = listed a (c .guids) (c .groups) in
-        let groups = groups-brought a (c .guids) [] (c .groups) 0 (law .groups) (law .indices-distinct) clear all-within in
+        let groups = groups-brought a (c .guids) [] (c .groups) 0 (law .groups) (law .indices-distinct) (no-clash (c .groups) .1 clear) all-within in
         let last : BringsAt (pos + 8 * length h) (return (f fields (wordOf c + 8))) [] (countsOf c) d d = rw counts (brings-return (countsOf c) d .at _) in
         rw (append-nil h) at (then-at pos (λ n. blockEnd (wordOf c) >>= (λ end. return (f n end))) groups (end-brings _ (wordOf c) _ e last))
 

@@ -9,7 +9,7 @@ use Rattle.vrf_bitio.specs.Reading.{Read, ok, refused}
 use Rattle.vrf_bitio.specs.Window.{window}
 use Rattle.vrf_text.specs.Text.{CallerText, accepted, refusal, callerText}
 use Rattle.vrf_model.specs.Book.{Content, Tally, Book, none-counted, stepped}
-use Rattle.vrf_model.specs.Lookup.{placeOr, pathPlace, indexPlace, guidPlace, slotAt, slotChecksum, slotName, uniqueLeafMatch, resolveCnc, findClassNetCacheKey, outerGuid, outerPath, gameplayTag}
+use Rattle.vrf_model.specs.Lookup.{placeOr, pathPlace, indexPlace, guidPlace, pathAt, indexAt, slotsAt, slotAt, slotChecksum, slotName, uniqueLeafMatch, resolveCnc, findClassNetCacheKey, outerGuid, outerPath, gameplayTag}
 use Rattle.vrf_model.specs.Setting.{Step, done, refuses, setGuid, addGroup, setField, clear}
 use Rattle.vrf_model.specs.Intake.{Took, took, stopped, Intake}
 use Rattle.vrf_model.specs.Runs.{fieldsRun, guidRun, objectAt}
@@ -123,9 +123,9 @@ run (get-field place slot) c = only c (found (slotChecksum (slotAt (c .groups) p
 run (unique-leaf-match name) c = onText c (callerText name) (only c (found (uniqueLeafMatch name (c .groups))))
 run (resolve-cnc-for-instance-name name) c = onText c (callerText name) (only c (found (resolveCnc name (c .groups))))
 run (find-class-net-cache-key path) c = onText c (callerText path) (only c (found (findClassNetCacheKey path (c .groups))))
-run (group-path place) c = only c (text (placeOr (λ g. g .path) [] (c .groups) place))
-run (group-index place) c = only c (number (placeOr (λ g. g .index) 0 (c .groups) place))
-run (group-slots place) c = only c (number (placeOr (λ g. length (g .slots)) 0 (c .groups) place))
+run (group-path place) c = only c (text (pathAt (c .groups) place))
+run (group-index place) c = only c (number (indexAt (c .groups) place))
+run (group-slots place) c = only c (number (slotsAt (c .groups) place))
 run (field-name place slot) c = only c (text (slotName (slotAt (c .groups) place slot)))
 run (guid-path place) c = only c (text (placeOr (λ r. r .path) [] (c .guids) place))
 

@@ -11,19 +11,17 @@ use lib.ListN.{length}
 use lib.Seq.{append-snoc}
 use Rattle.vrf_path.specs.Keys.{hasKey}
 use Rattle.vrf_model.specs.Book.{Guid, Group, Allowances, Content, fresh, groupFields}
-use Rattle.vrf_model.specs.Lookup.{further, orHead, lastPlace, placeOr, pathPlace, indexPlace}
+use Rattle.vrf_model.specs.Lookup.{further, orHead, lastPlace, placeOr, pathPlace, indexPlace, indexAt}
 use Rattle.vrf_model.specs.Setting.{refuses}
 use Rattle.vrf_model.specs.Block.{isFound, addFirst, blockGroup, blockGroups, block}
 use Rattle.vrf_model.specs.Writer.{encodeSlots, encodeGroup, encodeAll, encodeTables, encodeBook, isKeyOf, firstClash, orLater}
+use Rattle.vrf_model.specs.Clash.{FirstClash}
+use Rattle.vrf_model.specs.ClashLaws.{first-clash}
 use Rattle.vrf_model.specs.Lawful.{Each, cons, Distinct, GoodGroup, Within, Lawful}
 use Rattle.vrf_model.specs.HeldLaws.{listed}
 use Rattle.vrf_model.specs.IntakeLaws.{brings-word, brings-packed, brings-text, Stops, stops-step, stops-first, stops-then}
 use Rattle.vrf_model.specs.GroupsRead.{group-brings}
 use Rattle.vrf_model.specs.BlockRead.{wordOf, word-32, zero-brings, all-within, guid-count, group-count, guids-part}
-
--- the index of the group at a place
-unfoldable pub indexAt : List Group → ℕ → ℕ
-indexAt l place = placeOr (λ g. g .index) 0 l place
 
 -- where a path is a key of a group, it finds one
 has-key : (path : List ℕ) (p : List Group) → isKeyOf path p ≡ true → isFound (pathPlace path p) ≡ true
@@ -60,12 +58,12 @@ module _ (a : Allowances) (guids : List Guid) where
   GroupsStop p l fields j = Stops (blockGroups (length l) fields) (encodeAll encodeGroup l) (listed a guids p) 34 (indexAt l j) 0
 
   stop-here : (p : List Group) (g : Group) (l : List Group) (fields : ℕ) → GoodGroup g → isKeyOf (g .path) p ≡ true → GroupsStop p (g ∷ l) fields 0
-  unfolding blockGroups encodeAll indexAt placeOr
+  unfolding blockGroups encodeAll placeOr
   stop-here p g l fields good key = stops-first _ (encodeAll encodeGroup l) (group-stops p g fields good key)
 
   stop-later : (p : List Group) (g : Group) (l : List Group) (fields j : ℕ) → GoodGroup g → isKeyOf (g .path) p ≡ false → Distinct (λ x. x .index) (p ++ (g ∷ l))
       → Within (listed a guids ((p ++ (g ∷ [])) ++ l)) → GroupsStop (p ++ (g ∷ [])) l (fields + groupFields g) j → GroupsStop p (g ∷ l) fields (suc j)
-  unfolding blockGroups encodeAll indexAt placeOr
+  unfolding blockGroups encodeAll placeOr
   stop-later p g l fields j good key d w rest = stops-then _ (group-brings a guids p g l fields good key d w) rest
 
   groups-stop : (p l : List Group) (fields j : ℕ) → Each GoodGroup l → Distinct (λ x. x .index) (p ++ l) → firstClash p l ≡ some j → Within (listed a guids (p ++ l)) → GroupsStop p l fields j
@@ -82,11 +80,11 @@ module _ (a : Allowances) (guids : List Guid) where
       here-or-later w′ false key none ex at rest = absurd (none-some at)
       here-or-later w′ false key (some i) ex at rest = let next : suc i ≡ j = cc in subst (GroupsStop p (g ∷ l) fields) next (stop-later p g l fields i h key d w′ (rest i ex))
 
-pub stops-34 : {a : Allowances} (c : Content) → Lawful a c → {place : ℕ} → firstClash [] (c .groups) ≡ some place → length (encodeBook c) ≤ 268435456 → a .guids ≤ a .literals
+pub stops-34 : {a : Allowances} (c : Content) → Lawful a c → {place : ℕ} → FirstClash (c .groups) place → length (encodeBook c) ≤ 268435456 → a .guids ≤ a .literals
     → Stops block (encodeBook c) (fresh a) 34 (indexAt (c .groups) place) 0
 unfolding block encodeBook encodeTables
 stops-34 {a} c law {place} clash size room =
-    let groups = groups-stop a (c .guids) [] (c .groups) 0 place (law .groups) (law .indices-distinct) clash (all-within c law) in
+    let groups = groups-stop a (c .guids) [] (c .groups) 0 place (law .groups) (law .indices-distinct) (first-clash (c .groups) place .1 clash) (all-within c law) in
     stops-then _ (brings-word (wordOf c) (word-32 c size) _)
     (stops-then _ (zero-brings 4 _)
     (stops-then _ (zero-brings 8 _)

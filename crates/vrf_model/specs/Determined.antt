@@ -3,7 +3,6 @@
 use mathlib.Core.Path.{_≡_, refl, sym, ap, _∙_}
 use mathlib.Core.List.{List, [], _++_, append-nil}
 use mathlib.Core.Logic.{_↔_}
-use mathlib.Core.Option.{none}
 use Prim.Native.Nat.{ℕ, _*_, _≤_}
 use native.Mathlib.Omega.{arith}
 use lib.ListN.{length}
@@ -11,7 +10,8 @@ use Rattle.vrf_model.specs.Book.{Allowances, Content, Tally, none-counte
 use Rattle.vrf_model.specs.Intake.{took}
 use Rattle.vrf_model.specs.Block.{block}
 use Rattle.vrf_model.specs.Calls.{Call, play}
-use Rattle.vrf_model.specs.Writer.{encodeTables, encodeBook, firstClash, written, write}
+use Rattle.vrf_model.specs.Writer.{encodeTables, encodeBook, written, write}
+use Rattle.vrf_model.specs.Clash.{NoClash}
 use Rattle.vrf_model.specs.Lawful.{Each, Allowed, Lawful, Sized}
 use Rattle.vrf_model.specs.HeldLaws.{listed}
 use Rattle.vrf_model.specs.SettingLawful.{fresh-lawful}
@@ -56,7 +56,7 @@ roomy-lawful c law =
       };
     }
 
-reads-roomy : {a : Allowances} (c : Content) → Lawful a c → firstClash [] (c .groups) ≡ none → length (encodeBook c) ≤ 268435456
+reads-roomy : {a : Allowances} (c : Content) → Lawful a c → NoClash (c .groups) → length (encodeBook c) ≤ 268435456
     → (tail : List ℕ) → (t : Tally) × (block 0 (encodeBook c ++ tail) (fresh largest) none-counted ≡ took (countsOf (roomy c)) (8 * length (encodeBook c)) tail (roomy c) t)
 unfolding roomy largest encodeBook encodeTables
 reads-roomy c law clear size tail = read-back (roomy c) (roomy-lawful c law) clear size (omega arith) tail

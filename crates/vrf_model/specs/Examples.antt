@@ -1,22 +1,21 @@
 -- Document 01's entries for the examples table, computed from the definitions and gathered as one checked list.
 use mathlib.Core.Path.{_≡_, refl}
-use mathlib.Core.Bool.{Bool}
 use mathlib.Core.List.{List, [], _∷_, map}
-use mathlib.Core.Option.{some}
+use mathlib.Core.Bool.{Bool, true}
+use mathlib.Core.Option.{none, some}
 use Prim.Native.Nat.{ℕ}
 use lib.IntN.{ℤ}
 use Rattle.vrf_bitio.specs.Ascii.{ascii}
 use Rattle.vrf_bitio.specs.Examples.{Packed-examples, packed-examples}
-use Rattle.vrf_path.specs.Keys.{defaultPrefix, keys}
+use Rattle.vrf_path.specs.Keys.{keys}
 use Rattle.vrf_names.specs.Names.{rendered}
-use Rattle.vrf_path.specs.Examples as path-examples
-use Rattle.vrf_names.specs.Examples as name-examples
 use Rattle.vrf_model.specs.Book.{Content, Book, freshBook}
 use Rattle.vrf_model.specs.Setting.{refuses, addGroup}
 use Rattle.vrf_model.specs.Intake.{stop}
 use Rattle.vrf_model.specs.Runs.{objectOver, objectAt}
 use Rattle.vrf_model.specs.Writer.{encodeBook, written, notWritten, write}
-use Rattle.vrf_model.specs.Calls.{Call, add-export-group, set-net-guid-path, get-group-by-path, group-path, Answer, acted, at-place, found, text, addDirectly, play, answers}
+use Rattle.vrf_model.specs.Calls.{Call, add-export-group, set-field-on-group, set-net-guid-path, get-group-by-path, get-field, group-path, group-slots}
+use Rattle.vrf_model.specs.Calls.{Answer, acted, field-placed, at-place, found, number, text, addDirectly, play, answers}
 use Rattle.vrf_model.specs.Computing.{computing}
 
 -- a call and what it answers, and a list of calls that answers so on a book
@@ -40,30 +39,40 @@ after l = play (calls l) opened .content
 abbrev G1-calls : List (Call × Answer)
 G1-calls =
     add-export-group (ascii "/x/y") 1 0 ⇒ at-place 0 ∷
-    add-export-group (ascii "/x/_Core/y") 2 0 ⇒ at-place 1 ∷
+    add-export-group (ascii "/x/_Core/y") 2 3 ⇒ at-place 1 ∷
+    set-field-on-group 2 1 7 (ascii "N") ⇒ field-placed true ∷
     get-group-by-path (ascii "/x/y") ⇒ found (some 1) ∷
-    add-export-group (ascii "/x/y") 2 0 ⇒ at-place 1 ∷
+    add-export-group (ascii "/x/y") 2 2 ⇒ at-place 1 ∷
     group-path 0 ⇒ text (ascii "/x/y") ∷
-    group-path 1 ⇒ text (ascii "/x/y") ∷ []
+    group-path 1 ⇒ text (ascii "/x/y") ∷
+    -- merged: the slots stay, and the field in them
+    group-slots 1 ⇒ number 3 ∷
+    get-field 1 1 ⇒ found (some 7) ∷ []
 
 abbrev G2-calls : List (Call × Answer)
 G2-calls =
-    add-export-group (ascii "/a.b") 5 0 ⇒ at-place 0 ∷
+    add-export-group (ascii "/a.b") 5 3 ⇒ at-place 0 ∷
+    set-field-on-group 5 1 7 (ascii "N") ⇒ field-placed true ∷
     add-export-group (ascii "/x/y") 6 0 ⇒ at-place 1 ∷
-    add-export-group (ascii "/x/_Core/y") 5 0 ⇒ at-place 0 ∷
-    group-path 0 ⇒ text (ascii "/x/_Core/y") ∷ []
+    add-export-group (ascii "/x/_Core/y") 5 2 ⇒ at-place 0 ∷
+    group-path 0 ⇒ text (ascii "/x/_Core/y") ∷
+    -- replaced: the new group's slots, and no field
+    group-slots 0 ⇒ number 2 ∷
+    get-field 0 1 ⇒ found none ∷ []
 
 abbrev B1-calls : List (Call × Answer)
 B1-calls = set-net-guid-path 2 (ascii "A") 0 ⇒ acted ∷ []
 
 pub record Document-01-examples : Type 1 where
   pub P1-P4 : Packed-examples
-  pub K1 : keys [] ≡ [] ∷ defaultPrefix ∷ []
+  pub K1 : keys [] ≡ [] ∷ ascii "Default__" ∷ []
   pub K2 : keys (ascii "/x/_Core/y") ≡ ascii "/x/_Core/y" ∷ ascii "/x/y" ∷ []
   pub N1 : (rendered (ascii "Foo") (ℤ.pos 4) ≡ ascii "Foo_3") × (rendered (ascii "Foo") (ℤ.negsuc 2) ≡ ascii "Foo_-3")
   pub G1 : Answered G1-calls opened
+  pub G1-counters : play (calls G1-calls) opened .counters ≡ record { schema = 3; guid = 0; dropped = 0; replaced = 0; renamed = 0 }
   pub G1-writing : write 1000 (after G1-calls) ≡ notWritten 44 1 0
   pub G2 : Answered G2-calls opened
+  pub G2-counters : play (calls G2-calls) opened .counters ≡ record { schema = 3; guid = 0; dropped = 0; replaced = 1; renamed = 0 }
   pub G2-writing : write 1000 (after G2-calls) ≡ notWritten 44 1 0
   pub B1 : Answered B1-calls opened
   pub B1-fits : write 34 (after B1-calls) ≡ written 34
@@ -81,12 +90,14 @@ pub document-01-examples : Document-01-examples
 unfolding computing ascii opened
 document-01-examples = record {
   P1-P4 = packed-examples;
-  K1 = path-examples.K1;
+  K1 = refl;
   K2 = refl;
-  N1 = name-examples.N1;
+  N1 = (refl, refl);
   G1 = refl;
+  G1-counters = refl;
   G1-writing = refl;
   G2 = refl;
+  G2-counters = refl;
   G2-writing = refl;
   B1 = refl;
   B1-fits = refl;

@@ -9,14 +9,21 @@ pub mod Block
 pub mod Writer
 pub mod Calls
 pub mod Answers
+pub mod Clash
+pub mod Claims
+pub mod Untouched
 -- its examples, computed
 pub mod Computing
 pub mod Examples
 pub mod Cases
+pub mod Rules
 -- the book's rules, and that every call keeps them
 pub mod Lawful
 pub mod EachLaws
 pub mod PlaceLaws
+pub mod ClashLaws
+pub mod UntouchedLaws
+pub mod AnswersLaws
 pub mod HeldLaws
 pub mod SettingLawful
 pub mod ReadsLaws

@@ -4,7 +4,8 @@ use mathlib.Core.List.{List, [], _∷_, _++_}
 use mathlib.Core.Option.{Option, none, some}
 use Prim.Native.Nat.{ℕ, suc}
 use lib.Dec.{eqb}
-use lib.ListN.{getD}
+use lib.ListN.{length, getD}
+use Rattle.vrf_bitio.specs.Ascii.{ascii}
 use Rattle.vrf_path.specs.Text.{same}
 use Rattle.vrf_path.specs.Keys.{hasKey, hasSeparator}
 use Rattle.vrf_path.specs.Leaf.{leaf}
@@ -48,6 +49,16 @@ unfoldable pub guidPlace : ℕ → List Guid → Option ℕ
 guidPlace guid guids = lastPlace (λ r. eqb (r .guid) guid) guids
 
 -- ---- what stands at a place
+
+-- the path, the path-name index and the slot count of the group at a place; nothing there is empty or 0
+abbrev pub pathAt : List Group → ℕ → List ℕ
+pathAt groups place = placeOr (λ g. g .path) [] groups place
+
+abbrev pub indexAt : List Group → ℕ → ℕ
+indexAt groups place = placeOr (λ g. g .index) 0 groups place
+
+abbrev pub slotsAt : List Group → ℕ → ℕ
+slotsAt groups place = placeOr (λ g. length (g .slots)) 0 groups place
 
 unfoldable pub slotChecksum : Slot → Option ℕ
 slotChecksum empty = none
@@ -140,10 +151,9 @@ outerGuid guid guids = orAbsent (placeOr outerOf none guids) (guidPlace guid gui
 unfoldable pub outerPath : ℕ → List Guid → Option ℕ
 outerPath guid guids = orAbsent (λ o. guidPlace o guids) (outerGuid guid guids)
 
--- `NetworkGameplayTagNodeIndex`
 unfoldable pub tagGroupPath : List ℕ
-tagGroupPath =
-    78 ∷ 101 ∷ 116 ∷ 119 ∷ 111 ∷ 114 ∷ 107 ∷ 71 ∷ 97 ∷ 109 ∷ 101 ∷ 112 ∷ 108 ∷ 97 ∷ 121 ∷ 84 ∷ 97 ∷ 103 ∷ 78 ∷ 111 ∷ 100 ∷ 101 ∷ 73 ∷ 110 ∷ 100 ∷ 101 ∷ 120 ∷ []
+unfolding ascii
+tagGroupPath = ascii "NetworkGameplayTagNodeIndex"
 
 -- a tag's place is its group's, where the group has that slot filled
 unfoldable pub ifFilled : ℕ → Slot → Option ℕ

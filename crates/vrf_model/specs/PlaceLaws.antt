@@ -6,7 +6,7 @@ use mathlib.Core.Option.{Option, none, some}
 use Prim.Native.Nat.{ℕ, zero, suc, _<_, zero-le, suc-le-suc}
 use native.Mathlib.Nat.{le-of-suc-le-suc, not-suc-le-zero}
 use lib.Dec.{eqb}
-use lib.ListN.{length, getD, set, length-append}
+use lib.ListN.{length, getD, set, take, length-append}
 use lib.Seq.{getD-append-seam}
 use native.Mathlib.Omega.{arith}
 use borrow.Author.Tests.{ne-eqb, eqb-true, eqb-false}
@@ -76,6 +76,14 @@ unfolding placeOr
 placeOr-at f b [] i d h = absurd (not-suc-le-zero h)
 placeOr-at f b (a ∷ l) zero d h = refl
 placeOr-at f b (a ∷ l) (suc i) d h = placeOr-at f b l i d (le-of-suc-le-suc h)
+
+-- before the end of a beginning of a list
+pub placeOr-take : {A B : Type 0} (f : A → B) (b : B) (l : List A) (j i : ℕ) → i < j → placeOr f b (take j l) i ≡ placeOr f b l i
+unfolding placeOr
+placeOr-take f b l zero i h = absurd (not-suc-le-zero h)
+placeOr-take f b [] (suc j) i h = refl
+placeOr-take f b (a ∷ l) (suc j) zero h = refl
+placeOr-take f b (a ∷ l) (suc j) (suc i) h = placeOr-take f b l j i (le-of-suc-le-suc h)
 
 -- at the end of a list
 pub placeOr-last : {A B : Type 0} (f : A → B) (b : B) (l : List A) (a : A) → placeOr f b (l ++ (a ∷ [])) (length l) ≡ f a

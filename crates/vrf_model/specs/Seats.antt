@@ -1,26 +1,26 @@
--- Demand 3 on the definitions (document 01, The book): a reader who joins late, from a written block, never parts company with one who
--- was there from the start.
+-- What demand 3 needs from the definitions: a lawful book's block is read by a fresh book, which then answers as the first one does; a
+-- block that the writer refuses to make could not be read; and lookups of groups depend on the group list alone. The demand itself is
+-- stated over the exported functions, in `vrf_schema`.
 use mathlib.Core.Path.{_≡_, refl, sym, ap}
 use mathlib.Core.List.{List, [], append-nil}
-use mathlib.Core.Option.{none, some}
 use Prim.Native.Nat.{ℕ, _≤_}
 use lib.ListN.{length}
 use Rattle.vrf_bitio.specs.WindowLaws.{window-whole}
 use Rattle.vrf_text.specs.Text.{CallerText, accepted, refusal, callerText}
 use Rattle.vrf_model.specs.Book.{Allowances, Content, Tally, Book, none-counted, fresh, freshBook}
+use Rattle.vrf_model.specs.Lookup.{indexAt}
 use Rattle.vrf_model.specs.Calls.{Call, read-checkpoint-tables, get-group-by-index, get-group-by-path, get-gameplay-tag-name, get-field, unique-leaf-match, resolve-cnc-for-instance-name, find-class-net-cache-key, group-path, group-index, group-slots, field-name}
-use Rattle.vrf_model.specs.Calls.{whole, Answer, refusal-of, counted, Result, only, ofTook, overOpened, over, onText, run, runBook, play}
-use Rattle.vrf_model.specs.Writer.{encodeBook, firstClash, write, written}
-use Rattle.vrf_model.specs.Lawful.{Each, Allowed, Lawful, Sized}
-use Rattle.vrf_model.specs.SettingLawful.{fresh-lawful}
-use Rattle.vrf_model.specs.CallsLawful.{play-lawful}
-use Rattle.vrf_model.specs.WriterLaws.{Writing, writing, write-accepts}
+use Rattle.vrf_model.specs.Calls.{whole, Answer, refusal-of, counted, Result, only, ofTook, overOpened, over, onText, run, runBook}
+use Rattle.vrf_model.specs.Writer.{encodeBook, write, written}
+use Rattle.vrf_model.specs.Clash.{FirstClash, NoClash}
+use Rattle.vrf_model.specs.Lawful.{Lawful}
+use Rattle.vrf_model.specs.WriterLaws.{write-accepts}
 use Rattle.vrf_model.specs.BlockBytes.{block-bytes}
 use Rattle.vrf_model.specs.BlockRead.{countsOf, read-back}
-use Rattle.vrf_model.specs.ClashRead.{indexAt, stops-34}
+use Rattle.vrf_model.specs.ClashRead.{stops-34}
 use Rattle.vrf_model.specs.Lockstep.{Lockstep, stepped-fit, lockstep}
 
--- ---- the claim
+-- ---- a late reader
 
 -- the late seat is given the early seat's block
 unfoldable pub joining : Book → Call
@@ -36,70 +36,34 @@ pub record Joins (a : Allowances) (early : Book) : Type 0 where
   pub lists : lateSeat a early .content ≡ early .content
   pub together : (further : List Call) → Lockstep further early (lateSeat a early)
 
--- Demand 3, sentence by sentence:
--- 'Demand 3 is a single claim over whole lists of calls, not one for each call.' The calls that made `early` are any list, and so
--- are the `further` ones.
--- 'Each call gets the book as the one before left it, refused or not, and nobody else writes it meanwhile.' So `play` and `answers`
--- hand it on.
--- 'The GUID and group lists are what this document, and the Rust where it is silent, makes of the allowances and the calls' arguments
--- alone.' `early` is `play calls (freshBook a)`; `run` takes no counter.
--- 'Writing changes no book; the late seat's window is the written block.' `write` answers no book; `joining` hands over the block.
--- 'The further list goes on from both books, with the same arguments.' This is `together`.
--- 'Answers are compared with their counts and positions, refusals with number, a and b.' An `Answer` has them; the lists of answers
--- are equal.
-pub record Demand-3 (a : Allowances) (early : Book) (room : ℕ) : Type 0 where
-  -- the early book keeps the book's rules and its allowances
-  pub lawful : Lawful a (early .content)
-  -- 44 exactly where a path is a key of an earlier group, else 45 exactly where the block is too long, else the length
-  pub writing : Writing room (early .content)
-  -- what is written the late seat takes, and it goes on as the early one does
-  pub joins : (n : ℕ) → write room (early .content) ≡ written n → Joins a early
-  -- what 44 keeps back no late seat could take: 34, with the index of the group that 44 names
-  pub clash-is-34 : (place : ℕ) → firstClash [] (early .content .groups) ≡ some place → length (encodeBook (early .content)) ≤ 268435456
-      → run (joining early) (fresh a) .answer ≡ refusal-of 34 (indexAt (early .content .groups) place) 0
-
 -- ---- what the late seat reads
 
 module _ {a : Allowances} (c : Content) (law : Lawful a c) (size : length (encodeBook c) ≤ 268435456) (room : a .guids ≤ a .literals) where
-  late-reads : firstClash [] (c .groups) ≡ none → (t : Tally) × (run (read-checkpoint-tables (whole (encodeBook c))) (fresh a) ≡ record { answer = counted (countsOf c); content = c; counted = t })
+  late-reads : NoClash (c .groups) → (t : Tally) × (run (read-checkpoint-tables (whole (encodeBook c))) (fresh a) ≡ record { answer = counted (countsOf c); content = c; counted = t })
   unfolding run over overOpened ofTook whole
   late-reads clear =
       let r = read-back c law clear size room [] in
       (r .0, rw (window-whole (encodeBook c) (block-bytes c law) size, ← append-nil (encodeBook c), r .1))
 
-  late-refused : {place : ℕ} → firstClash [] (c .groups) ≡ some place → run (read-checkpoint-tables (whole (encodeBook c))) (fresh a) .answer ≡ refusal-of 34 (indexAt (c .groups) place) 0
+  -- what 44 keeps back is refused with 34, at the group that 44 names
+  pub late-refused : {place : ℕ} → FirstClash (c .groups) place → run (read-checkpoint-tables (whole (encodeBook c))) (fresh a) .answer ≡ refusal-of 34 (indexAt (c .groups) place) 0
   unfolding run over overOpened ofTook whole
   late-refused clash =
       let r = stops-34 c law clash size room .stops 0 [] none-counted in
       rw (window-whole (encodeBook c) (block-bytes c law) size, ← append-nil (encodeBook c), r .1 .1)
 
--- any lawful book may have the early seat
-module _ {a : Allowances} (early : Book) (law : Lawful a (early .content)) (literals : a .guids ≤ a .literals) where
-  joins : (room n : ℕ) → write room (early .content) ≡ written n → Joins a early
-  unfolding joining lateSeat runBook freshBook
-  joins room n e =
-      let w = write-accepts room (early .content) e in
-      let r = late-reads (early .content) law (w .size) literals (w .clear) in
-      let lists : lateSeat a early .content ≡ early .content = ap (λ (x : Result). x .content) (r .1) in
-      record {
-        answered = ap (λ (x : Result). x .answer) (r .1);
-        lists = lists;
-        together = λ further. lockstep further early (lateSeat a early) (sym lists) (stepped-fit _ _);
-      }
-
-  pub seats : (room : ℕ) → Demand-3 a early room
-  unfolding joining
-  seats room = record {
-    lawful = law;
-    writing = writing room (early .content);
-    joins = joins room;
-    clash-is-34 = λ place clash size. late-refused (early .content) law size literals clash;
-  }
-
--- literals are no fewer than GUIDs, because the writer sends every path as a literal
-pub demand-3 : (a : Allowances) → Allowed a → a .guids ≤ a .literals → (calls : List Call) → Each Sized calls → (room : ℕ) → Demand-3 a (play calls (freshBook a)) room
-unfolding freshBook
-demand-3 a tops literals calls sized room = seats (play calls (freshBook a)) (play-lawful sized (freshBook a) (fresh-lawful tops)) literals room
+-- Literals are no fewer than GUIDs, because the writer sends every path as a literal.
+pub joins : {a : Allowances} (early : Book) → Lawful a (early .content) → a .guids ≤ a .literals → (room n : ℕ) → write room (early .content) ≡ written n → Joins a early
+unfolding joining lateSeat runBook freshBook
+joins {a} early law literals room n e =
+    let w = write-accepts room (early .content) e in
+    let r = late-reads (early .content) law (w .size) literals (w .clear) in
+    let lists : lateSeat a early .content ≡ early .content = ap (λ (x : Result). x .content) (r .1) in
+    record {
+      answered = ap (λ (x : Result). x .answer) (r .1);
+      lists = lists;
+      together = λ further. lockstep further early (lateSeat a early) (sym lists) (stepped-fit _ _);
+    }
 
 -- ---- lookups
 

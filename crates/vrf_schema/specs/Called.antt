@@ -1,9 +1,9 @@
--- The contract of every exported book call and lookup (DESIGN section 4). A memory that fails the check is refused with 2 and stays as
+-- The contract of every exported book call and lookup. A memory that fails the check is refused with 2 and stays as
 -- it was. One that passes then holds the book that document 01 makes of the book it held, passes again, and the answer is document
 -- 01's. A call that borrows the book only to read has m′ = m.
 use mathlib.Core.Path.{_≡_}
 use mathlib.Core.Bool.{true, false}
-use mathlib.Core.List.{List}
+use mathlib.Core.List.{List, []}
 use Prim.Native.Nat.{ℕ}
 use lib.ListN.{length}
 use Rattle.vrf_model.specs.Calls.{Call, Answer, refusal-of, text, run, runBook}
@@ -24,7 +24,12 @@ pub record Called (c : Call) (m m′ : List ℕ) (r : Answer) : Type 0 where
   pub spoiled : check m ≡ false → Spoiled m m′ r
   pub ran : check m ≡ true → Ran c m m′ r
 
--- a text that is answered as a part of the book, with the number of its refusal beside it, 0 for none
+-- A lookup of a text answers the part of the book that holds it, and beside it the number of its refusal, 0 for none: an enum cannot hold a
+-- reference. A refused lookup answers the empty part.
 abbrev pub textOf : ℕ → List ℕ → Answer
 textOf ℕ.zero t = text t
 textOf (ℕ.suc n) t = refusal-of (ℕ.suc n) 0 0
+
+pub record CalledText (c : Call) (m : List ℕ) (refused : ℕ) (part : List ℕ) : Type 0 where
+  pub called : Called c m m (textOf refused part)
+  pub empty : (refused ≡ 0 → ⊥) → part ≡ []

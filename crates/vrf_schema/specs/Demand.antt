@@ -19,21 +19,22 @@ use Rattle.vrf_model.specs.declared.Wrote.the-variants.{Length}
 use Rattle.vrf_model.specs.WriterLaws.{Writing, writing, write-accepts}
 use Rattle.vrf_model.specs.BlockRead.{countsOf}
 use Rattle.vrf_model.specs.Lockstep.{apart}
-use Rattle.vrf_model.specs.Seats.{OfGroups, lookups-off-lists, joining, lateSeat, Joins}
-use Rattle.vrf_model.specs.Seats
+use Rattle.vrf_model.specs.Seats.{OfGroups, lookups-off-lists, joining, lateSeat, Joins, joins}
 use Rattle.vrf_model.specs.declared.Acted.the-variants.{Done}
-use Rattle.vrf_store.specs.Store.{contentOf, bookOf}
-use Rattle.vrf_store.specs.Good.{check-good}
-use Rattle.vrf_store.specs.Accepted.{valid-lawful}
+use Rattle.vrf_store.specs.Store.{bookOf}
 use Rattle.vrf_store.specs.Check.{check}
 use Rattle.vrf_schema.specs.Begun.{Begun}
 use Rattle.vrf_schema.specs.Called.{Called}
 use Rattle.vrf_schema.specs.Writes.{Writes}
+use Rattle.vrf_schema.specs.Demand1.{accepted-lawful}
 
 -- ---- lists of calls
 
--- a chain of the exported functions' contracts, and nothing else: each call gets the memory as the one before left it, refused or not,
--- and nobody else writes it meanwhile
+-- A chain of the exported functions' contracts, and nothing else: each call gets the memory as the one before left it, refused or not,
+-- and nobody else writes it meanwhile. Every list of calls has such a chain, from every memory: each constructor of `Call` has its
+-- exported function (`tests/door` asks that), the function asks nothing of its caller, it ends on every input, and what it answers and
+-- leaves meets `Called`; so the memory that it leaves can be given to the next call. `opens` (`Exists`) adds where such chains begin: for
+-- all allowances within their tops, and in every memory that is long enough, there is one that `Begun` holds of.
 pub data Played : List Call → List ℕ → List Answer → List ℕ → Type 0 where
   nothing : {m : List ℕ} → Played [] m [] m
   next : {k : Call} {ks : List Call} {m m₁ m′ : List ℕ} {r : Answer} {rs : List Answer} → Called k m m₁ r → Played ks m₁ rs m′ → Played (k ∷ ks) m (r ∷ rs) m′
@@ -76,13 +77,15 @@ pub record Seated (a : Allowances) (calls : List Call) (rs : List Answer) (m : L
   -- what the early seat holds and has answered
   pub book : bookOf m ≡ play calls (freshBook a)
   pub answered : rs ≡ answers calls (freshBook a)
-  -- the writer is refused exactly where a path is a key of an earlier group (44), or the block is too long (45)
+  -- the writer is refused exactly where some group's path is a key of a group before it (44), or the block is too long (45), whatever the
+  -- allowances are
   pub writing : {before after : List ℕ} {r : Wrote} → Writes m before after r → (wroteOf r ≡ write (length before) (bookOf m .content)) × Writing (length before) (bookOf m .content)
-  -- else a late memory, opened with the same allowances, reads the block, and the two go on together
-  pub joins : {before after : List ℕ} {n : ℕ} → Writes m before after (Length n)
+  -- else a late memory, opened with the same allowances, of which literals is no less than GUIDs, reads the block, and the two go on
+  -- together; the writer sends every path as a literal, so with fewer literals the block could not be read
+  pub joins : a .guids ≤ a .literals → {before after : List ℕ} {n : ℕ} → Writes m before after (Length n)
       → {lent late₀ late : List ℕ} {r : Answer} → Begun a lent late₀ Done → Called (read-checkpoint-tables (whole (take n after))) late₀ late r
       → Joined m late r
-  -- lookups of groups here; at both seats after further calls in `Together`
+  -- lookups of groups here, whatever the allowances are; at both seats after further calls in `Together`
   pub lookups : OffList m
 
 -- ---- what a list of calls leaves
@@ -92,11 +95,6 @@ pub record Left (calls : List Call) (m : List ℕ) (rs : List Answer) (m′ : Li
   pub book : bookOf m′ ≡ play calls (bookOf m)
   pub answers : rs ≡ answers calls (bookOf m)
   pub allowed : bookOf m′ .content .allowed ≡ bookOf m .content .allowed
-
--- a memory that passes its check holds a lawful book
-lawful : (m : List ℕ) → check m ≡ true → Lawful (bookOf m .content .allowed) (bookOf m .content)
-unfolding bookOf contentOf
-lawful m good = valid-lawful (check-good m good .valid)
 
 left : {calls : List Call} {m m′ : List ℕ} {rs : List Answer} → check m ≡ true → Played calls m rs m′ → Left calls m rs m′
 unfolding play answers runBook
@@ -108,7 +106,7 @@ left {m = m} good (next {k = k} {ks = ks} c p) =
       accepted = all .accepted;
       book = all .book ∙ ap (play ks) (one .book);
       answers = cc (one .answer, all .answers, one .book);
-      allowed = all .allowed ∙ ap (λ (b : Book). b .content .allowed) (one .book) ∙ run-allowed k (bookOf m .content) (lawful m good);
+      allowed = all .allowed ∙ ap (λ (b : Book). b .content .allowed) (one .book) ∙ run-allowed k (bookOf m .content) (accepted-lawful m good);
     }
 
 off-list : {m : List ℕ} → check m ≡ true → OffList m
@@ -117,7 +115,7 @@ off-list {m} good = record { answered = λ k called c groups. called .ran good .
 -- what calls on an opened book leave is lawful, with the allowances it was opened with
 early-lawful : {a : Allowances} {calls : List Call} {m₀ m : List ℕ} {rs : List Answer} → bookOf m₀ ≡ freshBook a → Left calls m₀ rs m → Lawful a (bookOf m .content)
 unfolding freshBook fresh
-early-lawful {a} {m = m} opened l = subst (λ (x : Allowances). Lawful x (bookOf m .content)) (l .allowed ∙ ap (λ (b : Book). b .content .allowed) opened) (lawful m (l .accepted))
+early-lawful {a} {m = m} opened l = subst (λ (x : Allowances). Lawful x (bookOf m .content)) (l .allowed ∙ ap (λ (b : Book). b .content .allowed) opened) (accepted-lawful m (l .accepted))
 
 -- ---- the late seat
 
@@ -131,7 +129,7 @@ module _ (a : Allowances) (m : List ℕ) (good : check m ≡ true) (law : Lawful
         rw (h .bytes, pasted-front before (encodeBook (bookOf m .content)), long) (take-append-seam (encodeBook (bookOf m .content)) _)
 
     model : Joins a (bookOf m)
-    model = Seats.seats (bookOf m) law literals (length before) .joins n (sym (w .wrote good .answer))
+    model = joins (bookOf m) law literals (length before) n (sym (w .wrote good .answer))
 
     joined : {late₀ late : List ℕ} {r : Answer} → check late₀ ≡ true → bookOf late₀ ≡ freshBook a → Called (read-checkpoint-tables (whole (take n after))) late₀ late r → Joined m late r
     unfolding joining lateSeat freshBook
@@ -156,15 +154,15 @@ module _ (a : Allowances) (m : List ℕ) (good : check m ≡ true) (law : Lawful
               };
         }
 
--- The theorem. Literals are no fewer than GUIDs, because the writer sends every path as a literal.
-pub demand-3 : (a : Allowances) → a .guids ≤ a .literals → {lent m₀ m : List ℕ} → Begun a lent m₀ Done → (calls : List Call) {rs : List Answer} → Played calls m₀ rs m → Seated a calls rs m
-demand-3 a literals {m₀ = m₀} {m} opened calls {rs} played =
+-- The theorem, for every set of allowances with which a book was opened.
+pub demand-3 : (a : Allowances) → {lent m₀ m : List ℕ} → Begun a lent m₀ Done → (calls : List Call) {rs : List Answer} → Played calls m₀ rs m → Seated a calls rs m
+demand-3 a {m₀ = m₀} {m} opened calls {rs} played =
     let l = left (opened .accepted) played in
     let e : bookOf m ≡ play calls (freshBook a) = l .book ∙ ap (play calls) (opened .book) in
     record {
       book = e;
       answered = l .answers ∙ ap (answers calls) (opened .book);
       writing = λ w. (w .wrote (l .accepted) .answer, writing _ _);
-      joins = λ w opened′ called. joined a m (l .accepted) (early-lawful (opened .book) l) literals w (opened′ .accepted) (opened′ .book) called;
+      joins = λ literals w opened′ called. joined a m (l .accepted) (early-lawful (opened .book) l) literals w (opened′ .accepted) (opened′ .book) called;
       lookups = off-list (l .accepted);
     }

@@ -1,7 +1,7 @@
 -- How an exported call comes to its contract: what it meets at the door, and what the call behind the door makes of the memory.
 use mathlib.Core.Path.{_≡_, refl, sym, ap, subst, _∙_}
 use mathlib.Core.Bool.{Bool, true, false, true≢false}
-use mathlib.Core.List.{List}
+use mathlib.Core.List.{List, []}
 use Prim.Native.Nat.{ℕ, _<_, _≤_}
 use lib.ListN.{length}
 use native.Mathlib.Omega.{arith}
@@ -15,7 +15,7 @@ use Rattle.vrf_text.specs.declared.Caller.the-variants.{Accepted, Refused as No
 use Rattle.vrf_text.specs.TextLaws.{callerText-text}
 use Rattle.vrf_model.specs.Book.{stepped}
 use Rattle.vrf_model.specs.Setting.{Step, done, addGroup}
-use Rattle.vrf_model.specs.Calls.{Call, add-export-group, Answer, refusal-of, acted, field-placed, at-place, Result, only, ofStep, onText, addDirectly, run, runBook}
+use Rattle.vrf_model.specs.Calls.{Call, add-export-group, Answer, refusal-of, acted, field-placed, at-place, text, Result, only, ofStep, onText, addDirectly, run, runBook}
 use Rattle.vrf_model.specs.Answers.{refusalOf, actedOf, addedOf, placedOf}
 use Rattle.vrf_model.specs.declared.Acted.{Acted}
 use Rattle.vrf_model.specs.declared.Acted.the-variants.{Done, Refused as NotActed}
@@ -29,7 +29,7 @@ use Rattle.vrf_store.specs.Good.{Good, good-check, check-good}
 use Rattle.vrf_store.specs.Stepped.{held}
 use Rattle.vrf_cache.specs.Taken.{Holds, Taken, NotTaken, ActedBy, AddedBy, PlacedBy}
 use Rattle.vrf_cache.specs.TakenLaws.{unmoved}
-use Rattle.vrf_schema.specs.Called.{Called}
+use Rattle.vrf_schema.specs.Called.{Called, CalledText}
 
 -- 2 where the book fails its check, then what the text meets
 abbrev pub met : Bool → CallerText → CallerText
@@ -77,6 +77,13 @@ module _ {m : List ℕ} {d : Caller} (a : Met m accepted d) where
 -- the answer of a call whose book fails the check
 pub spoiled-book : {k : Call} {m : List ℕ} {r : Answer} → check m ≡ false → r ≡ refusal-of 2 0 0 → Called k m m r
 spoiled-book s a = record { spoiled = λ _. record { answer = a; kept = refl }; ran = λ t. absurd (true≢false (sym t ∙ s)) }
+
+-- a lookup of a text, on a book that fails the check and on one that passes
+pub text-refused : {k : Call} {m : List ℕ} → check m ≡ false → CalledText k m 2 []
+text-refused s = record { called = spoiled-book s refl; empty = λ _. refl }
+
+pub text-found : {k : Call} {m t : List ℕ} → Called k m m (text t) → CalledText k m 0 t
+text-found c = record { called = c; empty = λ n. absurd (n refl) }
 
 -- of a call that the door refused
 pub turned-away : {k : Call} {m : List ℕ} {x : CallerText} {d : Caller} {r : Refusal} (q : Result) → Bytes m → Met m x d → d ≡ NotAccepted r → run k (held m) ≡ onText (held m) x q → Called k m m (refusalOf r)

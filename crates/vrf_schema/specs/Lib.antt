@@ -6,6 +6,7 @@ pub mod Told
 pub mod Begun
 pub mod Writes
 -- demand 3
+pub mod Demand1
 pub mod Demand
 pub mod Exists
 -- no wrong program passes

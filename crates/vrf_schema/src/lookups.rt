@@ -33,7 +33,7 @@ ghost use Rattle.vrf_model.specs.Calls.{
 ghost use Rattle.vrf_model.specs.Answers.{foundOf, numberOf};
 ghost use Rattle.vrf_table.specs.Answers.{entry};
 ghost use Rattle.vrf_store.specs.Answers;
-ghost use Rattle.vrf_schema.specs.Called.{Called, textOf};
+ghost use Rattle.vrf_schema.specs.Called.{Called, CalledText};
 ghost use Rattle.vrf_schema.specs.Told.{Told};
 
 // A place, if there is one.
@@ -186,11 +186,12 @@ pub fn get_counters(book: &[u8]) -> Counted
     }
 }
 
-// The texts are parts of the book. An enum can hold no reference, so the refusal's number stands beside the text: 0 for none.
+// The texts are parts of the book. An enum cannot hold a reference, so the refusal's number stands beside the text: 0 for none. A refused
+// lookup answers the empty part.
 
 // The path of the group at a place, empty past the groups.
 pub fn group_path<'a>(book: &'a [u8], place: u32, refused: &mut u32) -> &'a [u8]
-    ensures { λ r. ⌜ Called (group-path place) (now (book .entry)) (now (book .entry)) (textOf (now (refused .exit)) (now r)) ⌝ }
+    ensures { λ r. ⌜ CalledText (group-path place) (now (book .entry)) (now (refused .exit)) (now r) ⌝ }
 {
     if !check(book) {
         *refused = SPOILED_BOOK;
@@ -202,7 +203,7 @@ pub fn group_path<'a>(book: &'a [u8], place: u32, refused: &mut u32) -> &'a [u8]
 
 // The name of the field in a group's slot, empty where there is none.
 pub fn field_name<'a>(book: &'a [u8], place: u32, slot: u32, refused: &mut u32) -> &'a [u8]
-    ensures { λ r. ⌜ Called (field-name place slot) (now (book .entry)) (now (book .entry)) (textOf (now (refused .exit)) (now r)) ⌝ }
+    ensures { λ r. ⌜ CalledText (field-name place slot) (now (book .entry)) (now (refused .exit)) (now r) ⌝ }
 {
     if !check(book) {
         *refused = SPOILED_BOOK;
@@ -214,7 +215,7 @@ pub fn field_name<'a>(book: &'a [u8], place: u32, slot: u32, refused: &mut u32) 
 
 // The path of the GUID record at a place, empty past the records.
 pub fn guid_path<'a>(book: &'a [u8], place: u32, refused: &mut u32) -> &'a [u8]
-    ensures { λ r. ⌜ Called (guid-path place) (now (book .entry)) (now (book .entry)) (textOf (now (refused .exit)) (now r)) ⌝ }
+    ensures { λ r. ⌜ CalledText (guid-path place) (now (book .entry)) (now (refused .exit)) (now r) ⌝ }
 {
     if !check(book) {
         *refused = SPOILED_BOOK;

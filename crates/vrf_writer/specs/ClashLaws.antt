@@ -1,8 +1,8 @@
 -- The search finds the first clash.
 use mathlib.Core.Path.{_≡_, refl, sym, ap, _∙_}
-use mathlib.Core.Bool.{Bool, true, false, cond, _||_, or-true}
+use mathlib.Core.Bool.{Bool, true, false, _||_, or-true}
 use mathlib.Core.Logic.{_⊎_, ⊎-elim, _≢_}
-use mathlib.Core.List.{List, [], _∷_, _++_, append-assoc, append-nil}
+use mathlib.Core.List.{List, []}
 use mathlib.Core.Option.{Option, none, some}
 use Prim.Native.Nat.{ℕ, zero, suc, _+_, _-_, _*_, _/_, _%_, _<_, _≤_, min}
 use native.Mathlib.Nat.{not-suc-le-zero, add-zero}
@@ -14,15 +14,18 @@ use Rattle.vrf_path.specs.TextLaws.{same-true, same-refl}
 use Rattle.vrf_path.specs.Keys.{hasKey, isThe, defaultAlias, coreAlias}
 use Rattle.vrf_path.specs.KeysLaws.{default-length, core-length, has-by-parts, has-cases}
 use Rattle.vrf_model.specs.Book.{Group}
-use Rattle.vrf_model.specs.Lookup.{further, orElse}
-use Rattle.vrf_model.specs.Writer.{isKeyOf, orLater, firstClash}
+use Rattle.vrf_model.specs.Lookup
+use Rattle.vrf_model.specs.Writer.{firstClash}
+use Rattle.vrf_model.specs.Clash.{Clash}
+use Rattle.vrf_model.specs.ClashLaws.{first-clash, no-clash}
+use Rattle.vrf_model.specs.PlaceLaws.{placeOr-at}
 use Rattle.vrf_words.specs.Words.{word}
 use Rattle.vrf_table.specs.Chain.{walk}
 use Rattle.vrf_table.specs.ChainLaws.{by-equal, walk-at, walk-past, walk-skip, walk-passes, lastBelow-reach}
 use Rattle.vrf_table.specs.Table.{text}
 use Rattle.vrf_table.specs.TextIndex.{textStart, numbered, pathHit}
 use Rattle.vrf_store.specs.UpTo.{upTo}
-use Rattle.vrf_store.specs.UpToLaws.{length-upTo}
+use Rattle.vrf_store.specs.UpToLaws.{length-upTo, getD-upTo}
 use Rattle.vrf_store.specs.Layout
 use Rattle.vrf_store.specs.Store.{Store, groupBy, contentOf}
 use Rattle.vrf_store.specs.Valid.{Valid}
@@ -32,72 +35,31 @@ use Rattle.vrf_writer.specs.Clash.{pathAt, isAt, isKeyAt, Keyed, Walking
 
 -- ---- the first clash among n groups
 
-module _ (p : List ℕ) where
-  key-last : (l : List Group) (g : Group) → isKeyOf p (l ++ (g ∷ [])) ≡ (isKeyOf p l || hasKey (g .path) p)
-  unfolding isKeyOf
-  key-last [] g = go (hasKey (g .path) p)
-    where
-      go : (b : Bool) → (b || false) ≡ b
-      go true = refl
-      go false = refl
-  key-last (x ∷ l) g = rw (key-last l g) (go (hasKey (x .path) p) (isKeyOf p l) (hasKey (g .path) p))
-    where
-      go : (a b c : Bool) → (a || (b || c)) ≡ ((a || b) || c)
-      go true b c = refl
-      go false b c = refl
-
--- one group more
-last-of : (b : Bool) → orLater b none ≡ cond b (some 0) none
-unfolding orLater further
-last-of true = refl
-last-of false = refl
-
-later-of : (a b : Bool) (o : Option ℕ) (n : ℕ) → orLater a (orElse o (cond b (some n) none)) ≡ orElse (orLater a o) (cond b (some (suc n)) none)
-unfolding orLater orElse further
-later-of true b o n = refl
-later-of false true none n = refl
-later-of false false none n = refl
-later-of false b (some i) n = refl
-
-clash-last : (l e : List Group) (g : Group) → firstClash e (l ++ (g ∷ [])) ≡ orElse (firstClash e l) (cond (isKeyOf (g .path) (e ++ l)) (some (length l)) none)
-unfolding firstClash orElse
-clash-last [] e g = rw (append-nil e) (last-of (isKeyOf (g .path) e))
-clash-last (x ∷ l) e g =
-    let same-list : (e ++ (x ∷ [])) ++ l ≡ e ++ (x ∷ l) = append-assoc e (x ∷ []) l in
-    rw (clash-last l (e ++ (x ∷ [])) g, same-list) (later-of (isKeyOf (x .path) e) (isKeyOf (g .path) (e ++ (x ∷ l))) (firstClash (e ++ (x ∷ [])) l) (length l))
-
-module _ (f : ℕ → Group) where
+module _ (f : ℕ → Group) (n : ℕ) where
   -- whether the path of group j is a key of group i
   abbrev keyAt : ℕ → ℕ → Bool
   keyAt i j = hasKey (f i .path) (f j .path)
 
-  next-clash : (n : ℕ) → firstClash [] (upTo f (suc n)) ≡ orElse (firstClash [] (upTo f n)) (cond (isKeyOf (f n .path) (upTo f n)) (some n) none)
-  unfolding upTo
-  next-clash n = clash-last (upTo f n) [] (f n) ∙ rw (length-upTo f n)
+  path-of : (i : ℕ) → i < n → Lookup.pathAt (upTo f n) i ≡ f i .path
+  path-of i h = placeOr-at (λ (g : Group). g .path) [] (upTo f n) i (f i) (rw (length-upTo f n) h) ∙ ap (λ (g : Group). g .path) (getD-upTo f n i (f i) h)
 
-  no-key : (p : List ℕ) (n : ℕ) → ((i : ℕ) → i < n → hasKey (f i .path) p ≡ false) → isKeyOf p (upTo f n) ≡ false
-  unfolding upTo isKeyOf
-  no-key p zero h = refl
-  no-key p (suc n) h = key-last p (upTo f n) (f n) ∙ rw (no-key p n (λ i k. h i (omega (arith, k))), h n (omega arith))
+  of-clash : {i j : ℕ} → Clash (upTo f n) i j → (j < n) × (keyAt i j ≡ true)
+  of-clash {i} {j} c =
+      let below : j < n = rw (length-upTo f n) at (c .below) in
+      (below, rw (path-of i (omega (arith, c .before)), path-of j below) at (c .key))
 
-  a-key : (p : List ℕ) (n i : ℕ) → i < n → hasKey (f i .path) p ≡ true → isKeyOf p (upTo f n) ≡ true
-  unfolding upTo
-  a-key p zero i k h = absurd (not-suc-le-zero k)
-  a-key p (suc n) i k h = key-last p (upTo f n) (f n) ∙ by-equal i n
-      (λ q. rw (rw q at h) (or-true (isKeyOf p (upTo f n))))
-      (λ q. rw (a-key p n i (omega (arith, k, q)) h))
+  is-clash : {i j : ℕ} → i < j → j < n → keyAt i j ≡ true → Clash (upTo f n) i j
+  is-clash {i} {j} before below key = record { before = before; below = rw (length-upTo f n) below; key = rw (path-of i (omega arith), path-of j below) key }
 
-  no-clash : (n : ℕ) → ((i j : ℕ) → i < j → j < n → keyAt i j ≡ false) → firstClash [] (upTo f n) ≡ none
-  unfolding upTo firstClash orElse
-  no-clash zero h = refl
-  no-clash (suc n) h = next-clash n ∙ rw (no-clash n (λ i j a b. h i j a (omega (arith, b))), no-key (f n .path) n (λ i k. h i n k (omega arith)))
+  without-clash : ((i j : ℕ) → i < j → j < n → keyAt i j ≡ false) → firstClash [] (upTo f n) ≡ none
+  without-clash h = no-clash (upTo f n) .1 (λ i j c. let k = of-clash c in clash (cc (k .1, h i j (c .before) (k .0))))
 
-  a-clash : (n j : ℕ) → j < n → Hit keyAt j → ((i k : ℕ) → i < k → k < j → keyAt i k ≡ false) → firstClash [] (upTo f n) ≡ some j
-  unfolding orElse
-  a-clash zero j l t h = absurd (not-suc-le-zero l)
-  a-clash (suc n) j l t h = next-clash n ∙ by-equal j n
-      (λ q. rw (no-clash n (λ i k a b. h i k a (omega (arith, b, q))), a-key (f n .path) n (t .earlier) (omega (arith, t .before, q)) (rw q at (t .key)), q))
-      (λ q. rw (a-clash n j (omega (arith, l, q)) t h))
+  with-clash : (j : ℕ) → j < n → Hit keyAt j → ((i k : ℕ) → i < k → k < j → keyAt i k ≡ false) → firstClash [] (upTo f n) ≡ some j
+  with-clash j below t h = first-clash (upTo f n) j .1 (record {
+    earlier = t .earlier;
+    clash = is-clash (t .before) below (t .key);
+    least = λ i k c. by-order j k (λ m. m) (λ m. clash (cc (of-clash c .1, h i k (c .before) m)));
+  })
 
 -- ---- narrowing down
 
@@ -269,8 +231,8 @@ module _ (s : Store) {n h least : ℕ} (e : n ≡ s .header .groups) (found : So
 
   pub sought-some : least < n → some least ≡ firstClash [] (contentOf s .groups)
   unfolding contentOf
-  sought-some l = sym (a-clash (groupAt s) (s .header .groups) least (omega (arith, l, e)) (found .hit l) all-clear)
+  sought-some l = sym (with-clash (groupAt s) (s .header .groups) least (omega (arith, l, e)) (found .hit l) all-clear)
 
   pub sought-none : n ≤ least → none ≡ firstClash [] (contentOf s .groups)
   unfolding contentOf
-  sought-none l = sym (no-clash (groupAt s) (s .header .groups) (λ i j a b. all-clear i j a (omega (arith, b, l, e))))
+  sought-none l = sym (without-clash (groupAt s) (s .header .groups) (λ i j a b. all-clear i j a (omega (arith, b, l, e))))

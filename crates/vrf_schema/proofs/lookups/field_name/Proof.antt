@@ -5,7 +5,7 @@ use borrow.Author.Needs.{needs}
 use Rattle.vrf_model.specs.Calls.{text, onText, run}
 use Rattle.vrf_store.specs.CheckSteps.{fails, holds}
 use Rattle.vrf_store.specs.Good.{check-good}
-use Rattle.vrf_schema.specs.Door.{spoiled-book, checked, looked}
+use Rattle.vrf_schema.specs.Door.{text-refused, text-found, checked, looked}
 use Rattle.vrf_schema.proofs.lookups.field_name.Statement.{statement}
 use Rattle.vrf_schema.proofs.lookups.field_name.Tie as tie
 
@@ -22,14 +22,14 @@ part-result-end : tie.Need-part-result-end
 part-result-end c = search needs
 
 returns : tie.Need-returns
-returns c = spoiled-book (fails (c .before .before .check .ensures) (c .before .if1 .taken)) refl
+returns c = text-refused (fails (c .before .before .check .ensures) (c .before .if1 .taken))
 
 field-name-requires : tie.Need-field-name-requires
 field-name-requires c κs = check-good (now (c .before .before .before .args .book)) (holds (c .before .check .ensures) (c .if1 .left))
 
 returns-2 : tie.Need-returns-2
 unfolding run onText
-returns-2 c = looked (checked (holds (c .before .before .check .ensures) (c .before .if1 .left))) (λ i. c .before .before .before .shared-slice-known .given i .fits) (ap text (c .field-name .ensures)) refl
+returns-2 c = text-found (looked (checked (holds (c .before .before .check .ensures) (c .before .if1 .left))) (λ i. c .before .before .before .shared-slice-known .given i .fits) (ap text (c .field-name .ensures)) refl)
 
 pub field-name-spec : {M : Type 1} → statement M
 field-name-spec = tie.close (tie.spec check-requires sub-result part-result-start part-result-end returns field-name-requires returns-2)
