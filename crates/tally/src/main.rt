@@ -1,13 +1,9 @@
 // Reads a block on standard input, and prints its seven counts or its refusal.
-ghost use Prim.Native.Nat.{_≤_};
-ghost use lib.ListN.{length};
-
-fn run(input: &mut [u8], out: &mut [u8])
-    requires { ⌜ 512 ≤ length (now out) ⌝ }
-{
+fn run(input: &mut [u8], out: &mut [u8; 512]) {
     let n = io::read_full(0, input);
     let m = vrf_tally::tally(&input[0..n], out);
-    io::write_all(1, &out[0..m]);
+    let lines = &out[..];
+    io::write_all(1, &lines[0..m]);
 }
 
 // Whole arrays are lent as arrays first: their lengths then need no proof in `main`. A byte more than a block may have is enough to see

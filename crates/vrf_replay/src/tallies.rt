@@ -35,12 +35,12 @@ fn say(lines: &[u8], out: &mut [u8], run: Run) -> Run
     run.ended(out, said)
 }
 
-fn tell(input: &[u8], lines: &mut [u8], out: &mut [u8], run: Run) -> Run
-    requires { ⌜ 512 ≤ length (now lines) ⌝ }
+fn tell(input: &[u8], lines: &mut [u8; 512], out: &mut [u8], run: Run) -> Run
     ensures { λ r. ⌜ r .to ≤ length (now (out .entry)) ⌝ }
 {
     let n = vrf_tally::tally(input, lines);
-    say(&lines[0..n], out, run)
+    let all = &lines[..];
+    say(&all[0..n], out, run)
 }
 
 fn over(input: &[u8], out: &mut [u8], run: Run) -> Run

@@ -102,9 +102,8 @@ fn read(input: &[u8]) -> Tables
 }
 
 // Writes what the tool prints for an input at the front of a buffer, and answers its length.
-pub fn tally(input: &[u8], out: &mut [u8]) -> usize
-    requires { ⌜ 512 ≤ length (now out) ⌝ }
-    ensures { λ r. ⌜ Put (tally (now (input .entry))) (now (out .entry)) 0 (now (out .exit)) r ⌝ }
+pub fn tally(input: &[u8], out: &mut [u8; 512]) -> usize
+    ensures { λ r. ⌜ (r ≤ 512) × Put (tally (now (input .entry))) (now (out .entry)) 0 (now (out .exit)) r ⌝ }
 {
     if 65536 < input.len() {
         return put_refusal(
