@@ -31,18 +31,18 @@ use Rattle.vrf_bitio.specs.declared.Copied.the-variants.{Done, Refused a
 same-cursor : (d e : Cursor) → d .first ≡ e .first → d .count ≡ e .count → d .pos ≡ e .pos → d ≡ e
 same-cursor d e f n p = λ i. record { first = f i; count = n i; pos = p i }
 
+-- refusals with the same number and details
+pub same-details : (r q : Refusal) → r .number ≡ q .number → r .a ≡ q .a → r .b ≡ q .b → r ≡ q
+same-details r q n a b = λ i. record { number = n i; a = a i; b = b i }
+
 module _ {A : Type 0} (x : Read A) where
   -- the value and the cursor behind it
-  same-value : {s : List ℕ} {c : Cursor} {v w : A} {d e : Cursor} → Gave s c x v d → Gave s c x w e → (v ≡ w) × (d ≡ e)
+  pub same-value : {s : List ℕ} {c : Cursor} {v w : A} {d e : Cursor} → Gave s c x v d → Gave s c x w e → (v ≡ w) × (d ≡ e)
   same-value {d = d} {e} g h = (cc (g .read, h .read), same-cursor d e (cc (g .first, h .first)) (cc (g .count, h .count)) (cc (g .read, h .read)))
 
   -- the refusal
-  same-refusal : {r q : Refusal} → Refuses x r → Refuses x q → r ≡ q
-  same-refusal {r} {q} e f =
-      let number : r .number ≡ q .number = cc in
-      let a : r .a ≡ q .a = cc in
-      let b : r .b ≡ q .b = cc in
-      λ i. record { number = number i; a = a i; b = b i }
+  pub same-refusal : {r q : Refusal} → Refuses x r → Refuses x q → r ≡ q
+  same-refusal {r} {q} e f = same-details r q (cc) (cc) cc
 
   -- no value besides a refusal
   not-both : {v : A} {p : ℕ} {m : List ℕ} {r : Refusal} → x ≡ ok v p m → Refuses x r → ⊥

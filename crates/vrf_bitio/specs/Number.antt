@@ -4,7 +4,7 @@ use mathlib.Core.List.{List, [], _∷_}
 use Prim.Native.Nat.{ℕ, zero, suc, _+_, _-_, _*_, _/_, _%_, _^_}
 use lib.Dec.{ltb, eqb}
 use lib.IntN.{ℤ}
-use Rattle.vrf_bitio.specs.Reading.{Read, ok, refused, Reader, return, _>>=_}
+use Rattle.vrf_bitio.specs.Reading.{ok, refused, Reader, return, _>>=_}
 
 unfoldable pub byte : Reader ℕ
 byte pos [] = refused 10 pos 8

@@ -1,10 +1,9 @@
 -- Two answers of the code that stand for the same answer of document 01 are the same.
 use mathlib.Core.Path.{_≡_, refl, ap}
-use Rattle.vrf_bitio.specs.declared.Refusal.{Refusal}
+use Rattle.vrf_bitio.specs.Determined.{same-details}
 use Rattle.vrf_text.specs.Cases.{clash}
-use Prim.Native.Nat.{ℕ}
 use Rattle.vrf_model.specs.Block.{Counts}
-use Rattle.vrf_model.specs.Answers.{refusalOf, actedOf, addedOf, placedOf, foundOf, ranOf, countsOf, tablesOf, numberOf, wroteOf}
+use Rattle.vrf_model.specs.Answers.{actedOf, addedOf, placedOf, foundOf, ranOf, countsOf, tablesOf, numberOf, wroteOf}
 use Rattle.vrf_model.specs.declared.Acted.{Acted}
 use Rattle.vrf_model.specs.declared.Acted.the-variants.{Done, Refused as NotActed}
 use Rattle.vrf_model.specs.declared.Added.{Added}
@@ -23,9 +22,6 @@ use Rattle.vrf_model.specs.declared.Number.the-variants.{Is, Refused as 
 use Rattle.vrf_model.specs.declared.Wrote.{Wrote}
 use Rattle.vrf_model.specs.declared.Wrote.the-variants.{Length, Refused as NotWrote}
 
-same-refusal : (r q : Refusal) → r .number ≡ q .number → r .a ≡ q .a → r .b ≡ q .b → r ≡ q
-same-refusal r q n a b = λ i. record { number = n i; a = a i; b = b i }
-
 same-tables : (t u : CheckpointTables) → countsOf t ≡ countsOf u → t ≡ u
 same-tables t u e = ap (λ (c : Counts). record {
   «guid_count» = c .guids;
@@ -41,13 +37,13 @@ pub same-acted : (r q : Acted) → actedOf r ≡ actedOf q → r ≡ q
 same-acted Done Done e = refl
 same-acted Done (NotActed y) e = clash cc
 same-acted (NotActed x) Done e = clash cc
-same-acted (NotActed x) (NotActed y) e = ap NotActed (same-refusal x y (cc) (cc) cc)
+same-acted (NotActed x) (NotActed y) e = ap NotActed (same-details x y (cc) (cc) cc)
 
 pub same-added : (r q : Added) → addedOf r ≡ addedOf q → r ≡ q
 same-added (AddedAt i) (AddedAt j) e = cc
 same-added (AddedAt i) (NotAdded y) e = clash cc
 same-added (NotAdded x) (AddedAt j) e = clash cc
-same-added (NotAdded x) (NotAdded y) e = ap NotAdded (same-refusal x y (cc) (cc) cc)
+same-added (NotAdded x) (NotAdded y) e = ap NotAdded (same-details x y (cc) (cc) cc)
 
 pub same-placed : (r q : Placed) → placedOf r ≡ placedOf q → r ≡ q
 same-placed IsPlaced IsPlaced e = refl
@@ -58,7 +54,7 @@ same-placed NotPlaced NotPlaced e = refl
 same-placed NotPlaced (PlaceRefused y) e = clash cc
 same-placed (PlaceRefused x) IsPlaced e = clash cc
 same-placed (PlaceRefused x) NotPlaced e = clash cc
-same-placed (PlaceRefused x) (PlaceRefused y) e = ap PlaceRefused (same-refusal x y (cc) (cc) cc)
+same-placed (PlaceRefused x) (PlaceRefused y) e = ap PlaceRefused (same-details x y (cc) (cc) cc)
 
 pub same-found : (r q : Found) → foundOf r ≡ foundOf q → r ≡ q
 same-found (FoundAt i) (FoundAt j) e = cc
@@ -69,28 +65,28 @@ same-found Absent Absent e = refl
 same-found Absent (NotFound y) e = clash cc
 same-found (NotFound x) (FoundAt j) e = clash cc
 same-found (NotFound x) Absent e = clash cc
-same-found (NotFound x) (NotFound y) e = ap NotFound (same-refusal x y (cc) (cc) cc)
+same-found (NotFound x) (NotFound y) e = ap NotFound (same-details x y (cc) (cc) cc)
 
 pub same-ran : (r q : Ran) → ranOf r ≡ ranOf q → r ≡ q
 same-ran (Ended n p) (Ended m q) e = cc
 same-ran (Ended n p) (NotRan y) e = clash cc
 same-ran (NotRan x) (Ended m q) e = clash cc
-same-ran (NotRan x) (NotRan y) e = ap NotRan (same-refusal x y (cc) (cc) cc)
+same-ran (NotRan x) (NotRan y) e = ap NotRan (same-details x y (cc) (cc) cc)
 
 pub same-read : (r q : Tables) → tablesOf r ≡ tablesOf q → r ≡ q
 same-read (Read t) (Read u) e = ap Read (same-tables t u cc)
 same-read (Read t) (NotRead y) e = clash cc
 same-read (NotRead x) (Read u) e = clash cc
-same-read (NotRead x) (NotRead y) e = ap NotRead (same-refusal x y (cc) (cc) cc)
+same-read (NotRead x) (NotRead y) e = ap NotRead (same-details x y (cc) (cc) cc)
 
 pub same-number : (r q : Number) → numberOf r ≡ numberOf q → r ≡ q
 same-number (Is m) (Is n) e = cc
 same-number (Is m) (NoNumber y) e = clash cc
 same-number (NoNumber x) (Is n) e = clash cc
-same-number (NoNumber x) (NoNumber y) e = ap NoNumber (same-refusal x y (cc) (cc) cc)
+same-number (NoNumber x) (NoNumber y) e = ap NoNumber (same-details x y (cc) (cc) cc)
 
 pub same-wrote : (r q : Wrote) → wroteOf r ≡ wroteOf q → r ≡ q
 same-wrote (Length m) (Length n) e = cc
 same-wrote (Length m) (NotWrote y) e = clash cc
 same-wrote (NotWrote x) (Length n) e = clash cc
-same-wrote (NotWrote x) (NotWrote y) e = ap NotWrote (same-refusal x y (cc) (cc) cc)
+same-wrote (NotWrote x) (NotWrote y) e = ap NotWrote (same-details x y (cc) (cc) cc)

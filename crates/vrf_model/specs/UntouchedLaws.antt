@@ -6,19 +6,18 @@ use mathlib.Core.List.{List, [], _∷_, _++_}
 use mathlib.Core.Option.{Option, none, some}
 use Prim.Native.Nat.{ℕ, zero, suc, _<_}
 use native.Mathlib.Nat.{le-of-suc-le-suc, not-suc-le-zero}
-use native.Mathlib.Omega.{arith}
 use lib.Dec.{eqb, ltb}
-use lib.ListN.{length, getD, set, length-set, length-append}
+use lib.ListN.{length, getD, set, length-set}
 use lib.Seq.{getD-set-same, getD-set-other}
 use borrow.Author.Tests.{ltb-true, eqb-true, eqb-false}
-use Rattle.vrf_text.specs.Cases.{by-cond, clash}
+use Rattle.vrf_text.specs.Cases.{clash}
 use Rattle.vrf_text.specs.Text.{CallerText, accepted, refusal, callerText}
 use Rattle.vrf_model.specs.Book.{Guid, Slot, empty, filled, Group, Content, Tally, passed}
 use Rattle.vrf_model.specs.Lookup.{placeOr, pathPlace, indexPlace, guidPlace, slotAt}
 use Rattle.vrf_model.specs.Setting.{Step, done, refuses, unlessPassed, keep, withGuids, withGroups, sameGuid, setGuidAt, setGuid, newGroup, mergedGroup, merge, addGroupAt, addGroup, withSlot, noGroup, setFieldAt, setField}
-use Rattle.vrf_model.specs.Calls.{add-export-group, set-field-on-group, at-place, field-placed, Answer, Result, only, ofStep, onText, addDirectly, run}
+use Rattle.vrf_model.specs.Calls.{add-export-group, set-field-on-group, at-place, field-placed, only, ofStep, onText, addDirectly, run}
 use Rattle.vrf_model.specs.Untouched.{OneSlot, PlacedAlone, OneGroup}
-use Rattle.vrf_model.specs.PlaceLaws.{LastAt, lastPlace-some, placeOr-at, placeOr-last}
+use Rattle.vrf_model.specs.PlaceLaws.{lastPlace-some, placeOr-at, placeOr-last}
 
 -- ---- one element of a list made anew
 

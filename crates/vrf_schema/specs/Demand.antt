@@ -85,7 +85,8 @@ pub record Seated (a : Allowances) (calls : List Call) (rs : List Answer) (m : L
   pub joins : a .guids ≤ a .literals → {before after : List ℕ} {n : ℕ} → Writes m before after (Length n)
       → {lent late₀ late : List ℕ} {r : Answer} → Begun a lent late₀ Done → Called (read-checkpoint-tables (whole (take n after))) late₀ late r
       → Joined m late r
-  -- lookups of groups here, whatever the allowances are; at both seats after further calls in `Together`
+  -- lookups of groups here, whatever the allowances are; at both seats after further calls in `Together`. A late memory that could not
+  -- read the block is an opened one after a list of calls too, so this speaks of it as well
   pub lookups : OffList m
 
 -- ---- what a list of calls leaves

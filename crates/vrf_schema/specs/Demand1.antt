@@ -12,8 +12,8 @@ use lib.ListN.{length, take, length-take}
 use Rattle.vrf_text.specs.Cases.{clash}
 use Rattle.vrf_words.specs.Words.{word, part}
 use Rattle.vrf_words.specs.WordsLaws.{word-part}
-use Rattle.vrf_model.specs.Book.{Book, Content, filled}
-use Rattle.vrf_model.specs.Calls.{Call, add-export-group, set-field-on-group, Answer, refusal-of, field-placed, at-place, run, runBook}
+use Rattle.vrf_model.specs.Book.{Book, filled}
+use Rattle.vrf_model.specs.Calls.{Call, add-export-group, set-field-on-group, Answer, refusal-of, field-placed, at-place, runBook}
 use Rattle.vrf_model.specs.Lawful.{Lawful}
 use Rattle.vrf_model.specs.CallsLawful.{IsReader, refused-changes-nothing}
 use Rattle.vrf_model.specs.Untouched.{PlacedAlone, OneGroup}

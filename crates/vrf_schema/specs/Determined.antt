@@ -9,7 +9,7 @@ use lib.ListN.{length}
 use Rattle.vrf_text.specs.Cases.{clash}
 use Rattle.vrf_model.specs.Book.{Allowances, Tally}
 use Rattle.vrf_model.specs.Calls.{Call, Answer}
-use Rattle.vrf_model.specs.Answers.{actedOf, addedOf, placedOf, foundOf, ranOf, tablesOf, numberOf, wroteOf}
+use Rattle.vrf_model.specs.Answers.{actedOf, addedOf, placedOf, foundOf, ranOf, tablesOf, numberOf}
 use Rattle.vrf_model.specs.AnswersLaws.{same-acted, same-added, same-placed, same-found, same-ran, same-read, same-number, same-wrote}
 use Rattle.vrf_model.specs.declared.Acted.{Acted}
 use Rattle.vrf_model.specs.declared.Acted.the-variants.{Done, Refused as NotActed}
