@@ -1,13 +1,13 @@
 #!/usr/bin/env bash
 # Builds the original Rust from a folder of its sources, together with the
-# driver kept here, and runs one mode of the driver:
+# driver in workspace, and runs one mode of the driver:
 #
 #   run.sh FOLDER MODE [ARGS]
 #
-# FOLDER holds crates/vrf-bitio/src and crates/vrf-schema/src. Nothing of it is
-# copied into the repository: everything is staged and built in
-# VRF_COMPARE_DIR, by default vrf-compare in the temporary folder.
-# README.md lists the modes and the other variables.
+# FOLDER has crates/vrf-bitio/src and crates/vrf-schema/src. Its files are not
+# copied into the repository: everything is copied to VRF_COMPARE_DIR and built
+# there. The default is vrf-compare in the temporary folder. README.md lists
+# the modes and the other variables.
 set -euo pipefail
 
 if [ $# -lt 2 ]; then
@@ -29,8 +29,8 @@ mkdir -p "$stage"
 stage=$(cd "$stage" && pwd)
 export VRF_COMPARE_DIR=$stage
 
-# Copies a file only where its content differs: cargo goes by file times, and
-# an untouched copy spares a build, while a changed one always gets a new time.
+# Copies a file only if its content differs. Whether cargo builds it again
+# depends on the file's time, which an equal copy keeps.
 declare -A staged
 place() {
     staged[$2]=1
@@ -40,7 +40,7 @@ place() {
     fi
 }
 
-# Should a folder bring its own lib.rs of vrf-schema, ours still counts.
+# The lib.rs of vrf-schema is the one in workspace, even if FOLDER has one too.
 for file in "$originals"/vrf-bitio/src/*.rs "$originals"/vrf-schema/src/*.rs; do
     name=${file#"$originals"/}
     [ "$name" = vrf-schema/src/lib.rs ] || place "$file" "$name"
@@ -49,13 +49,13 @@ while IFS= read -r name; do
     place "$here/workspace/$name" "$name"
 done < <(cd "$here/workspace" && find * -name '*.rs' -o -name Cargo.toml)
 
-# What only an earlier run staged must not be built.
+# Files that only an earlier run copied must not be built.
 while IFS= read -r name; do
     [ -n "${staged[$name]:-}" ] || rm "$stage/$name"
 done < <(cd "$stage" && find driver thiserror vrf-bitio vrf-schema -type f)
 
-# The two static libraries may well hold the same functions under the same
-# names, so a build links only the one that its mode needs.
+# The two static libraries may have functions of the same names, so a build
+# links only the library that its mode needs.
 if [ "$mode" = bench ]; then
     unset VRF_STATICLIB
 else

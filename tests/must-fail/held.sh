@@ -1,18 +1,19 @@
 #!/usr/bin/env bash
-# Passes on what `rt ci` or `rt must-fail` prints, and holds every must-fail edit to what it says. rt asks of an edit that its crate is
-# refused. An edit may have many wrong programs in it, and for each a line that says where a fact must fail; the edit's log is asked:
+# Copies the output of `rt ci` or `rt must-fail`, and checks why each must-fail edit is refused. rt only checks that the edit's crate is
+# refused. An edit can have many wrong programs. For each it has a line that says where a fact must fail, and the edit's log must show it:
 #
-#   refuses: FUNCTION           the function is not proved by itself, not for want of another that it calls
-#   refuses: specs/FILE         a law of that file does not hold by itself (a file of proofs/ likewise)
-#   refuses: specs/FILE NAME    the law of that name, or of that field of a record of laws, does not hold by itself
+#   refuses: FUNCTION           the function itself is not proved; it is not enough that a function it calls is not proved
+#   refuses: specs/FILE         a law of that file is wrong; it is not enough that a law it uses is wrong. FILE can be in a subfolder, and
+#                               a file of proofs/ can be named too
+#   refuses: specs/FILE NAME    the law of that name, or the field of that name in a record of laws, is wrong
 #
-# The last line is still 'N passed, M failed'; an edit that is refused, but not so, has failed. With a folder as its argument it looks for
-# edits and logs there: so `selftest.sh` tries it.
+# The last line is still 'N passed, M failed'. An edit that is refused for another reason counts as failed. With a folder as its argument
+# it looks for edits and logs there; `selftest.sh` uses this.
 set -euo pipefail
 cd "${1:-$(dirname "$0")/../..}"
 
-# How an error goes on behind the name of its file, as an extended regular expression: anywhere, or in a declaration of that name, or at
-# the line that gives a record the field of that name.
+# What follows the file name in an error, as an extended regular expression: any error, or an error in the declaration NAME, or at the line
+# that defines the field NAME of a record.
 place_of() { # FILE NAME
     local line
     [ -n "$2" ] || { echo '[0-9]+:[0-9]+: error: '; return; }
@@ -20,8 +21,8 @@ place_of() { # FILE NAME
     echo "([0-9]+:[0-9]+: error: \`$2\`: ${line:+|$line:[0-9]+: error: })"
 }
 
-# Whether a fact fails in a file: the log has an error there that is more than waiting for a declaration which was not admitted, and
-# none about a name that is not there. Such a name means that the proof is one of another program, and then it says nothing of this one.
+# Whether a fact fails in a file. The log must have an error there that does not just say that another declaration was not admitted. It must
+# have no error about an unknown name: then the proof was written for another program, and says nothing about this one.
 fails_in() { # LOG FILE [NAME], the file as an extended regular expression
     local errors
     errors=$(grep -E "/$2:$(place_of "${1%/.log}/${2//\\/}" "${3:-}")" "$1" | grep -v 'was not admitted') || return 1

@@ -1,25 +1,32 @@
 #!/usr/bin/env python3
-"""Builds a script (see docs/SCRIPTS.md) and the answers expected of it from lists of vectors that a person can read.
+"""Makes a script (see docs/SCRIPTS.md) and its expected answers from lists of vectors that a person can read.
 
     make.py SCRIPT ANSWERS LIST...
 
-A vector is a window and the readings made in it, one below the other:
+A vector is a window, followed by the readings in it, one on each line:
 
-    window FIRST COUNT : BYTES        bytes in hexadecimal, first bit and bit count as numbers, COUNT `all` for what is there
-    window shifted : BYTES            eight calls, the bytes moved up by 0 to 7 bits, the window beginning at that bit
-      READING ARGUMENTS = ANSWER      the answer as the document gives it, with the position after it
+    window FIRST COUNT : BYTES        first bit, bit count (`all`: to the end) and the bytes, in hexadecimal
+    window shifted : BYTES            eight calls: the bytes are moved up by 0 to 7 bits, and the window begins at that bit
+      READING ARGUMENTS = ANSWER      the answer that the document gives, with the position after it
 
-or another call, with its numbers in the order of docs/SCRIPTS.md and its blob, if it has one, behind them:
+or another call, with its numbers in the order of docs/SCRIPTS.md, and then its blob if it has one:
 
-    CALL NUMBERS : BYTES = ANSWER     numbers of a window: none for the whole, `at K` for the bytes moved up by K bits, or first bit and
-                                      bit count
-      = ANSWER                        a further line of the same answer
-      holds BYTES                     what stands at the front of the buffer after a writing; the rest is as it was lent
+    CALL NUMBERS : BYTES = ANSWER     for a window, the first numbers are: none for all bits; `at K` if the bytes are moved up by K bits; or
+                                      first bit and bit count
+      = ANSWER                        one more line of the call's answer
+      holds BYTES                     the first bytes of the buffer after a writing; the other bytes are unchanged
 
-In BYTES, `"..."` stands for its characters, `utf8 <..>` for a text's length word and bytes with no zero byte, `utf16 <..>` for the same
-with a negative length, `text "..."` for a text as the writer sends it, `packed N` for a packed number in the fewest bytes, `word N` for a
-32-bit word, and `N x BB` for a byte repeated. Everything to the right of `=` is what the answers must be; nothing here computes it, but for
-the sum over a buffer, whose bytes are given.
+BYTES can have:
+
+    "..."           its characters
+    utf8 <..>       a length word, then the bytes; no zero byte is added
+    utf16 <..>      a negative length word, then the units; no zero unit is added
+    text "..."      a text as the writer sends it
+    packed N        a packed number in the fewest bytes
+    word N          a 32-bit word
+    N x BB          N times the byte BB
+
+The text after `=` is the expected answer. Nothing of it is computed here, except the `fnv` of a buffer, whose bytes are given.
 """
 import re
 import struct
@@ -29,7 +36,7 @@ READINGS = {
     "bit": 0, "bits": 1, "u8": 2, "u32": 3, "i32": 4, "packed": 5, "text": 6, "name": 7, "copy": 8, "sub": 9, "up": 10,
 }
 
-# The byte of each call, and what it is given: a number by its letter, a blob by `b`, a window by `w`.
+# The byte of each call, and its arguments: the `struct` letter of a number, `b` for a blob, `w` for a window.
 CALLS = {
     "open": (0x01, "BQQQQQ"), "use": (0x02, "B"), "clear": (0x03, ""),
     "add": (0x04, "bII"), "field": (0x05, "IIIb"), "guid": (0x06, "IbI"),
@@ -91,7 +98,7 @@ def moved(data, by):
 
 
 def blob(data):
-    """The bytes; a long run of one byte at the end is sent as that byte once."""
+    """A plain blob, or a filled one if at least 64 equal bytes are at the end."""
     head = len(data.rstrip(data[-1:])) if data else 0
     if len(data) - head < 64:
         return struct.pack("<I", len(data)) + data
@@ -115,7 +122,7 @@ def reading(line):
 
 
 def windows_of(numbers, data):
-    """The windows of a call, as (bytes, first, count); the numbers that are not theirs are left in the list."""
+    """The windows of a call, as (bytes, first, count). Removes the windows' numbers from the list."""
     if numbers[:1] == ["shifted"]:
         del numbers[0]
         return [(moved(data, k), k, len(data) * 8) for k in range(8)]
@@ -131,7 +138,7 @@ def windows_of(numbers, data):
 
 
 def call(name, numbers, data):
-    """A call but `bits`. The numbers of a window come first in the list, whatever comes first in the script."""
+    """A call other than `bits`. The list has the numbers of a window first, even if the script has others before it."""
     code, given = CALLS[name]
     out = bytes([code])
     if "w" in given:
@@ -157,7 +164,7 @@ def fnv(data):
 
 
 class Vector:
-    """One of the list's calls: its lines, first the call's own, then what stands below it."""
+    """A call of the list: the call's own line, then the indented lines after it."""
 
     def __init__(self, line):
         head, _, self.answer = line.partition("=")
@@ -187,9 +194,9 @@ class Vector:
             return
         lines = ([self.answer] if self.answer else []) + self.further
         if self.name == "write":
-            room = int(self.numbers[0])
+            size = int(self.numbers[0])
             if lines[0] != "no book":
-                lines[0] += f" fnv {fnv(self.holds.ljust(room, bytes([0xA5]))):016x}"
+                lines[0] += f" fnv {fnv(self.holds.ljust(size, bytes([0xA5]))):016x}"
         yield call(self.name, list(self.numbers), self.data), lines
 
 

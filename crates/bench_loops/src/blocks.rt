@@ -1,4 +1,5 @@
-// What tests/compare times of checkpoint blocks and fields runs, at the door and behind it, where the check is left out.
+// What tests/compare times of checkpoint blocks and fields runs: the exported functions, and the unchecked calls, which leave out the check
+// of the book.
 use crate::whole;
 use vrf_bitio::Word;
 use vrf_checkpoint::block;
@@ -14,9 +15,9 @@ use vrf_schema::writing;
 use vrf_writer::write;
 ghost use Prim.Native.Nat.{_≤_};
 ghost use lib.ListN.{length};
-ghost use Rattle.vrf_store.specs.Good.{Good};
+ghost use Rattle.vrf_store.specs.Inner.WellFormed.{WellFormed};
 
-// The sum of what a block's reading counts: the Rust's must be the same.
+// The sum of six of a block's counts. The Rust must give the same sum.
 fn summed(t: CheckpointTables) -> u64 {
     let records = std::num::wrapping_add_u64(t.guid_count as u64, t.group_count as u64);
     let paths = std::num::wrapping_add_u64(t.literal_paths as u64, t.resolved_path_indices as u64);
@@ -24,7 +25,7 @@ fn summed(t: CheckpointTables) -> u64 {
     std::num::wrapping_add_u64(std::num::wrapping_add_u64(records, paths), rest)
 }
 
-// The same of a reading, 0 where it is refused.
+// The sum of the counts that a block reader answers, 0 if it is refused.
 fn counted(t: Tables) -> u64 {
     match t {
         Tables::Read(t) => summed(t),
@@ -32,15 +33,15 @@ fn counted(t: Tables) -> u64 {
     }
 }
 
-// Reads a block into a good book, behind the door.
-fn read_behind(m: &mut [u8], s: &[u8]) -> u64
-    requires { ⌜ Good (now m) ⌝ }
+// Reads a block into a well-formed book with the unchecked call.
+fn read_unchecked(m: &mut [u8], s: &[u8]) -> u64
+    requires { ⌜ WellFormed (now m) ⌝ }
 {
-    let mut room = [0u8; 4096];
-    counted(block::read_checkpoint_tables(s, whole(s), m, &mut room))
+    let mut scratch = [0u8; 4096];
+    counted(block::read_checkpoint_tables(s, whole(s), m, &mut scratch))
 }
 
-// Opens a book and reads a block into it.
+// Opens a book and reads a block into it. Answers the sum of its counts.
 #[no_mangle]
 pub extern "C" fn bench_read_block(
     m: &mut [u8],
@@ -49,21 +50,21 @@ pub extern "C" fn bench_read_block(
     fields: u64,
     text: u64,
     s: &[u8],
-    door: bool,
+    checked: bool,
 ) -> u64 {
     match open(m, guids, groups, fields, text, guids) {
         Acted::Refused(_) => 0,
         Acted::Done => {
-            if door {
+            if checked {
                 return counted(reading::read_checkpoint_tables(m, s, 0, whole(s).count as u64));
             }
-            read_behind(m, s)
+            read_unchecked(m, s)
         }
     }
 }
 
-// Reads so many fields runs, one behind another, at the door. Answers how many exports they have.
-fn runs_at_door(m: &mut [u8], s: &[u8], n: u32) -> u64 {
+// Reads n fields runs, one after another, with the exported function. Answers how many exports they have.
+fn runs_checked(m: &mut [u8], s: &[u8], n: u32) -> u64 {
     let end = whole(s).count as u64;
     let mut first: u64 = 0;
     let mut sum: u64 = 0;
@@ -82,14 +83,14 @@ fn runs_at_door(m: &mut [u8], s: &[u8], n: u32) -> u64 {
     sum
 }
 
-// The same behind the door, with a room for texts.
-fn runs_behind(m: &mut [u8], s: &[u8], room: &mut [u8], n: u32) -> u64
-    requires { ⌜ Good (now m) × (4096 ≤ length (now room)) ⌝ }
+// Reads n fields runs, one after another, with the unchecked call and a scratch buffer for texts. Answers how many exports they have.
+fn runs_unchecked(m: &mut [u8], s: &[u8], scratch: &mut [u8], n: u32) -> u64
+    requires { ⌜ WellFormed (now m) × (4096 ≤ length (now scratch)) ⌝ }
 {
     let mut c = whole(s);
     let mut sum: u64 = 0;
     for _ in 0..n {
-        match fields::read_net_field_exports(s, c, m, room) {
+        match fields::read_net_field_exports(s, c, m, scratch) {
             Word::Refused(_) => return sum,
             Word::Value(exports, next) => {
                 sum = std::num::wrapping_add_u64(sum, exports as u64);
@@ -100,19 +101,19 @@ fn runs_behind(m: &mut [u8], s: &[u8], room: &mut [u8], n: u32) -> u64
     sum
 }
 
-// Reads fields runs into a book. As with `bench_look`, the caller tests the book before.
+// Reads fields runs into a book. As with `bench_look`, the caller checks the book first, with `bench_check`.
 #[no_mangle]
-pub extern "C" fn bench_read_runs(m: &mut [u8], s: &[u8], n: u32, door: bool) -> u64
-    requires { ⌜ Good (now m) ⌝ }
+pub extern "C" fn bench_read_runs(m: &mut [u8], s: &[u8], n: u32, checked: bool) -> u64
+    requires { ⌜ WellFormed (now m) ⌝ }
 {
-    if door {
-        return runs_at_door(m, s, n);
+    if checked {
+        return runs_checked(m, s, n);
     }
-    let mut room = [0u8; 4096];
-    runs_behind(m, s, &mut room, n)
+    let mut scratch = [0u8; 4096];
+    runs_unchecked(m, s, &mut scratch, n)
 }
 
-// The length of a written block, 0 where it is refused.
+// The length of a written block, 0 if the writer is refused.
 fn length_of(w: Wrote) -> u64 {
     match w {
         Wrote::Length(n) => n,
@@ -120,12 +121,12 @@ fn length_of(w: Wrote) -> u64 {
     }
 }
 
-// Writes a book. As with `bench_look`, the caller tests the book before.
+// Writes a book. As with `bench_look`, the caller checks the book first, with `bench_check`.
 #[no_mangle]
-pub extern "C" fn bench_write_block(m: &[u8], out: &mut [u8], door: bool) -> u64
-    requires { ⌜ Good (now m) ⌝ }
+pub extern "C" fn bench_write_block(m: &[u8], out: &mut [u8], checked: bool) -> u64
+    requires { ⌜ WellFormed (now m) ⌝ }
 {
-    if door {
+    if checked {
         return length_of(writing::write_checkpoint_tables(m, out));
     }
     length_of(write::write_checkpoint_tables(m, out))

@@ -1,4 +1,4 @@
-// What tests/compare times of a book. A sheet lists calls or lookups, one row of six words each; the texts that they bring stand beside it.
+// What tests/compare times of a book. A sheet lists calls or lookups, one row of six words each. Their texts are in a second slice.
 use vrf_cache::fields::set_field_on_group;
 use vrf_cache::groups::add_export_group;
 use vrf_cache::guids::set_net_guid_path;
@@ -22,10 +22,10 @@ ghost use Prim.Native.Nat.{_+_, _*_, _≤_};
 ghost use lib.ListN.{length};
 ghost use Rattle.vrf_text.specs.Text.{IsText};
 ghost use Rattle.vrf_store.specs.Check.{check};
-ghost use Rattle.vrf_store.specs.Good.{Good};
+ghost use Rattle.vrf_store.specs.Inner.WellFormed.{WellFormed};
 
-// A row of a sheet. A call is of a kind, and takes numbers and a text: a GUID with its outer (0), a group's index with its slots (1), or a
-// field's group index, handle and checksum (2). A lookup takes the first number or the text.
+// A row of a sheet. A call has a kind, numbers and a text. The numbers are a GUID and its outer (kind 0), a group's index and slot count
+// (kind 1), or a field's group index, handle and checksum (kind 2). A lookup uses the first number or the text.
 struct Row {
     kind: u32,
     a: u32,
@@ -49,7 +49,7 @@ fn row_at(sheet: &[u8], i: usize) -> Row
     }
 }
 
-// The text of a row, empty where it does not lie in the texts or is too long.
+// The text of a row; empty if it is not inside the texts or is too long.
 fn text_of(texts: &[u8], r: Row) -> &[u8]
     ensures { λ t. ⌜ length (now t) ≤ 4096 ⌝ }
 {
@@ -63,11 +63,11 @@ fn text_of(texts: &[u8], r: Row) -> &[u8]
     &texts[0..0]
 }
 
-// Each call says whether it was taken.
+// Each call answers whether it was accepted.
 
 fn set_guid(m: &mut [u8], r: Row, path: &[u8]) -> bool
-    requires { ⌜ Good (now m) × IsText (now path) ⌝ }
-    ensures { λ _. ⌜ Good (now (m .exit)) ⌝ }
+    requires { ⌜ WellFormed (now m) × IsText (now path) ⌝ }
+    ensures { λ _. ⌜ WellFormed (now (m .exit)) ⌝ }
 {
     match set_net_guid_path(m, r.a, path, r.b) {
         Acted::Done => true,
@@ -76,8 +76,8 @@ fn set_guid(m: &mut [u8], r: Row, path: &[u8]) -> bool
 }
 
 fn add_group(m: &mut [u8], r: Row, path: &[u8]) -> bool
-    requires { ⌜ Good (now m) × IsText (now path) ⌝ }
-    ensures { λ _. ⌜ Good (now (m .exit)) ⌝ }
+    requires { ⌜ WellFormed (now m) × IsText (now path) ⌝ }
+    ensures { λ _. ⌜ WellFormed (now (m .exit)) ⌝ }
 {
     match add_export_group(m, path, r.a, r.b % 65_537) {
         Added::At(_) => true,
@@ -86,8 +86,8 @@ fn add_group(m: &mut [u8], r: Row, path: &[u8]) -> bool
 }
 
 fn set_field(m: &mut [u8], r: Row, name: &[u8]) -> bool
-    requires { ⌜ Good (now m) × IsText (now name) ⌝ }
-    ensures { λ _. ⌜ Good (now (m .exit)) ⌝ }
+    requires { ⌜ WellFormed (now m) × IsText (now name) ⌝ }
+    ensures { λ _. ⌜ WellFormed (now (m .exit)) ⌝ }
 {
     match set_field_on_group(m, r.a, r.b, r.c, name) {
         Placed::Placed => true,
@@ -97,8 +97,8 @@ fn set_field(m: &mut [u8], r: Row, name: &[u8]) -> bool
 }
 
 fn set(m: &mut [u8], r: Row, text: &[u8]) -> bool
-    requires { ⌜ Good (now m) × IsText (now text) ⌝ }
-    ensures { λ _. ⌜ Good (now (m .exit)) ⌝ }
+    requires { ⌜ WellFormed (now m) × IsText (now text) ⌝ }
+    ensures { λ _. ⌜ WellFormed (now (m .exit)) ⌝ }
 {
     let kind = r.kind;
     match kind {
@@ -108,10 +108,10 @@ fn set(m: &mut [u8], r: Row, text: &[u8]) -> bool
     }
 }
 
-// The text is tested as a caller's; the Rust makes a `str` of it.
+// The text is checked as a caller's text, because the Rust converts it to a `str`.
 fn set_tested(m: &mut [u8], r: Row, text: &[u8]) -> bool
-    requires { ⌜ Good (now m) ⌝ }
-    ensures { λ _. ⌜ Good (now (m .exit)) ⌝ }
+    requires { ⌜ WellFormed (now m) ⌝ }
+    ensures { λ _. ⌜ WellFormed (now (m .exit)) ⌝ }
 {
     match check_text(text) {
         Caller::Accepted => set(m, r, text),
@@ -119,9 +119,9 @@ fn set_tested(m: &mut [u8], r: Row, text: &[u8]) -> bool
     }
 }
 
-// How many calls of a sheet were taken.
+// The number of calls of a sheet that were accepted.
 fn set_all(m: &mut [u8], sheet: &[u8], texts: &[u8]) -> u64
-    requires { ⌜ Good (now m) ⌝ }
+    requires { ⌜ WellFormed (now m) ⌝ }
 {
     let n = sheet.len() / 24;
     let mut taken: u64 = 0;
@@ -134,7 +134,7 @@ fn set_all(m: &mut [u8], sheet: &[u8], texts: &[u8]) -> u64
     taken
 }
 
-// Opens a book and plays a sheet of calls on it. Answers how many were taken.
+// Opens a book and makes the calls of a sheet on it. Answers how many were accepted.
 #[no_mangle]
 pub extern "C" fn bench_fill(
     m: &mut [u8],
@@ -151,7 +151,7 @@ pub extern "C" fn bench_fill(
     }
 }
 
-// The check alone.
+// Only the check of the book.
 #[no_mangle]
 pub extern "C" fn bench_check(m: &[u8]) -> bool
     ensures { λ r. ⌜ r ≡ check (now (m .entry)) ⌝ }
@@ -159,7 +159,7 @@ pub extern "C" fn bench_check(m: &[u8]) -> bool
     check(m)
 }
 
-// 1 for a place.
+// 1 if a place was found, otherwise 0.
 fn hit(e: Entry) -> u64 {
     match e {
         Entry::At(_) => 1,
@@ -167,9 +167,9 @@ fn hit(e: Entry) -> u64 {
     }
 }
 
-// The length of a GUID's path: the Rust's lookup answers the path itself.
+// The length of a GUID's path. The Rust's lookup answers the path itself, so the path is read here too.
 fn path_length(m: &[u8], guid: u32) -> u64
-    requires { ⌜ Good (now m) ⌝ }
+    requires { ⌜ WellFormed (now m) ⌝ }
 {
     match find_guid(m, guid) {
         Entry::At(i) => guid_path(m, i).len() as u64,
@@ -177,10 +177,10 @@ fn path_length(m: &[u8], guid: u32) -> u64
     }
 }
 
-// The lookups of a sheet, each kind in a loop of its own.
+// The lookups of a sheet, with one loop for each kind.
 
 fn paths_of_guids(m: &[u8], sheet: &[u8]) -> u64
-    requires { ⌜ Good (now m) ⌝ }
+    requires { ⌜ WellFormed (now m) ⌝ }
 {
     let n = sheet.len() / 24;
     let mut sum: u64 = 0;
@@ -191,7 +191,7 @@ fn paths_of_guids(m: &[u8], sheet: &[u8]) -> u64
 }
 
 fn by_index(m: &[u8], sheet: &[u8]) -> u64
-    requires { ⌜ Good (now m) ⌝ }
+    requires { ⌜ WellFormed (now m) ⌝ }
 {
     let n = sheet.len() / 24;
     let mut sum: u64 = 0;
@@ -202,7 +202,7 @@ fn by_index(m: &[u8], sheet: &[u8]) -> u64
 }
 
 fn by_path(m: &[u8], sheet: &[u8], texts: &[u8]) -> u64
-    requires { ⌜ Good (now m) ⌝ }
+    requires { ⌜ WellFormed (now m) ⌝ }
 {
     let n = sheet.len() / 24;
     let mut sum: u64 = 0;
@@ -214,7 +214,7 @@ fn by_path(m: &[u8], sheet: &[u8], texts: &[u8]) -> u64
 }
 
 fn by_leaf(m: &[u8], sheet: &[u8], texts: &[u8]) -> u64
-    requires { ⌜ Good (now m) ⌝ }
+    requires { ⌜ WellFormed (now m) ⌝ }
 {
     let n = sheet.len() / 24;
     let mut sum: u64 = 0;
@@ -226,7 +226,7 @@ fn by_leaf(m: &[u8], sheet: &[u8], texts: &[u8]) -> u64
 }
 
 fn by_instance(m: &[u8], sheet: &[u8], texts: &[u8]) -> u64
-    requires { ⌜ Good (now m) ⌝ }
+    requires { ⌜ WellFormed (now m) ⌝ }
 {
     let n = sheet.len() / 24;
     let mut sum: u64 = 0;
@@ -237,10 +237,10 @@ fn by_instance(m: &[u8], sheet: &[u8], texts: &[u8]) -> u64
     sum
 }
 
-// A sheet's lookups, all of one kind. The inner functions are what is timed, so the caller tests the book before, by `bench_check`.
+// A sheet's lookups, all of one kind. The unchecked functions are timed, so the caller checks the book first, with `bench_check`.
 #[no_mangle]
 pub extern "C" fn bench_look(m: &[u8], what: u32, sheet: &[u8], texts: &[u8]) -> u64
-    requires { ⌜ Good (now m) ⌝ }
+    requires { ⌜ WellFormed (now m) ⌝ }
 {
     match what {
         0 => paths_of_guids(m, sheet),

@@ -1,5 +1,5 @@
-// What tests/compare times beside the Rust: readings in a loop, over a slice that the caller lends. The loops promise that they end
-// and stay in bounds; what each reading answers is promised by the crates below.
+// What tests/compare times against the Rust: readings in a loop, over a slice that the caller lends. It is proved that the loops end and
+// stay in bounds. The contracts of the crates used here cover what each reading answers.
 pub mod blocks;
 pub mod book;
 
@@ -12,7 +12,7 @@ use vrf_text::Text;
 ghost use Prim.Native.Nat.{_<_};
 ghost use lib.ListN.{length};
 
-// The cursor over all of s, or an empty one where s is too large for a window.
+// The cursor over all of s, or an empty one if s is too large for a window.
 fn whole(s: &[u8]) -> Cursor {
     if 268_435_456 < s.len() {
         return Cursor {
@@ -31,8 +31,8 @@ fn whole(s: &[u8]) -> Cursor {
     }
 }
 
-// The cursor behind the first bits of s, at most 64 of them, or an empty one where they are not there.
-fn behind(s: &[u8], skip: u64) -> Cursor {
+// The cursor after the first bits of s, at most 64 of them, or an empty one if s has fewer bits.
+fn following(s: &[u8], skip: u64) -> Cursor {
     match whole(s).read_bits(s, (skip % 65) as u32) {
         Bits::Value(_, c) => c,
         Bits::Refused(_) => Cursor {
@@ -49,14 +49,14 @@ fn width_at(widths: &[u8], k: usize) -> u8
     widths[k]
 }
 
-// What a turn over all widths leaves.
+// What one pass over all widths leaves.
 struct Turn {
     c: Cursor,
     sum: u64,
     refused: bool,
 }
 
-// Reads as many bits as each of widths says, until a reading is refused.
+// Reads as many bits as each element of `widths`, until a reading is refused.
 fn read_widths(s: &[u8], widths: &[u8], from: Cursor, sum: u64) -> Turn {
     let mut c = from;
     let mut sum = sum;
@@ -80,7 +80,7 @@ fn read_widths(s: &[u8], widths: &[u8], from: Cursor, sum: u64) -> Turn {
     }
 }
 
-// Reads as widths say, over and over, until a reading is refused; answers the wrapping sum of the values.
+// Makes passes over `widths` until a reading is refused. Answers the wrapping sum of the values.
 #[no_mangle]
 pub extern "C" fn bench_read_bits(s: &[u8], widths: &[u8]) -> u64 {
     let mut c = whole(s);
@@ -98,7 +98,7 @@ pub extern "C" fn bench_read_bits(s: &[u8], widths: &[u8]) -> u64 {
     sum
 }
 
-// Reads packed numbers until one is refused; answers the wrapping sum.
+// Reads packed numbers until one is refused. Answers the wrapping sum.
 #[no_mangle]
 pub extern "C" fn bench_read_int_packed(s: &[u8]) -> u64 {
     let mut c = whole(s);
@@ -117,10 +117,10 @@ pub extern "C" fn bench_read_int_packed(s: &[u8]) -> u64 {
     sum
 }
 
-// Skips some bits, then reads texts into out until one is refused; answers the wrapping sum of their lengths.
+// Skips some bits, then reads texts into `out` until one is refused. Answers the wrapping sum of their lengths.
 #[no_mangle]
 pub extern "C" fn bench_read_fstring(s: &[u8], skip: u64, out: &mut [u8]) -> u64 {
-    let mut c = behind(s, skip);
+    let mut c = following(s, skip);
     let mut sum: u64 = 0;
     let mut turns: u64 = 0;
     while turns < 4_294_967_296 {
@@ -136,10 +136,10 @@ pub extern "C" fn bench_read_fstring(s: &[u8], skip: u64, out: &mut [u8]) -> u64
     sum
 }
 
-// Skips some bits, then copies as many as asked into dst until a copy is refused; answers how many copies were made.
+// Skips some bits, then copies `bits` bits into `dst` again and again until a copy is refused. Answers how many copies were made.
 #[no_mangle]
 pub extern "C" fn bench_copy_bits_to(s: &[u8], skip: u64, dst: &mut [u8], bits: u64) -> u64 {
-    let mut c = behind(s, skip);
+    let mut c = following(s, skip);
     let mut turns: u64 = 0;
     while turns < 4_294_967_296 {
         match c.copy_bits_to(s, dst, bits) {

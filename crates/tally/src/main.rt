@@ -1,4 +1,4 @@
-// Reads a block on standard input, and prints its seven counts or its refusal.
+// Reads a block from standard input, and prints its seven counts or its refusal.
 fn run(input: &mut [u8], out: &mut [u8; 512]) {
     let n = io::read_full(0, input);
     let m = vrf_tally::tally(&input[0..n], out);
@@ -6,8 +6,8 @@ fn run(input: &mut [u8], out: &mut [u8; 512]) {
     io::write_all(1, &lines[0..m]);
 }
 
-// Whole arrays are lent as arrays first: their lengths then need no proof in `main`. A byte more than a block may have is enough to see
-// that the input is too long.
+// The arrays are lent with their lengths in the type, so `main` needs no proof about lengths. The input has one byte more than a block may
+// have: that is enough to see that an input is too long.
 fn lend(input: &mut [u8; 65_537], out: &mut [u8; 512]) {
     run(input, out);
 }

@@ -1,21 +1,21 @@
--- The loops that write: the bytes of a number, and bits copied word by word.
+-- The loops that write: `put_bytes`, byte by byte, and `copy_bits`, word by word.
 use mathlib.Core.Path.{_≡_, refl, sym, ap, _∙_}
 use mathlib.Core.List.{List, _∷_, _++_}
 use Prim.Native.Nat.{ℕ, zero, suc, _+_, _-_, _*_, _/_, _%_, _^_, _<_, _≤_, min}
 use native.Mathlib.Nat.{zero-add, add-zero, mul-zero, sub-zero, suc-add, lt-of-lt-of-le, mod-eq-of-lt, div-eq-of-lt}
 use native.Mathlib.Omega.{arith}
-use lib.ListN.{length, set, length-set}
 use native.Mathlib.Decide.{decLt}
+use lib.ListN.{length, set, length-set}
 use lib.Pow.{pow-mono}
 use Rattle.vrf_bitio.specs.Bits.{bitsOf, bytesOf, packedBits, bytesFor}
-use Rattle.vrf_bitio.specs.BitsLaws.{bits-lt, bits-low, bits-high}
-use Rattle.vrf_bitio.specs.WindowLaws.{bytes-length}
 use Rattle.vrf_bitio.specs.Number.{lowBytes}
 use Rattle.vrf_bitio.specs.Pasted.{pasted}
-use Rattle.vrf_bitio.specs.PastedLaws.{pasted-nil, pasted-cons, pasted-append}
+use Rattle.vrf_bitio.specs.Laws.Bits.{bits-lt, bits-low, bits-high}
+use Rattle.vrf_bitio.specs.Laws.Pasted.{pasted-nil, pasted-cons, pasted-append}
+use Rattle.vrf_bitio.specs.Laws.Window.{bytes-length}
 use Rattle.vrf_bitio.proofs.Words.{cut, join}
 
--- `put_bytes` after k of t bytes: l is the list at the start, m the list now, left what is still to be written
+-- `put_bytes` after k of t bytes: l is the list at the start, m the list now, left the number still to be written
 pub record Putting (l m : List ℕ) (at v t k left : ℕ) : Type 0 where
   pub few : k ≤ t
   pub long : length m ≡ length l
@@ -46,7 +46,7 @@ module _ (l m : List ℕ) (at v t k left : ℕ) (i : Putting l m at v t k left) 
       let none : t - k ≡ 0 = omega arith in
       sym (pasted-nil m (at + k)) ∙ rw none at (i .same)
 
--- one of the two orders
+-- case distinction on the order of two numbers
 by-order : {A : Type 0} (a b : ℕ) → (a < b → A) → (b ≤ a → A) → A
 by-order a b f g = elim (decLt a b) [ yes h ↦ f h | no h ↦ g (omega arith) ]
 
@@ -69,7 +69,7 @@ bytes-append s p (suc a) b =
     let e : p + 8 + 8 * a ≡ p + 8 * suc a = omega arith in
     rw (suc-add a b, bytes-append s (p + 8) a b, e)
 
--- whole bytes, and then what is left of the bits
+-- packed bits are whole bytes, followed by the packed rest
 packed-split : (s : List ℕ) (p n a b : ℕ) → 8 * a ≤ n → packedBits s p n (a + b) ≡ bytesOf s p a ++ packedBits s (p + 8 * a) (n - 8 * a) b
 unfolding packedBits bytesOf
 packed-split s p n zero b h = rw (zero-add, mul-zero, add-zero, sub-zero)
@@ -80,7 +80,7 @@ packed-split s p n (suc a) b h =
     let h′ : 8 * a ≤ n - 8 = omega arith in
     rw (suc-add a b, full, packed-split s (p + 8) (n - 8) a b h′, e, n8)
 
--- one byte of a copy and the bytes above it, where the byte is the last and where it is not
+-- the first byte of a copy and the bytes after it: if that byte has fewer than eight bits, and if it is whole
 module _ (s : List ℕ) (q k m : ℕ) (ih : packedBits s (q + 8) (m - 8) k ≡ lowBytes k (bitsOf s (q + 8) (m - 8))) where
   last-byte : m < 8 → bitsOf s q (min 8 m) ∷ packedBits s (q + 8) (m - 8) k ≡ bitsOf s q m % 256 ∷ lowBytes k (bitsOf s q m / 256)
   last-byte few =
@@ -97,7 +97,7 @@ module _ (s : List ℕ) (q k m : ℕ) (ih : packedBits s (q + 8) (m - 8) k ≡ l
       let low : bitsOf s q m % 256 ≡ bitsOf s q 8 = ap (λ (w : ℕ). bitsOf s q w % 256) back ∙ bits-low s q 8 (m - 8) in
       rw (full, high, low, ih)
 
--- fewer bits than bytes hold: the low bytes of their number
+-- at most 8 * k bits, packed into k bytes, are the low k bytes of their number
 packed-low : (s : List ℕ) (q k m : ℕ) → m ≤ 8 * k → packedBits s q m k ≡ lowBytes k (bitsOf s q m)
 unfolding packedBits lowBytes
 packed-low s q zero m h = refl
@@ -105,7 +105,7 @@ packed-low s q (suc k) m h =
     let ih = packed-low s (q + 8) k (m - 8) (omega arith) in
     by-order m 8 (last-byte s q k m ih) (whole-byte s q k m ih)
 
--- `copy_bits` after k of its words: d is the target at the start, m the target now, i the byte of the word that is carried
+-- `copy_bits` after k of its words: d is the target at the start, m the target now, i the place of the carried word's first byte
 pub record Copying (s d m : List ℕ) (p words i carry k : ℕ) : Type 0 where
   pub few : k ≤ words
   pub long : length m ≡ length d
@@ -118,19 +118,19 @@ unfolding bytesOf
 copy-start s d p words carry e = record { few = omega arith; long = refl; same = sym (pasted-nil d 0); place = omega arith; held = e }
 
 module _ (s d m : List ℕ) (p words i carry k : ℕ) (c : Copying s d m p words i carry k) where
-  -- at its end, with w the bits that are left, in as many bytes as they take
+  -- after the loop: writing the last n % 64 bits, w, completes the copy
   pub copy-end : (n w : ℕ) → n / 64 ≡ k → bytesFor n ≤ length d → w ≡ bitsOf s (p + 64 * k) (n % 64)
       → pasted m (8 * (n / 64)) (lowBytes ((n % 64 + 7) / 8) w) ≡ pasted d 0 (packedBits s p n (bytesFor n))
   copy-end n w at-end fits e =
       let at : 8 * k ≡ 0 + length (bytesOf s p (8 * k)) = rw bytes-length (omega arith) in
-      let room : 8 * k ≤ length d = omega arith in
+      let space : 8 * k ≤ length d = omega arith in
       let count : bytesFor n ≡ 8 * k + (n % 64 + 7) / 8 = omega arith in
       let left : n - 8 * (8 * k) ≡ n % 64 = omega arith in
       let bit : p + 8 * (8 * k) ≡ p + 64 * k = omega arith in
-      rw (at-end, c .same) (pasted-append (bytesOf s p (8 * k)) (lowBytes ((n % 64 + 7) / 8) w) d 0 (8 * k) at room
+      rw (at-end, c .same) (pasted-append (bytesOf s p (8 * k)) (lowBytes ((n % 64 + 7) / 8) w) d 0 (8 * k) at space
       ∙ ap (pasted d 0) (rw (count, packed-split s p n (8 * k) ((n % 64 + 7) / 8) (omega arith), left, bit, packed-low s (p + 64 * k) ((n % 64 + 7) / 8) (n % 64) (omega arith), e)))
 
-  -- and with none
+  -- after the loop, if no bits are left
   pub copy-whole : (n : ℕ) → n / 64 ≡ k → bytesFor n ≤ length d → n % 64 ≤ 0 → m ≡ pasted d 0 (packedBits s p n (bytesFor n))
   unfolding lowBytes
   copy-whole n at-end fits h =
@@ -138,30 +138,30 @@ module _ (s d m : List ℕ) (p words i carry k : ℕ) (c : Copying s d m p words
       let no-bytes : (n % 64 + 7) / 8 ≡ 0 = omega arith in
       sym (pasted-nil m (8 * (n / 64))) ∙ rw no-bytes at (copy-end n 0 at-end fits (rw none (sym (no-bits s (p + 64 * k)))))
 
-  -- the word that is carried and the one behind it
+  -- the carried word and the word after it
   module _ (next w : ℕ) (en : next ≡ bitsOf s (8 * (i + 8)) 64) (ew : w ≡ carry / 2 ^ (p % 8) + next % 2 ^ (p % 8) * 2 ^ (64 - p % 8)) where
     word : w ≡ bitsOf s (p + 64 * k) 64
     word =
-        let behind : 8 * (i + 8) ≡ 8 * i + 64 = omega arith in
+        let following : 8 * (i + 8) ≡ 8 * i + 64 = omega arith in
         let here : 8 * i + p % 8 ≡ p + 64 * k = omega (arith, c .place) in
-        ew ∙ join s (8 * i) (p % 8) carry next (omega arith) (c .held) (rw behind at en) ∙ ap (λ (q : ℕ). bitsOf s q 64) here
+        ew ∙ join s (8 * i) (p % 8) carry next (omega arith) (c .held) (rw following at en) ∙ ap (λ (q : ℕ). bitsOf s q 64) here
 
-    -- one of its turns
+    -- one turn of the loop
     pub copy-step : (m′ : List ℕ) → m′ ≡ pasted m (8 * k) (lowBytes 8 w) → length m′ ≡ length m → k < words → 8 * words ≤ length d → Copying s d m′ p words (i + 8) next (k + 1)
     copy-step m′ e l more fits =
         let bytes : lowBytes 8 w ≡ bytesOf s (p + 64 * k) 8 = ap (lowBytes 8) word ∙ sym (bytes-low s (p + 64 * k) 8) in
         let at : 8 * k ≡ 0 + length (bytesOf s p (8 * k)) = rw bytes-length (omega arith) in
-        let room : 8 * k ≤ length d = omega arith in
+        let space : 8 * k ≤ length d = omega arith in
         let on : 8 * (k + 1) ≡ 8 * k + 8 = omega arith in
         let bit : 64 * k ≡ 8 * (8 * k) = omega arith in
         record {
           few = omega arith;
           long = l ∙ c .long;
-          same = e ∙ rw (c .same, bytes) (pasted-append (bytesOf s p (8 * k)) (bytesOf s (p + 64 * k) 8) d 0 (8 * k) at room ∙ ap (pasted d 0) (rw (on, bytes-append s p (8 * k) 8, bit)));
+          same = e ∙ rw (c .same, bytes) (pasted-append (bytesOf s p (8 * k)) (bytesOf s (p + 64 * k) 8) d 0 (8 * k) at space ∙ ap (pasted d 0) (rw (on, bytes-append s p (8 * k) 8, bit)));
           place = omega (arith, c .place);
           held = en;
         }
 
-    -- what the last turn writes of it
+    -- the bits of the last, partial word
     pub last-word : (n v : ℕ) → v ≡ w % 2 ^ (n % 64) → v ≡ bitsOf s (p + 64 * k) (n % 64)
     last-word n v e = e ∙ cut s (p + 64 * k) (n % 64) w (omega arith) word

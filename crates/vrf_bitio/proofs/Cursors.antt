@@ -1,23 +1,23 @@
--- What the cursor's functions need: each of their answers as what the definition yields.
+-- Lemmas for the proofs of the cursor's functions: in each case of the code, the answer is what the definition yields.
 use mathlib.Core.Path.{_≡_, refl, sym, ap, _∙_}
 use mathlib.Core.Bool.{Bool, true, false, cond}
 use mathlib.Core.List.{List}
 use Prim.Native.Nat.{ℕ, zero, suc, _+_, _-_, _*_, _/_, _%_, _^_, _<_, _≤_, min}
 use native.Mathlib.Nat.{mod-lt}
 use native.Mathlib.Omega.{arith}
-use borrow.Author.Tests.{lt-ltb, le-ltb, ltb-true, ltb-false}
 use lib.Dec.{ltb, eqb}
 use lib.ListN.{length, getD}
+use borrow.Author.Tests.{lt-ltb, le-ltb, ltb-true, ltb-false}
 use Rattle.vrf_bitio.specs.Bits.{bitsOf, bytesOf, packedBits, bytesFor}
-use Rattle.vrf_bitio.specs.BitsLaws.{bits-inside}
-use Rattle.vrf_bitio.specs.Reading.{Read, ok, refused, handOn}
+use Rattle.vrf_bitio.specs.Reading.{Read, ok, refused, bindRead}
 use Rattle.vrf_bitio.specs.Window.{rest, bits, window, inner, copied}
-use Rattle.vrf_bitio.specs.WindowLaws.{byte-found, word-found}
 use Rattle.vrf_bitio.specs.Number.{byte, word32}
 use Rattle.vrf_bitio.specs.Answers.{readAt, Gave}
+use Rattle.vrf_bitio.specs.Laws.Bits.{bits-inside}
+use Rattle.vrf_bitio.specs.Laws.Window.{byte-found, word-found}
 use Rattle.vrf_bitio.specs.declared.Cursor.{Cursor}
 
--- what `lacks` answered, as an order
+-- the flag that `lacks` answered, as an inequality
 pub lacking : (c : Cursor) (n : ℕ) {b : Bool} → b ≡ ltb (c .count - c .pos) n → b ≡ true → c .count - c .pos < n
 lacking c n e t = ltb-true (c .count - c .pos) n (sym e ∙ t)
 
@@ -94,11 +94,11 @@ module _ (s : List ℕ) (c : Cursor) (n : ℕ) where
 
   module _ (h : n ≤ c .count - c .pos) where
     pub inner-refused : {k a b : ℕ} → window s (c .first + c .pos) n ≡ refused k a b → inner s (c .first) (c .count) n (c .pos) ≡ refused k a b
-    unfolding inner handOn
+    unfolding inner bindRead
     inner-refused e = rw (le-ltb (c .count - c .pos) n h, e)
 
     pub inner-gave : {w : ℕ × ℕ} {p : ℕ} {l : List ℕ} → window s (c .first + c .pos) n ≡ ok w p l → Gave s c (inner s (c .first) (c .count) n (c .pos)) w (after s c n)
-    unfolding inner handOn
+    unfolding inner bindRead
     inner-gave e = record { read = rw (le-ltb (c .count - c .pos) n h, e); first = refl; count = refl }
 
 -- a window opens at its position 0
@@ -120,11 +120,11 @@ module _ (s : List ℕ) (c : Cursor) (m n : ℕ) where
   unfolding copied
   copy-short h = rw (lt-ltb m (bytesFor n) h)
 
-  module _ (room : bytesFor n ≤ m) where
+  module _ (space : bytesFor n ≤ m) where
     pub copy-lacking : c .count - c .pos < n → copied s (c .first) (c .count) m n (c .pos) ≡ refused 10 (c .pos) n
     unfolding copied
-    copy-lacking h = rw (le-ltb m (bytesFor n) room, lt-ltb (c .count - c .pos) n h)
+    copy-lacking h = rw (le-ltb m (bytesFor n) space, lt-ltb (c .count - c .pos) n h)
 
     pub copy-gave : n ≤ c .count - c .pos → Gave s c (copied s (c .first) (c .count) m n (c .pos)) (packedBits s (c .first + c .pos) n (bytesFor n)) (after s c n)
     unfolding copied
-    copy-gave h = record { read = rw (le-ltb m (bytesFor n) room, le-ltb (c .count - c .pos) n h); first = refl; count = refl }
+    copy-gave h = record { read = rw (le-ltb m (bytesFor n) space, le-ltb (c .count - c .pos) n h); first = refl; count = refl }

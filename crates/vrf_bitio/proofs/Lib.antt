@@ -1,3 +1,4 @@
+-- Lemmas that the proofs use, by subject.
 pub mod Words
 pub mod Cursors
 pub mod Signed

@@ -1,4 +1,4 @@
--- The loop of `read_int_packed`: after k bytes of a packed number, what is left to read from here yields what the whole yields.
+-- The loop of `read_int_packed`: after k bytes of a packed number, reading the rest yields what reading the whole number yields.
 use mathlib.Core.Path.{_≡_, refl, _∙_}
 use mathlib.Core.List.{List}
 use Prim.Native.Nat.{ℕ, suc, _+_, _-_, _*_, _/_, _%_, _^_, _<_, _≤_}
@@ -6,12 +6,12 @@ use native.Mathlib.Nat.{mul-le-mul-left}
 use native.Mathlib.Omega.{arith}
 use lib.Pow.{pow-mono, pow-add}
 use Rattle.vrf_bitio.specs.Number.{byte, packed, chunks}
-use Rattle.vrf_bitio.specs.NumberLaws.{chunks-lacks, chunk-ends, chunk-goes-on}
 use Rattle.vrf_bitio.specs.Answers.{restOf, readAt, Gave, Refuses}
+use Rattle.vrf_bitio.specs.Laws.Number.{chunks-lacks, chunk-ends, chunk-continues}
 use Rattle.vrf_bitio.specs.declared.Cursor.{Cursor}
 use Rattle.vrf_bitio.specs.declared.Refusal.{Refusal}
 
--- c is the cursor where the number began, at the one where its next byte stands
+-- c is the cursor where the number began, at is the cursor of its next byte
 pub record SoFar (s : List ℕ) (c at : Cursor) (low k : ℕ) : Type 0 where
   pub few : k ≤ 4
   pub small : low < 2 ^ (7 * k)
@@ -19,15 +19,15 @@ pub record SoFar (s : List ℕ) (c at : Cursor) (low k : ℕ) : Type 0 where
   pub count : at .count ≡ c .count
   pub same : readAt s c packed ≡ chunks (c .pos) (4 - k) (2 ^ (7 * k)) low (at .pos) (restOf s at)
 
-pub begun : (s : List ℕ) (c : Cursor) → SoFar s c c 0 0
+pub started : (s : List ℕ) (c : Cursor) → SoFar s c c 0 0
 unfolding packed
-begun s c = record { few = omega arith; small = omega arith; first = refl; count = refl; same = refl }
+started s c = record { few = omega arith; small = omega arith; first = refl; count = refl; same = refl }
 
--- a chunk above k others, at most 127
+-- a chunk after k others is at most 127 times its weight
 chunk-le : (k b : ℕ) → b < 256 → 2 ^ (7 * k) * (b / 2) ≤ 2 ^ (7 * k) * 127
 chunk-le k b h = mul-le-mul-left (2 ^ (7 * k)) (omega arith)
 
--- it fits 32 bits
+-- in the loop the value with this chunk added fits 32 bits
 pub chunk-fits : (low k b : ℕ) → k < 4 → low < 2 ^ (7 * k) → b < 256 → (k ≤ 4) × (low < 2 ^ (7 * k)) × (2 ^ (7 * k) * (b / 2) < 2 ^ 32 - low)
 chunk-fits low k b h hl hb =
     let p : 2 ^ (7 * k) ≤ 2 ^ 21 = pow-mono {i = 7 * k} {j = 21} (omega arith) in
@@ -54,7 +54,7 @@ module _ (s : List ℕ) (c at : Cursor) (low k : ℕ) (i : SoFar s c at low k) w
       small = rw (e, weight) (omega (arith, chunk-le k b hb, i .small));
       first = g .first ∙ i .first;
       count = g .count ∙ i .count;
-      same = i .same ∙ rw (more, e, left, weight) (chunk-goes-on (c .pos) (2 ^ (7 * k)) low (at .pos) (restOf s at) (g .read) (3 - k) odd);
+      same = i .same ∙ rw (more, e, left, weight) (chunk-continues (c .pos) (2 ^ (7 * k)) low (at .pos) (restOf s at) (g .read) (3 - k) odd);
     }
       where
         left : 4 - (k + 1) ≡ 3 - k

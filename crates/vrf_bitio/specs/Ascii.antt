@@ -1,4 +1,4 @@
--- Constants of document 01 are spelled as text.
+-- Document 01's constant texts, such as `Default__`, as lists of bytes.
 use mathlib.Core.List.{List, [], _∷_}
 use Prim.Native.Char.{code}
 use Prim.Native.Nat.{ℕ}

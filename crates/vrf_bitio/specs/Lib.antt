@@ -1,4 +1,4 @@
--- Document 01, section Bits, as definitions. Read them in this order.
+-- Document 01, section Bits: the definitions, in reading order. `Answers` relates them to the code's answer types.
 pub mod Ascii
 pub mod Bits
 pub mod Reading
@@ -6,12 +6,7 @@ pub mod Window
 pub mod Number
 pub mod Pasted
 pub mod Answers
-pub mod BitsLaws
-pub mod PastedLaws
-pub mod ReadingLaws
-pub mod WindowLaws
-pub mod NumberLaws
-pub mod FewestLaws
-pub mod AnswersLaws
-pub mod Determined
+-- document 01's examples P1 to P4, computed
 pub mod Examples
+-- what is proved about these definitions
+pub mod Laws

@@ -1,9 +1,11 @@
--- Numbers of whole bytes (document 01, Bits): bytes, fixed words and packed numbers, as they are read and as the writer sends them.
+-- Numbers of whole bytes (document 01, Bits): bytes, 32-bit words and packed numbers, as they are read and as the writer sends them.
 use mathlib.Core.Bool.{cond}
 use mathlib.Core.List.{List, [], _∷_}
-use Prim.Native.Nat.{ℕ, zero, suc, _+_, _-_, _*_, _/_, _%_, _^_}
+use mathlib.Core.Path.{_≡_}
+use Prim.Native.Nat.{ℕ, zero, suc, _+_, _-_, _*_, _/_, _%_, _^_, _≤_}
 use lib.Dec.{ltb, eqb}
 use lib.IntN.{ℤ}
+use lib.ListN.{length}
 use Rattle.vrf_bitio.specs.Reading.{ok, refused, Reader, return, _>>=_}
 
 unfoldable pub byte : Reader ℕ
@@ -18,7 +20,7 @@ word32 pos (a ∷ b ∷ []) = refused 10 pos 32
 word32 pos (a ∷ b ∷ c ∷ []) = refused 10 pos 32
 word32 pos (a ∷ b ∷ c ∷ d ∷ l) = ok (a + 256 * b + 65536 * c + 16777216 * d) (pos + 32) l
 
--- the signed number that a word of 32 bits stands for
+-- a word of 32 bits as a signed number, in two's complement
 unfoldable pub signed : ℕ → ℤ
 signed w = cond (ltb w (2 ^ 31)) (ℤ.pos w) (ℤ.negsuc (2 ^ 32 - suc w))
 
@@ -27,9 +29,9 @@ int32 = do
   w ← word32
   return (signed w)
 
--- The bytes of a packed number that began at `start`: the low bit says that another follows, the upper seven are the next chunk,
--- lowest first. `more` is how many may follow this one, `low` what the earlier chunks make, `weight` what this one counts.
--- At the fifth byte 11 comes before 12.
+-- The bytes of a packed number that began at `start`. The low bit of a byte is 1 if another byte follows; its upper seven bits are the next
+-- chunk, lowest first. `more` is how many bytes may follow this one, `low` the value of the earlier chunks, `weight` this one's factor.
+-- At the fifth byte refusal 11 is tested before refusal 12.
 unfoldable pub chunks : ℕ → ℕ → ℕ → ℕ → Reader ℕ
 chunks start zero weight low = do
   b ← byte
@@ -41,23 +43,31 @@ chunks start (suc more) weight low = do
   cond (eqb (b % 2) 1) (chunks start more (weight * 128) (low + weight * (b / 2)))
       (return (low + weight * (b / 2)))
 
--- a packed number: up to five bytes, in any spelling
+-- a packed number: up to five bytes, not necessarily the fewest
 unfoldable pub packed : Reader ℕ
 packed start = chunks start 4 1 0 start
 
--- the k bytes of a number, low byte first
+-- the low k bytes of a number, low byte first
 unfoldable pub lowBytes : ℕ → ℕ → List ℕ
 lowBytes zero n = []
 lowBytes (suc k) n = n % 256 ∷ lowBytes k (n / 256)
 
--- the writer's bytes of a word
+-- the bytes that the writer sends for a 32-bit word
 unfoldable pub encodeWord32 : ℕ → List ℕ
 encodeWord32 n = lowBytes 4 n
 
--- the writer's bytes of a packed number, the fewest (`packed-fewest` of specs/FewestLaws.antt); `more` is how many may follow this one
+-- The bytes that the writer sends for a packed number: the fewest (`packed-fewest` of specs/Laws/Fewest.antt). `more` is how many bytes may
+-- follow this one.
 unfoldable pub encodeChunks : ℕ → ℕ → List ℕ
 encodeChunks zero n = 2 * n ∷ []
 encodeChunks (suc more) n = cond (ltb n 128) (2 * n ∷ []) ((2 * (n % 128) + 1) ∷ encodeChunks more (n / 128))
 
 unfoldable pub encodePacked : ℕ → List ℕ
 encodePacked n = encodeChunks 4 n
+
+-- A reading that started at position pos with the bytes l left, and ended at position p with m left, took `taken` bytes, and few ≤ taken.
+pub record TakesAtLeast (few pos : ℕ) (l : List ℕ) (p : ℕ) (m : List ℕ) : Type 0 where
+  pub taken : ℕ
+  pub place : p ≡ pos + 8 * taken
+  pub left : length l ≡ taken + length m
+  pub fewest : few ≤ taken

@@ -1,25 +1,15 @@
-// The bit reader of document 01 over byte slices. Names follow vrf-bitio's lib.rs.
+// The bit reader of document 01 over byte slices. The function names are those of vrf-bitio's lib.rs.
 ghost use mathlib.Core.Path.{_≡_};
 ghost use Prim.Native.Nat.{_+_, _-_, _*_, _<_, _≤_, _^_, _%_, _/_, min};
 ghost use lib.Dec.{ltb};
 ghost use lib.ListN.{length, getD};
 ghost use Rattle.vrf_bitio.specs.Bits.{bitsOf, packedBits, bytesFor};
-ghost use Rattle.vrf_bitio.specs.Pasted.{pasted};
 ghost use Rattle.vrf_bitio.specs.Window.{window, inner, bits, copied};
 ghost use Rattle.vrf_bitio.specs.Number.{byte, word32, int32, signed, packed, chunks, lowBytes};
-ghost use Rattle.vrf_bitio.specs.Answers.{
-  readAt,
-  OpenedAnswer,
-  SubAnswer,
-  BitAnswer,
-  BitsAnswer,
-  ByteAnswer,
-  WordAnswer,
-  IntAnswer,
-  CopiedAnswer,
-};
+ghost use Rattle.vrf_bitio.specs.Pasted.{pasted};
+ghost use Rattle.vrf_bitio.specs.Answers.{readAt, OpenedAnswer, SubAnswer, BitAnswer, BitsAnswer, ByteAnswer, WordAnswer, IntAnswer, CopiedAnswer};
 
-// The numbers of document 01's table that reading bits can give.
+// The refusal numbers of document 01's table that reading bits can give.
 pub const TOO_FEW: u32 = 10;
 
 pub const PACKED_RUNS_ON: u32 = 11;
@@ -42,7 +32,7 @@ pub struct Refusal {
     pub b: u64,
 }
 
-// A window of a slice (first bit and bit count) and a position in it, counted from its first bit. The slice stands beside it.
+// A window of a slice (first bit and bit count) and a position, counted from the window's first bit. The slice itself is passed beside it.
 // A slice of at most 268,435,456 bytes has fewer than 2^32 bits, so no sum of two of these fields wraps a u64.
 pub struct Cursor {
     pub first: u32,
@@ -55,7 +45,7 @@ pub enum Opened {
     Refused(Refusal),
 }
 
-// The window of the next bits, and the outer cursor behind them.
+// The window of the next bits, and the outer cursor after them.
 pub enum Sub {
     Inner(Cursor, Cursor),
     Refused(Refusal),
@@ -98,7 +88,7 @@ fn byte_or_zero(s: &[u8], i: usize) -> u64
     if i < s.len() { s[i] as u64 } else { 0 }
 }
 
-// Four bytes from i on, low byte first.
+// The four bytes from i on as a number, low byte first.
 fn half_word(s: &[u8], i: usize) -> u64
     requires { ⌜ i + 4 ≤ length (now s) ⌝ }
     ensures { λ r. ⌜ r ≡ bitsOf (now (s .entry)) (8 * i) 32 ⌝ }
@@ -109,7 +99,7 @@ fn half_word(s: &[u8], i: usize) -> u64
         + byte_or_zero(s, i + 3) * 0x100_0000
 }
 
-// Eight bytes from i on, low byte first: one load.
+// The eight bytes from i on as a number, low byte first. This compiles to one load.
 fn whole_word(s: &[u8], i: usize) -> u64
     requires { ⌜ i + 8 ≤ length (now s) ⌝ }
     ensures { λ r. ⌜ r ≡ bitsOf (now (s .entry)) (8 * i) 64 ⌝ }
@@ -117,14 +107,14 @@ fn whole_word(s: &[u8], i: usize) -> u64
     half_word(s, i) + half_word(s, i + 4) * 0x1_0000_0000
 }
 
-// How many of n bytes or bits stand from place i on.
+// The number of bytes or bits from place i to the end at n.
 fn left_from(n: usize, i: usize) -> usize
     ensures { λ r. ⌜ r ≡ n - i ⌝ }
 {
     if i < n { n - i } else { 0 }
 }
 
-// The same where fewer than eight bytes are left: what is past the end is 0.
+// `load_u64` where fewer than eight bytes are left; the missing bytes are 0.
 fn load_u64_padded(s: &[u8], i: usize) -> u64
     requires { ⌜ (i < 2 ^ 61) × (length (now s) < i + 8) ⌝ }
     ensures { λ r. ⌜ r ≡ bitsOf (now (s .entry)) (8 * i) 64 ⌝ }
@@ -138,7 +128,7 @@ fn load_u64_padded(s: &[u8], i: usize) -> u64
     word
 }
 
-// The 64 bits from byte i on, zero past the end.
+// The 64 bits from byte i on; bits past the end are 0.
 fn load_u64(s: &[u8], i: usize) -> u64
     requires { ⌜ i < 2 ^ 61 ⌝ }
     ensures { λ r. ⌜ r ≡ bitsOf (now (s .entry)) (8 * i) 64 ⌝ }
@@ -159,7 +149,7 @@ fn low_bits(x: u64, w: u32) -> u64
     (x << k) >> k
 }
 
-// The w bits from bit p on, w from 0 to 64. One load holds 64 bits less p's place in its byte; one more byte completes a longer read.
+// The w bits from bit p on, w from 0 to 64. One load gives 64 bits less p's place in its byte; a wider read takes one more byte.
 fn bits_within(s: &[u8], p: u64, w: u32) -> u64
     requires { ⌜ w ≤ 64 ⌝ }
     ensures { λ r. ⌜ r ≡ bitsOf (now (s .entry)) p w ⌝ }
@@ -178,7 +168,7 @@ fn bits_within(s: &[u8], p: u64, w: u32) -> u64
     low + ((byte_or_zero(s, i + 8) % (1 << more)) << got)
 }
 
-// The w bits from bit p on, at most 64 of them; what is past the end is 0.
+// The w bits from bit p on, at most 64 of them; bits past the end are 0.
 pub fn bits_at(s: &[u8], p: u64, w: u32) -> u64
     ensures { λ r. ⌜ r ≡ bitsOf (now (s .entry)) p (min w 64) ⌝ }
 {
@@ -189,7 +179,7 @@ pub fn bits_at(s: &[u8], p: u64, w: u32) -> u64
     }
 }
 
-// Writes the low t bytes of v, low byte first, from place at of dst on.
+// Writes the low t bytes of v, low byte first, to dst from place at on.
 fn put_bytes(dst: &mut [u8], at: usize, v: u64, t: usize)
     requires { ⌜ at + t ≤ length (now dst) ⌝ }
     ensures { λ r. ⌜ now (dst .exit) ≡ pasted (now (dst .entry)) at (lowBytes t v) ⌝ }
@@ -203,7 +193,8 @@ fn put_bytes(dst: &mut [u8], at: usize, v: u64, t: usize)
     }
 }
 
-// The 64 bits from bit off on of two words, carry and then next. The upper shift is made in two steps, as a shift by 64 is none.
+// The 64 bits from bit off on of the two words carry and next. The shift of next is made in two steps: off can be 0, and a single shift by
+// 64 would not give 0.
 fn joined(carry: u64, next: u64, off: u32) -> u64
     requires { ⌜ off < 64 ⌝ }
     ensures { λ r. ⌜ r ≡ carry / 2 ^ off + next % 2 ^ off * 2 ^ (64 - off) ⌝ }
@@ -211,8 +202,8 @@ fn joined(carry: u64, next: u64, off: u32) -> u64
     (carry >> off) + ((next << (63 - off)) << 1)
 }
 
-// Writes n bits from bit p on into the first bytes of dst, 64 at a time. A word that was loaded for its low bits is carried into the
-// next turn for its others, so that each turn loads once.
+// Writes n bits from bit p on into the first bytes of dst, 64 at a time. Each turn uses the word loaded in the turn before and one
+// new word, so it loads once.
 fn copy_bits(s: &[u8], p: u64, dst: &mut [u8], n: u32)
     requires { ⌜ (p < 2 ^ 33) × (bytesFor n ≤ length (now dst)) ⌝ }
     ensures { λ r. ⌜ now (dst .exit) ≡ pasted (now (dst .entry)) 0 (packedBits (now (s .entry)) p n (bytesFor n)) ⌝ }
@@ -237,7 +228,7 @@ fn copy_bits(s: &[u8], p: u64, dst: &mut [u8], n: u32)
     }
 }
 
-// A packed number's value with one more chunk, the upper seven bits of b, above k others.
+// The value of a packed number's first k chunks, low, with one more chunk added: the upper seven bits of b.
 fn with_chunk(low: u32, b: u8, k: u32) -> u32
     requires { ⌜ (k ≤ 4) × (low < 2 ^ (7 * k)) × (2 ^ (7 * k) * (b / 2) < 2 ^ 32 - low) ⌝ }
     ensures { λ r. ⌜ r ≡ low + 2 ^ (7 * k) * (b / 2) ⌝ }
@@ -246,7 +237,7 @@ fn with_chunk(low: u32, b: u8, k: u32) -> u32
 }
 
 impl Cursor {
-    // A window of s: its first bit and its bit count. An empty one may be asked for past the end.
+    // The window of s with this first bit and bit count. An empty window past the end is not refused.
     pub fn window(s: &[u8], first: u64, count: u64) -> Opened
         ensures { λ r. ⌜ OpenedAnswer (now (s .entry)) (window (now (s .entry)) first count) r ⌝ }
     {
@@ -308,7 +299,6 @@ impl Cursor {
         (self.first as u64) + (self.pos as u64)
     }
 
-    // Reads one bit.
     pub fn read_bit(self, s: &[u8]) -> Bit
         ensures { λ r. ⌜ BitAnswer (now (s .entry)) self (bits (now (s .entry)) (self .first) (self .count) 1 (self .pos)) r ⌝ }
     {
@@ -366,7 +356,6 @@ impl Cursor {
         )
     }
 
-    // Reads a byte.
     pub fn read_u8(self, s: &[u8]) -> Byte
         ensures { λ r. ⌜ ByteAnswer (now (s .entry)) self (readAt (now (s .entry)) self byte) r ⌝ }
     {
@@ -391,7 +380,6 @@ impl Cursor {
         )
     }
 
-    // Reads a word of 32 bits.
     pub fn read_u32(self, s: &[u8]) -> Word
         ensures { λ r. ⌜ WordAnswer (now (s .entry)) self (readAt (now (s .entry)) self word32) r ⌝ }
     {
@@ -426,7 +414,7 @@ impl Cursor {
         }
     }
 
-    // Reads a packed number: up to five bytes, each with seven bits above one that says whether another follows.
+    // Reads a packed number: up to five bytes. The low bit of a byte is 1 if another follows; the upper seven bits are the next chunk.
     pub fn read_int_packed(self, s: &[u8]) -> Word
         ensures { λ r. ⌜ WordAnswer (now (s .entry)) self (readAt (now (s .entry)) self packed) r ⌝ }
     {
@@ -450,7 +438,7 @@ impl Cursor {
         at.read_last_chunk(s, start, low)
     }
 
-    // The fifth byte of a packed number that began at start: 11 where a sixth would follow, then 12 where 32 bits do not hold it.
+    // Reads the fifth byte of a packed number that began at start. 11: a sixth byte would follow. Then 12: the value does not fit 32 bits.
     fn read_last_chunk(self, s: &[u8], start: u32, low: u32) -> Word
         requires { ⌜ low < 2 ^ 28 ⌝ }
         ensures { λ r. ⌜ WordAnswer (now (s .entry)) self (readAt (now (s .entry)) self (chunks start 0 (2 ^ 28) low)) r ⌝ }
@@ -477,7 +465,7 @@ impl Cursor {
         }
     }
 
-    // The window of the next n bits, and the cursor behind them.
+    // The window of the next n bits, and the outer cursor after them.
     pub fn sub_reader(self, s: &[u8], n: u64) -> Sub
         ensures { λ r. ⌜ SubAnswer (now (s .entry)) self (inner (now (s .entry)) (self .first) (self .count) n (self .pos)) r ⌝ }
     {
@@ -511,12 +499,12 @@ impl Cursor {
             (now (dst .entry)) (now (dst .exit)) r ⌝ }
     {
         let pos = self.pos;
-        let room = dst.len();
-        if room < (n / 8 + (n % 8 + 7) / 8) as usize {
+        let space = dst.len();
+        if space < (n / 8 + (n % 8 + 7) / 8) as usize {
             return Copied::Refused(Refusal {
                 number: SHORT,
                 a: n,
-                b: 8 * (room as u64),
+                b: 8 * (space as u64),
             });
         }
         if self.lacks(n) {
@@ -534,7 +522,7 @@ impl Cursor {
     }
 }
 
-// The signed number that a word stands for.
+// A word of 32 bits as a signed number, in two's complement.
 fn as_signed(w: u32) -> i32
     ensures { λ r. ⌜ r ≡ signed w ⌝ }
 {

@@ -1,6 +1,7 @@
+-- Lemmas and theorems that the proofs by hand use.
 pub mod Walk
 pub mod Held
-pub mod Said
+pub mod Contracts
 pub mod Taken
 pub mod TakenAlone
 pub mod Made

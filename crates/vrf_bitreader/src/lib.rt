@@ -1,6 +1,6 @@
-// The bit reader of document 01 as a struct that holds the byte slice, over the cursor functions of vrf_bitio. Names follow
-// vrf-bitio's lib.rs. The borrow checker covers no function over such a struct, so each takes the reader apart and calls a
-// covered function on the slice and the numbers, and is proved by hand. A reader is passed by value: a refused reading moves nothing.
+// The bit reader of document 01 as a struct that holds the byte slice, over the cursor functions of vrf_bitio. The function names are those
+// of vrf-bitio's lib.rs. The borrow checker does not cover functions over such a struct. So each of them only takes the reader apart, calls
+// a covered function on the slice and the numbers, and is proved by hand. A reader is passed by value: a refused reading moves nothing.
 use vrf_bitio::Bit;
 use vrf_bitio::Bits;
 use vrf_bitio::Byte;
@@ -13,22 +13,13 @@ ghost use mathlib.Core.Path.{_≡_};
 ghost use Prim.Native.Nat.{_-_};
 ghost use Rattle.vrf_bitio.specs.Window.{window, inner, bits};
 ghost use Rattle.vrf_bitio.specs.Number.{byte, word32, int32, packed};
-ghost use Rattle.vrf_bitio.specs.Answers.{
-  readAt,
-  OpenedAnswer,
-  SubAnswer,
-  BitAnswer,
-  BitsAnswer,
-  ByteAnswer,
-  WordAnswer,
-  IntAnswer,
-};
-ghost use Rattle.vrf_bitreader.specs.Held.{cursor, cursorOf, readerOf, whole};
+ghost use Rattle.vrf_bitio.specs.Answers.{readAt, OpenedAnswer, SubAnswer, BitAnswer, BitsAnswer, ByteAnswer, WordAnswer, IntAnswer};
+ghost use Rattle.vrf_bitreader.specs.Reader.{cursor, cursorOf, readerOf, whole};
 
 // A window has at most this many bytes.
 const WINDOW_BYTES: usize = 268_435_456;
 
-// The bytes, a window of them (first bit and bit count), and the position in it.
+// The bytes, a window of them (first bit and bit count), and the position, counted from the window's first bit.
 pub struct BitReader<'a> {
     data: &'a [u8],
     first: u32,
@@ -36,14 +27,14 @@ pub struct BitReader<'a> {
     pos: u32,
 }
 
-// How many of count bits are left at a position.
+// The number of bits from pos to the end at count.
 fn left_of(count: u32, pos: u32) -> u32
     ensures { λ r. ⌜ r ≡ count - pos ⌝ }
 {
     if pos < count { count - pos } else { 0 }
 }
 
-// The cursor's readings on a reader's fields, for the methods below. A method's own number comes first, and then the fields in their order.
+// The cursor's readings on a reader's fields, for the methods below. A method's own argument comes first, then the fields in their order.
 fn bit_of(s: &[u8], first: u32, count: u32, pos: u32) -> Bit
     ensures { λ r. ⌜ BitAnswer (now (s .entry)) (cursor first count pos) (bits (now (s .entry)) first count 1 pos) r ⌝ }
 {
@@ -87,12 +78,12 @@ fn inner_of(n: u64, s: &[u8], first: u32, count: u32, pos: u32) -> Sub
 }
 
 impl<'a> BitReader<'a> {
-    // The window of all of a slice, or why there is none. No enum can hold a reader, so `over` makes it of the window.
+    // The window of the whole slice, or why there is none. An enum cannot hold a reader, so the caller makes one with `over`.
     pub fn new(data: &[u8]) -> Opened
         ensures { λ r. ⌜ OpenedAnswer (now («data» .entry)) (whole (now («data» .entry))) r ⌝ }
     {
         let n = data.len();
-        // Such a window is refused whatever its bit count, which might not fit a u64.
+        // A longer slice is refused whatever the bit count is; n * 8 might not fit a u64, so 0 is passed.
         if WINDOW_BYTES < n {
             return Cursor::window(data, 0, 0);
         }
@@ -106,7 +97,7 @@ impl<'a> BitReader<'a> {
         Cursor::with_bit_len(data, bit_len)
     }
 
-    // The reader of a slice that stands at a cursor.
+    // The reader of a slice with a cursor's window and position.
     pub fn over(data: &'a [u8], c: Cursor) -> BitReader<'a>
         ensures { λ r. ⌜ r ≡ readerOf («data» .entry) c ⌝ }
     {
@@ -118,7 +109,7 @@ impl<'a> BitReader<'a> {
         }
     }
 
-    // The same slice read on from a cursor that a reading answered: a reader is moved by hand, since its readings take it by value.
+    // The reader moved to a cursor that a reading answered. Readings take the reader by value, so they cannot move it themselves.
     pub fn at(self, c: Cursor) -> BitReader<'a>
         ensures { λ r. ⌜ r ≡ readerOf (self .entry .«data») c ⌝ }
     {
@@ -130,21 +121,19 @@ impl<'a> BitReader<'a> {
         }
     }
 
-    // Bits consumed so far.
+    // The number of bits read so far.
     pub fn position(self) -> u32
         ensures { λ r. ⌜ r ≡ self .entry .pos ⌝ }
     {
         self.pos
     }
 
-    // Bits left to read.
     pub fn bits_remaining(self) -> u32
         ensures { λ r. ⌜ r ≡ self .entry .count - self .entry .pos ⌝ }
     {
         left_of(self.count, self.pos)
     }
 
-    // Reads one bit.
     pub fn read_bit(self) -> Bit
         ensures { λ r. ⌜ BitAnswer (now (self .entry .«data»)) (cursorOf (self .entry))
             (bits (now (self .entry .«data»)) (self .entry .first) (self .entry .count) 1 (self .entry .pos)) r ⌝ }
@@ -160,7 +149,6 @@ impl<'a> BitReader<'a> {
         bits_of(width, self.data, self.first, self.count, self.pos)
     }
 
-    // Reads a byte.
     pub fn read_u8(self) -> Byte
         ensures { λ r. ⌜ ByteAnswer (now (self .entry .«data»)) (cursorOf (self .entry))
             (readAt (now (self .entry .«data»)) (cursorOf (self .entry)) byte) r ⌝ }
@@ -168,7 +156,6 @@ impl<'a> BitReader<'a> {
         u8_of(self.data, self.first, self.count, self.pos)
     }
 
-    // Reads a word of 32 bits.
     pub fn read_u32(self) -> Word
         ensures { λ r. ⌜ WordAnswer (now (self .entry .«data»)) (cursorOf (self .entry))
             (readAt (now (self .entry .«data»)) (cursorOf (self .entry)) word32) r ⌝ }
@@ -184,7 +171,6 @@ impl<'a> BitReader<'a> {
         i32_of(self.data, self.first, self.count, self.pos)
     }
 
-    // Reads a packed number.
     pub fn read_int_packed(self) -> Word
         ensures { λ r. ⌜ WordAnswer (now (self .entry .«data»)) (cursorOf (self .entry))
             (readAt (now (self .entry .«data»)) (cursorOf (self .entry)) packed) r ⌝ }
@@ -192,7 +178,7 @@ impl<'a> BitReader<'a> {
         packed_of(self.data, self.first, self.count, self.pos)
     }
 
-    // The window of the next n bits, and the cursor behind them.
+    // The window of the next n bits, and the outer cursor after them.
     pub fn sub_reader(self, n: u64) -> Sub
         ensures { λ r. ⌜ SubAnswer (now (self .entry .«data»)) (cursorOf (self .entry))
             (inner (now (self .entry .«data»)) (self .entry .first) (self .entry .count) n (self .entry .pos)) r ⌝ }
@@ -201,7 +187,8 @@ impl<'a> BitReader<'a> {
     }
 }
 
-// The reader's methods on a plain slice and cursor, for callers that the borrow checker covers: it covers no function that has a reader.
+// The reader's methods for a slice and a cursor. They are for callers that the borrow checker covers: it covers no function that has a
+// reader.
 pub fn position_over(data: &[u8], c: Cursor) -> u32
     ensures { λ r. ⌜ r ≡ c .pos ⌝ }
 {

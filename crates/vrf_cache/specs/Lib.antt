@@ -1,20 +1,4 @@
--- The book calls and the lookups on an open book.
-pub mod Taken
-pub mod TakenLaws
--- what they keep within the allowances, and what they write
-pub mod Passed
-pub mod Keeping
-pub mod Numbers
-pub mod Put
--- each call
-pub mod ClearLaws
-pub mod GuidSteps
-pub mod Slots
-pub mod FieldSteps
-pub mod GroupLaws
-pub mod GroupSteps
-pub mod GroupReplaced
-pub mod GroupAdded
--- names resolved to groups
-pub mod Resolve
-pub mod ResolveLaws
+-- What the contracts of `vrf_cache` are stated with. The book calls themselves are defined in `vrf_model`.
+pub mod Inner
+-- What the proofs of these contracts use.
+pub mod Laws

@@ -1,4 +1,4 @@
-// set_field_on_group: a slot of a group takes a checksum and a name.
+// `set_field_on_group`: a slot of a group takes a checksum and a name.
 use crate::full::full;
 use crate::full::passes;
 use crate::texts::keep_text;
@@ -20,29 +20,28 @@ use vrf_table::Entry;
 ghost use mathlib.Core.Path.{_≡_};
 ghost use mathlib.Core.Bool.{false};
 ghost use mathlib.Core.Option.{some};
-ghost use Prim.Native.Nat.{_-_, _<_};
+ghost use Prim.Native.Nat.{_<_};
 ghost use Rattle.vrf_text.specs.Text.{IsText};
 ghost use Rattle.vrf_path.specs.Text.{same};
 ghost use Rattle.vrf_model.specs.Book.{filled};
 ghost use Rattle.vrf_model.specs.Setting.{done, droppedStep, setField, setFieldAt};
-ghost use Rattle.vrf_store.specs.FieldMemory.{Renamed};
-ghost use Rattle.vrf_store.specs.Good.{Good};
-ghost use Rattle.vrf_store.specs.Stepped.{held};
 ghost use Rattle.vrf_store.specs.Store.{headerOf};
-ghost use Rattle.vrf_cache.specs.FieldSteps.{Known, New, nameAt, placeOf, setting, slotOf};
-ghost use Rattle.vrf_cache.specs.Taken.{PlacedBy};
+ghost use Rattle.vrf_store.specs.Inner.WellFormed.{WellFormed};
+ghost use Rattle.vrf_store.specs.Inner.Stepped.{held};
+ghost use Rattle.vrf_store.specs.Inner.Fields.{Renamed};
+ghost use Rattle.vrf_cache.specs.Inner.Taken.{PlacedBy};
+ghost use Rattle.vrf_cache.specs.Inner.Fields.{FieldToChange, FieldToAdd, nameAt, placeOf, setting, slotOf};
 
-// The name of row e.
 fn row_name(m: &[u8], e: u32) -> &[u8]
-    requires { ⌜ Good (now m) × (e < headerOf (now m) .fields) ⌝ }
+    requires { ⌜ WellFormed (now m) × (e < headerOf (now m) .fields) ⌝ }
     ensures { λ r. ⌜ now r ≡ nameAt (now (m .entry)) e ⌝ }
 {
     row_text(field_rows(m), texts(m), e)
 }
 
-// A row more, for a slot that is empty.
+// Adds a row for an empty slot.
 fn add_field(m: &mut [u8], place: u32, slot: u32, checksum: u32, name: &[u8]) -> Placed
-    requires { ⌜ New (now m) (now name) place slot ⌝ }
+    requires { ⌜ FieldToAdd (now m) (now name) place slot ⌝ }
     ensures { λ r. ⌜ PlacedBy (setting (held (now (m .entry))) place slot checksum (now (name .entry))) (now (m .entry)) (now (m .exit)) r ⌝ }
 {
     let which = passes(m, 0, 0, 1, 0, name.len() as u64);
@@ -54,9 +53,9 @@ fn add_field(m: &mut [u8], place: u32, slot: u32, checksum: u32, name: &[u8]) ->
     Placed::Placed
 }
 
-// Another checksum for row e, whose name stays where it stands.
+// The name of row e stays at its position.
 fn set_checksum(m: &mut [u8], e: u32, checksum: u32)
-    requires { ⌜ Good (now m) × (e < headerOf (now m) .fields) ⌝ }
+    requires { ⌜ WellFormed (now m) × (e < headerOf (now m) .fields) ⌝ }
     ensures { λ _. ⌜ Renamed (now (m .entry)) (now (m .exit)) e (filled checksum (nameAt (now (m .entry)) e)) ⌝ }
 {
     let at = text_at(field_rows(m), e);
@@ -64,9 +63,9 @@ fn set_checksum(m: &mut [u8], e: u32, checksum: u32)
     set_field_row(m, e, at, len, checksum);
 }
 
-// Another name for row e. It lets go of its old name first, so that this takes no room from the new one.
+// Releases the old name first, so that the old and the new name need not both fit.
 fn rename_field(m: &mut [u8], e: u32, checksum: u32, name: &[u8]) -> Placed
-    requires { ⌜ Known (now m) (now name) e × (same (nameAt (now m) e) (now name) ≡ false) ⌝ }
+    requires { ⌜ FieldToChange (now m) (now name) e × (same (nameAt (now m) e) (now name) ≡ false) ⌝ }
     ensures { λ r. ⌜ PlacedBy (setting (held (now (m .entry))) (placeOf (now (m .entry)) e) (slotOf (now (m .entry)) e) checksum (now (name .entry))) (now (m .entry)) (now (m .exit)) r ⌝ }
 {
     let old = row_name(m, e).len() as u64;
@@ -81,9 +80,9 @@ fn rename_field(m: &mut [u8], e: u32, checksum: u32, name: &[u8]) -> Placed
     Placed::Placed
 }
 
-// Another checksum and name for row e. The same name is not written again.
+// An equal name is not written again.
 fn change_field(m: &mut [u8], e: u32, checksum: u32, name: &[u8]) -> Placed
-    requires { ⌜ Known (now m) (now name) e ⌝ }
+    requires { ⌜ FieldToChange (now m) (now name) e ⌝ }
     ensures { λ r. ⌜ PlacedBy (setting (held (now (m .entry))) (placeOf (now (m .entry)) e) (slotOf (now (m .entry)) e) checksum (now (name .entry))) (now (m .entry)) (now (m .exit)) r ⌝ }
 {
     if same(row_name(m, e), name) {
@@ -93,18 +92,18 @@ fn change_field(m: &mut [u8], e: u32, checksum: u32, name: &[u8]) -> Placed
     rename_field(m, e, checksum, name)
 }
 
-// A field that finds no slot is counted.
+// Counts a field for which there is no slot.
 fn drop_field(m: &mut [u8]) -> Placed
-    requires { ⌜ Good (now m) ⌝ }
+    requires { ⌜ WellFormed (now m) ⌝ }
     ensures { λ r. ⌜ PlacedBy (done false (held (now (m .entry))) droppedStep) (now (m .entry)) (now (m .exit)) r ⌝ }
 {
     step_dropped(m);
     Placed::NotPlaced
 }
 
-// The field in a slot of the group at a place, which may have fewer slots.
+// Sets the slot, or drops the field if the group has too few slots.
 fn set_slot(m: &mut [u8], place: u32, slot: u32, checksum: u32, name: &[u8]) -> Placed
-    requires { ⌜ Good (now m) × IsText (now name) ⌝ }
+    requires { ⌜ WellFormed (now m) × IsText (now name) ⌝ }
     ensures { λ r. ⌜ PlacedBy (setFieldAt slot checksum (now (name .entry)) (held (now (m .entry))) (some place)) (now (m .entry)) (now (m .exit)) r ⌝ }
 {
     if group_slots(m, place) <= slot {
@@ -123,7 +122,7 @@ pub fn set_field_on_group(
     checksum: u32,
     name: &[u8],
 ) -> Placed
-    requires { ⌜ Good (now m) × IsText (now name) ⌝ }
+    requires { ⌜ WellFormed (now m) × IsText (now name) ⌝ }
     ensures { λ r. ⌜ PlacedBy (setField index handle checksum (now (name .entry)) (held (now (m .entry)))) (now (m .entry)) (now (m .exit)) r ⌝ }
 {
     match find_index(m, index) {

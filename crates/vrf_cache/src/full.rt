@@ -1,4 +1,4 @@
-// The counts that a step would leave, against the allowances.
+// Compares the counts that a step would leave with the allowances.
 use vrf_bitio::Refusal;
 use vrf_model::ALLOWANCE_PASSED;
 use vrf_store::parts::fields;
@@ -12,10 +12,10 @@ use vrf_store::parts::text_allowed;
 ghost use mathlib.Core.Path.{_≡_};
 ghost use Prim.Native.Nat.{_≤_};
 ghost use lib.ListN.{length};
-ghost use Rattle.vrf_store.specs.Good.{Good};
-ghost use Rattle.vrf_store.specs.Opened.{orZero};
 ghost use Rattle.vrf_store.specs.Store.{allowancesOf, headerOf};
-ghost use Rattle.vrf_cache.specs.Passed.{passedBy, passesBy};
+ghost use Rattle.vrf_store.specs.Inner.WellFormed.{WellFormed};
+ghost use Rattle.vrf_store.specs.Inner.Opening.{orZero};
+ghost use Rattle.vrf_cache.specs.Inner.Passed.{passedBy, passesBy};
 
 // The lowest allowance that these counts pass, 0 for none.
 fn passed(m: &[u8], guids: u64, groups: u64, fields: u64, text: u64) -> u32
@@ -37,10 +37,10 @@ fn passed(m: &[u8], guids: u64, groups: u64, fields: u64, text: u64) -> u32
     0
 }
 
-// The lowest that a step would pass, 0 for none, which brings g records, r groups and f fields, and n bytes of text in place of `gone`
-// that are held.
+// The lowest allowance that a step would pass, 0 for none. The step adds g GUID records, r groups and f fields, and holds n text bytes in
+// place of `gone` bytes that are held.
 pub fn passes(m: &[u8], g: u64, r: u64, f: u64, gone: u64, n: u64) -> u32
-    requires { ⌜ Good (now m) × (g ≤ 1) × (r ≤ 1) × (f ≤ 1) × (gone ≤ headerOf (now m) .held) × (n ≤ 4096) ⌝ }
+    requires { ⌜ WellFormed (now m) × (g ≤ 1) × (r ≤ 1) × (f ≤ 1) × (gone ≤ headerOf (now m) .held) × (n ≤ 4096) ⌝ }
     ensures { λ w. ⌜ w ≡ passesBy (now (m .entry)) g r f gone n ⌝ }
 {
     let text = held(m) as u64 - gone + n;
@@ -53,7 +53,7 @@ pub fn passes(m: &[u8], g: u64, r: u64, f: u64, gone: u64, n: u64) -> u32
     )
 }
 
-// The refusal of a step that would pass this allowance.
+// Refusal 42: a step would pass this allowance.
 pub fn full(which: u32) -> Refusal
     ensures { λ r. ⌜ r ≡ record { number = 42; a = which; b = 0 } ⌝ }
 {

@@ -1,4 +1,4 @@
-// add_export_group: a group is appended, merged or replaced.
+// `add_export_group`: a group is appended, merged or replaced.
 use crate::full::full;
 use crate::full::passes;
 use crate::texts::keep_text;
@@ -27,7 +27,7 @@ ghost use mathlib.Core.Path.{_≡_};
 ghost use mathlib.Core.Bool.{_&&_};
 ghost use mathlib.Core.List.{[]};
 ghost use mathlib.Core.Option.{none, some};
-ghost use Prim.Native.Nat.{_+_, _-_, _<_, _≤_};
+ghost use Prim.Native.Nat.{_+_, _<_, _≤_};
 ghost use lib.Dec.{eqb};
 ghost use lib.ListN.{length};
 ghost use Rattle.vrf_text.specs.Text.{IsText};
@@ -35,18 +35,15 @@ ghost use Rattle.vrf_path.specs.Text.{same};
 ghost use Rattle.vrf_model.specs.Book.{Group, groupText};
 ghost use Rattle.vrf_model.specs.Lookup.{placeOr, indexPlace};
 ghost use Rattle.vrf_model.specs.Setting.{newGroup, addGroupAt, addGroup};
-ghost use Rattle.vrf_store.specs.Good.{Good};
-ghost use Rattle.vrf_store.specs.Stepped.{held};
 ghost use Rattle.vrf_store.specs.Store.{headerOf};
-ghost use Rattle.vrf_cache.specs.GroupAdded.{Found};
-ghost use Rattle.vrf_cache.specs.GroupLaws.{groupAt};
-ghost use Rattle.vrf_cache.specs.GroupReplaced.{replacing};
-ghost use Rattle.vrf_cache.specs.GroupSteps.{appending, New, Asked, Fits, Freed, Given, merging};
-ghost use Rattle.vrf_cache.specs.Taken.{AddedBy};
+ghost use Rattle.vrf_store.specs.Inner.WellFormed.{WellFormed};
+ghost use Rattle.vrf_store.specs.Inner.Stepped.{held};
+ghost use Rattle.vrf_cache.specs.Inner.Taken.{AddedBy};
+ghost use Rattle.vrf_cache.specs.Inner.Groups.{MergeRequest, groupAt, replacing, appending, GroupToAdd, GroupRequest, PathFits, PathReleased, PathWritten, merging};
 
-// A group more, for an index that no group has.
+// Appends a group with an index that no group has.
 fn append_group(m: &mut [u8], path: &[u8], index: u32, slots: u32) -> Added
-    requires { ⌜ New (now m) (now path) index slots ⌝ }
+    requires { ⌜ GroupToAdd (now m) (now path) index slots ⌝ }
     ensures { λ r. ⌜ AddedBy (appending (held (now (m .entry))) (newGroup (now (path .entry)) index slots)) (now (m .entry)) (now (m .exit)) r ⌝ }
 {
     let which = passes(m, 0, 1, 0, 0, path.len() as u64);
@@ -60,10 +57,11 @@ fn append_group(m: &mut [u8], path: &[u8], index: u32, slots: u32) -> Added
     Added::At(n)
 }
 
-// Group e lets go of its path where there is no room for n bytes beside it. As this makes the indexes again, it keeps it else.
-fn let_go(m: &mut [u8], e: u32, n: u64)
-    requires { ⌜ Fits (now m) e n ⌝ }
-    ensures { λ _. ⌜ Freed (now (m .entry)) (now (m .exit)) e n ⌝ }
+// Releases the path of group e if n more bytes would pass allowance 4. Otherwise the path stays, because `set_group` rebuilds the indexes,
+// which is slow.
+fn release_path(m: &mut [u8], e: u32, n: u64)
+    requires { ⌜ PathFits (now m) e n ⌝ }
+    ensures { λ _. ⌜ PathReleased (now (m .entry)) (now (m .exit)) e n ⌝ }
 {
     if held(m) as u64 + n <= text_allowed(m) as u64 {
         return;
@@ -72,18 +70,18 @@ fn let_go(m: &mut [u8], e: u32, n: u64)
     set_group(m, e, index, 0, 0, 0);
 }
 
-// Writes the path that group e is to have, and answers where it stands.
+// Writes the new path of group e to the texts and answers its position. The row of group e is set later.
 fn put_path(m: &mut [u8], e: u32, path: &[u8]) -> u32
-    requires { ⌜ Fits (now m) e (length (now path)) ⌝ }
-    ensures { λ a. ⌜ Given (now (m .entry)) (now (path .entry)) (now (m .exit)) e a ⌝ }
+    requires { ⌜ PathFits (now m) e (length (now path)) ⌝ }
+    ensures { λ a. ⌜ PathWritten (now (m .entry)) (now (path .entry)) (now (m .exit)) e a ⌝ }
 {
-    let_go(m, e, path.len() as u64);
+    release_path(m, e, path.len() as u64);
     keep_text(m, path)
 }
 
-// Group e takes this path and index, and grows.
+// Group e takes this path and index, and grows to the slot count.
 fn rename_group(m: &mut [u8], e: u32, path: &[u8], index: u32, slots: u32) -> Added
-    requires { ⌜ Asked (now m) (now path) e index slots ⌝ }
+    requires { ⌜ GroupRequest (now m) (now path) e index slots ⌝ }
     ensures { λ r. ⌜ AddedBy (merging (held (now (m .entry))) e (now (path .entry)) index slots) (now (m .entry)) (now (m .exit)) r ⌝ }
 {
     let gone = group_path(m, e).len() as u64;
@@ -97,9 +95,8 @@ fn rename_group(m: &mut [u8], e: u32, path: &[u8], index: u32, slots: u32) -> Ad
     Added::At(e)
 }
 
-// Whether group e has this path and this index.
 fn is_named(m: &[u8], e: u32, path: &[u8], index: u32) -> bool
-    requires { ⌜ Good (now m) ⌝ }
+    requires { ⌜ WellFormed (now m) ⌝ }
     ensures { λ r. ⌜ r ≡ (same (now (path .entry)) (placeOr (λ (g : Group). g .path) [] (held (now (m .entry)) .groups) e) && eqb index (placeOr (λ (g : Group). g .index) 0 (held (now (m .entry)) .groups) e)) ⌝ }
 {
     if same(path, group_path(m, e)) {
@@ -108,9 +105,9 @@ fn is_named(m: &[u8], e: u32, path: &[u8], index: u32) -> bool
     false
 }
 
-// Group e is merged. Where it has this path and index already, it only grows, and its place in the indexes stays.
+// A group that already has this path and index only grows, and the indexes stay as they are.
 fn merge_group(m: &mut [u8], e: u32, path: &[u8], index: u32, slots: u32) -> Added
-    requires { ⌜ Asked (now m) (now path) e index slots ⌝ }
+    requires { ⌜ GroupRequest (now m) (now path) e index slots ⌝ }
     ensures { λ r. ⌜ AddedBy (merging (held (now (m .entry))) e (now (path .entry)) index slots) (now (m .entry)) (now (m .exit)) r ⌝ }
 {
     if is_named(m, e, path, index) {
@@ -121,9 +118,9 @@ fn merge_group(m: &mut [u8], e: u32, path: &[u8], index: u32, slots: u32) -> Add
     rename_group(m, e, path, index, slots)
 }
 
-// The bytes of the texts of group e: its path and the names of its fields.
+// The length of the texts of group e: its path and the names of its fields.
 fn group_text(m: &[u8], e: u32) -> u64
-    requires { ⌜ Good (now m) × (e < headerOf (now m) .groups) ⌝ }
+    requires { ⌜ WellFormed (now m) × (e < headerOf (now m) .groups) ⌝ }
     ensures { λ r. ⌜ r ≡ groupText (groupAt (held (now (m .entry))) e) ⌝ }
 {
     let n = group_slots(m, e);
@@ -136,9 +133,9 @@ fn group_text(m: &[u8], e: u32) -> u64
     total
 }
 
-// Group e is replaced, and its fields go; what its texts take is known before, as a refusal leaves everything.
+// Replaces group e and drops its fields. The allowance is checked first, because a refusal must leave everything as it was.
 fn replace_at(m: &mut [u8], e: u32, path: &[u8], index: u32, slots: u32) -> Added
-    requires { ⌜ Asked (now m) (now path) e index slots ⌝ }
+    requires { ⌜ GroupRequest (now m) (now path) e index slots ⌝ }
     ensures { λ r. ⌜ AddedBy (replacing (held (now (m .entry))) e (newGroup (now (path .entry)) index slots)) (now (m .entry)) (now (m .exit)) r ⌝ }
 {
     let gone = group_text(m, e);
@@ -154,9 +151,9 @@ fn replace_at(m: &mut [u8], e: u32, path: &[u8], index: u32, slots: u32) -> Adde
     Added::At(e)
 }
 
-// Group e has the path. It is merged, unless another has the index.
+// Path found at group e: merges, or refuses with 23 if another group has the index.
 fn merge_at(m: &mut [u8], e: u32, path: &[u8], index: u32, slots: u32) -> Added
-    requires { ⌜ Found (now m) (now path) e slots ⌝ }
+    requires { ⌜ MergeRequest (now m) (now path) e slots ⌝ }
     ensures { λ r. ⌜ AddedBy (addGroupAt (now (path .entry)) index slots (held (now (m .entry))) (some e) (indexPlace index (held (now (m .entry)) .groups))) (now (m .entry)) (now (m .exit)) r ⌝ }
 {
     match find_index(m, index) {
@@ -174,9 +171,9 @@ fn merge_at(m: &mut [u8], e: u32, path: &[u8], index: u32, slots: u32) -> Added
     }
 }
 
-// No group has the path. The one that has the index is replaced; else there is a group more.
+// Path not found: replaces the group that has the index, or appends if there is none.
 fn add_unknown(m: &mut [u8], path: &[u8], index: u32, slots: u32) -> Added
-    requires { ⌜ Good (now m) × IsText (now path) × (slots ≤ 65536) ⌝ }
+    requires { ⌜ WellFormed (now m) × IsText (now path) × (slots ≤ 65536) ⌝ }
     ensures { λ r. ⌜ AddedBy (addGroupAt (now (path .entry)) index slots (held (now (m .entry))) none (indexPlace index (held (now (m .entry)) .groups))) (now (m .entry)) (now (m .exit)) r ⌝ }
 {
     match find_index(m, index) {
@@ -185,9 +182,9 @@ fn add_unknown(m: &mut [u8], path: &[u8], index: u32, slots: u32) -> Added
     }
 }
 
-// Answers the group's place. Every adding that is accepted steps the schema generation.
+// Answers the group's place. Every accepted call steps the schema generation.
 pub fn add_export_group(m: &mut [u8], path: &[u8], index: u32, slots: u32) -> Added
-    requires { ⌜ Good (now m) × IsText (now path) × (slots ≤ 65536) ⌝ }
+    requires { ⌜ WellFormed (now m) × IsText (now path) × (slots ≤ 65536) ⌝ }
     ensures { λ r. ⌜ AddedBy (addGroup (now (path .entry)) index slots (held (now (m .entry)))) (now (m .entry)) (now (m .exit)) r ⌝ }
 {
     match find_path_place(m, path) {

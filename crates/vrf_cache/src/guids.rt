@@ -1,4 +1,4 @@
-// set_net_guid_path: a GUID takes a path and an outer.
+// `set_net_guid_path`: a GUID takes a path and an outer.
 use crate::full::full;
 use crate::full::passes;
 use crate::texts::keep_text;
@@ -18,24 +18,24 @@ ghost use Rattle.vrf_text.specs.Text.{IsText};
 ghost use Rattle.vrf_model.specs.Lookup.{placeOr};
 ghost use Rattle.vrf_model.specs.Setting.{setGuid};
 ghost use Rattle.vrf_table.specs.Table.{key};
-ghost use Rattle.vrf_store.specs.Good.{Good};
-ghost use Rattle.vrf_store.specs.Stepped.{held};
 ghost use Rattle.vrf_store.specs.Store.{headerOf, storeOf};
-ghost use Rattle.vrf_cache.specs.GuidSteps.{setting, withNew, New, withOther, otherPasses, Known, has};
-ghost use Rattle.vrf_cache.specs.Taken.{ActedBy};
+ghost use Rattle.vrf_store.specs.Inner.WellFormed.{WellFormed};
+ghost use Rattle.vrf_store.specs.Inner.Stepped.{held};
+ghost use Rattle.vrf_cache.specs.Inner.Taken.{ActedBy};
+ghost use Rattle.vrf_cache.specs.Inner.Guids.{setting, withNew, GuidToAdd, withOther, otherPasses, GuidToChange, has};
 
 // The allowance that record e would pass with a path of n bytes in place of its own, 0 for none.
 fn other_passes(m: &[u8], e: u32, n: u64) -> u32
-    requires { ⌜ Good (now m) × ((e < headerOf (now m) .guids) × (n ≤ 4096)) ⌝ }
+    requires { ⌜ WellFormed (now m) × ((e < headerOf (now m) .guids) × (n ≤ 4096)) ⌝ }
     ensures { λ r. ⌜ r ≡ otherPasses (now (m .entry)) e n ⌝ }
 {
     let gone = guid_path(m, e).len() as u64;
     passes(m, 0, 0, 0, gone, n)
 }
 
-// A record more, for a GUID that has none.
+// Appends a record for a GUID that has none.
 fn add_guid(m: &mut [u8], guid: u32, path: &[u8], outer: u32) -> Acted
-    requires { ⌜ New (now m) (now path) guid ⌝ }
+    requires { ⌜ GuidToAdd (now m) (now path) guid ⌝ }
     ensures { λ r. ⌜ ActedBy (setting (withNew (held (now (m .entry))) (record { guid = guid; path = now (path .entry); outer = outer }))) (now (m .entry)) (now (m .exit)) r ⌝ }
 {
     let which = passes(m, 1, 0, 0, 0, path.len() as u64);
@@ -48,9 +48,9 @@ fn add_guid(m: &mut [u8], guid: u32, path: &[u8], outer: u32) -> Acted
     Acted::Done
 }
 
-// Another path and outer of record e. It lets go of its old path first, so that this takes no room from the new one.
+// Releases the old path first, so that the old and the new path need not both fit.
 fn change_guid(m: &mut [u8], e: u32, path: &[u8], outer: u32) -> Acted
-    requires { ⌜ Known (now m) (now path) e ⌝ }
+    requires { ⌜ GuidToChange (now m) (now path) e ⌝ }
     ensures { λ r. ⌜ ActedBy (setting (withOther (held (now (m .entry))) e (record { guid = key (storeOf (now (m .entry)) .guidRows) e; path = now (path .entry); outer = outer }))) (now (m .entry)) (now (m .exit)) r ⌝ }
 {
     let which = other_passes(m, e, path.len() as u64);
@@ -64,9 +64,8 @@ fn change_guid(m: &mut [u8], e: u32, path: &[u8], outer: u32) -> Acted
     Acted::Done
 }
 
-// Whether record e has this path and this outer.
 fn is_set(m: &[u8], e: u32, path: &[u8], outer: u32) -> bool
-    requires { ⌜ Known (now m) (now path) e ⌝ }
+    requires { ⌜ GuidToChange (now m) (now path) e ⌝ }
     ensures { λ r. ⌜ r ≡ placeOr (has (now (path .entry)) outer) false (held (now (m .entry)) .guids) e ⌝ }
 {
     if same(path, guid_path(m, e)) {
@@ -77,7 +76,7 @@ fn is_set(m: &[u8], e: u32, path: &[u8], outer: u32) -> bool
 
 // An identical setting does nothing.
 pub fn set_net_guid_path(m: &mut [u8], guid: u32, path: &[u8], outer: u32) -> Acted
-    requires { ⌜ Good (now m) × IsText (now path) ⌝ }
+    requires { ⌜ WellFormed (now m) × IsText (now path) ⌝ }
     ensures { λ r. ⌜ ActedBy (setGuid (record { guid = guid; path = now (path .entry); outer = outer }) (held (now (m .entry)))) (now (m .entry)) (now (m .exit)) r ⌝ }
 {
     match find_guid(m, guid) {

@@ -1,4 +1,4 @@
-// The book calls and the lookups on a good memory (cache.rs, resolve.rs).
+// The book calls of cache.rs and the resolutions of resolve.rs, on a well-formed memory.
 pub mod clear;
 pub mod fields;
 pub mod full;

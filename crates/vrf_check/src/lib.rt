@@ -1,4 +1,5 @@
-// The check of a lent book (refusal 2): its numbers are in bounds, each text is one, and each entry is found where it should be.
+// The check of a lent book (document 01, refusal 2; docs/LAYOUT.md, The check). `vrf_store`'s `Check` defines it; the code takes it in
+// steps.
 use vrf_path::Key;
 use vrf_path::Leaf;
 use vrf_path::core_alias;
@@ -26,51 +27,22 @@ ghost use lib.ListN.{length};
 ghost use Rattle.vrf_path.specs.Answers.{spelled, keyBytes};
 ghost use Rattle.vrf_table.specs.Table.{len};
 ghost use Rattle.vrf_table.specs.TextIndex.{findPath};
-ghost use Rattle.vrf_table.specs.Answers.{entry, claim};
+ghost use Rattle.vrf_table.specs.Inner.Answers.{entry, claim};
 ghost use Rattle.vrf_store.specs.UpTo.{allBelow, sumBelow};
 ghost use Rattle.vrf_store.specs.Layout;
 ghost use Rattle.vrf_store.specs.Store.{allowancesOf, headerOf, storeOf};
-ghost use Rattle.vrf_store.specs.Check.{
-  topsOk,
-  headerOk,
-  laidOk,
-  textOk,
-  isPlace,
-  foundOk,
-  notBefore,
-  reachOk,
-  isSettled,
-  storeOk,
-  check,
-};
-ghost use Rattle.vrf_store.specs.CheckSteps.{
-  guidRow,
-  groupRow,
-  slotIn,
-  fieldRow,
-  keysReach,
-  leafSettled,
-  sumOk,
-  groupTexts,
-  textsOk,
-  guidsOk,
-  groupsOk,
-  fieldsOk,
-  pathsOk,
-  leavesOk,
-  Laid,
-  Walked,
-};
+ghost use Rattle.vrf_store.specs.Check.{topsOk, headerOk, boundsOk, textOk, isPlace, foundOk, notBefore, reachOk, isSettled, storeOk, check};
+ghost use Rattle.vrf_store.specs.Inner.Check.{guidRow, groupRow, slotIn, fieldRow, keysReach, leafSettled, sumOk, groupTexts, textsOk, guidsOk, groupsOk, fieldsOk, pathsOk, leavesOk, InBounds};
+ghost use Rattle.vrf_store.specs.Inner.Check.{Walked};
 
-// A text has at most this many bytes.
+// The most bytes that a text has.
 const TEXT_BYTES: usize = 4_096;
 
-// A key of a path is at most 23 bytes longer than the path.
+// The most bytes that a key has: at most 23 more than its path.
 const KEY_BYTES: usize = TEXT_BYTES + 23;
 
 // ---- the header
 
-// Whether no allowance is above its top.
 fn tops_ok(m: &[u8]) -> bool
     requires { ⌜ 128 ≤ length (now m) ⌝ }
     ensures { λ r. ⌜ r ≡ topsOk (allowancesOf (now (m .entry))) ⌝ }
@@ -83,7 +55,7 @@ fn tops_ok(m: &[u8]) -> bool
     g & (r & (f & (t & l)))
 }
 
-// How many bytes the allowances need.
+// The number of bytes that the allowances need.
 fn need(m: &[u8]) -> usize
     requires { ⌜ 128 ≤ length (now m) ⌝ }
     ensures { λ r. ⌜ r ≡ Layout.need (allowancesOf (now (m .entry))) ⌝ }
@@ -96,7 +68,7 @@ fn need(m: &[u8]) -> usize
     4 * (37 + 10 * g + 16 * r + 10 * f + l) + 2 * t
 }
 
-// Whether no count or total is above its allowance.
+// Whether each count and total is within its allowance, and the half in use is 0 or 1.
 fn header_ok(m: &[u8]) -> bool
     requires { ⌜ 128 ≤ length (now m) ⌝ }
     ensures { λ r. ⌜ r ≡ headerOk (headerOf (now (m .entry))) ⌝ }
@@ -110,9 +82,9 @@ fn header_ok(m: &[u8]) -> bool
     g & (r & (f & (h & (u & s))))
 }
 
-// Whether the allowances and the header are in bounds, and the memory has what they need.
-fn laid_ok(m: &[u8]) -> bool
-    ensures { λ r. ⌜ r ≡ laidOk (headerOf (now (m .entry))) (length (now (m .entry))) ⌝ }
+// Whether the allowances and the header are in bounds, and the memory has the bytes that the allowances need.
+fn bounds_ok(m: &[u8]) -> bool
+    ensures { λ r. ⌜ r ≡ boundsOk (headerOf (now (m .entry))) (length (now (m .entry))) ⌝ }
 {
     if m.len() < 128 {
         return false;
@@ -128,7 +100,7 @@ fn laid_ok(m: &[u8]) -> bool
 
 // ---- rows
 
-// How long the text of row e is.
+// The length of the text of row e.
 fn row_len(rows: &[u8], e: u32) -> u32
     requires { ⌜ 24 * e + 24 ≤ length (now rows) ⌝ }
     ensures { λ r. ⌜ r ≡ len (now (rows .entry)) e ⌝ }
@@ -136,7 +108,7 @@ fn row_len(rows: &[u8], e: u32) -> u32
     get32(rows, 6 * (e as usize) + 4)
 }
 
-// The sum of the lengths of n texts.
+// The sum of the lengths of the texts of n rows.
 fn length_sum(rows: &[u8], n: u32) -> u64
     requires { ⌜ 24 * n ≤ length (now rows) ⌝ }
     ensures { λ r. ⌜ (r ≡ sumBelow (len (now (rows .entry))) n) × (r ≤ 4294967295 * n) ⌝ }
@@ -150,7 +122,7 @@ fn length_sum(rows: &[u8], n: u32) -> u64
     sum
 }
 
-// Whether the text of row e lies in what is used, and is one.
+// Whether the text of row e is inside the bytes used, has at most 4096 bytes and is UTF-8.
 fn text_ok(used: u32, x: &[u8], rows: &[u8], e: u32) -> bool
     requires { ⌜ (24 * e + 24 ≤ length (now rows)) × (used ≤ length (now x)) ⌝ }
     ensures { λ r. ⌜ r ≡ textOk used (now (x .entry)) (now (rows .entry)) e ⌝ }
@@ -167,7 +139,6 @@ fn text_ok(used: u32, x: &[u8], rows: &[u8], e: u32) -> bool
     is_utf8(&x[from..to])
 }
 
-// Whether each of n rows' texts lies in what is used, and is one.
 fn each_text_ok(used: u32, x: &[u8], rows: &[u8], n: u32) -> bool
     requires { ⌜ (24 * n ≤ length (now rows)) × (used ≤ length (now x)) ⌝ }
     ensures { λ r. ⌜ r ≡ allBelow (textOk used (now (x .entry)) (now (rows .entry))) n ⌝ }
@@ -182,7 +153,7 @@ fn each_text_ok(used: u32, x: &[u8], rows: &[u8], n: u32) -> bool
     true
 }
 
-// Whether a walk found entry e.
+// Whether the walk found entry e.
 fn is_place(e: u32, found: Entry) -> bool
     ensures { λ r. ⌜ r ≡ isPlace e (entry found) ⌝ }
 {
@@ -192,7 +163,7 @@ fn is_place(e: u32, found: Entry) -> bool
     }
 }
 
-// Whether the key of row e finds it.
+// Whether the key of row e finds row e.
 fn found_ok(rows: &[u8], heads: &[u8], b: u32, n: u32, e: u32) -> bool
     requires { ⌜ (24 * n ≤ length (now rows)) × (4 * b ≤ length (now heads)) × (0 < b) × (e < n) ⌝ }
     ensures { λ r. ⌜ r ≡ foundOk (now (rows .entry)) (now (heads .entry)) b n e ⌝ }
@@ -200,7 +171,7 @@ fn found_ok(rows: &[u8], heads: &[u8], b: u32, n: u32, e: u32) -> bool
     is_place(e, find_key(rows, heads, b, n, row_key(rows, e)))
 }
 
-// ---- the rows of each table, but for their texts
+// ---- the rows of each table, without their texts
 
 fn guid_ok(rows: &[u8], heads: &[u8], b: u32, n: u32, e: u32) -> bool
     requires { ⌜ (24 * n ≤ length (now rows)) × (4 * b ≤ length (now heads)) × (0 < b) × (e < n) ⌝ }
@@ -253,7 +224,7 @@ fn each_group_ok(rows: &[u8], heads: &[u8], b: u32, n: u32) -> bool
     true
 }
 
-// Whether k is a slot of one of n groups.
+// Whether k is the key of a slot of one of n groups.
 fn slot_ok(groups: &[u8], n: u32, k: u64) -> bool
     requires { ⌜ 24 * n ≤ length (now groups) ⌝ }
     ensures { λ r. ⌜ r ≡ slotIn (now (groups .entry)) n k ⌝ }
@@ -289,9 +260,9 @@ fn each_field_ok(groups: &[u8], g: u32, rows: &[u8], heads: &[u8], b: u32, n: u3
     true
 }
 
-// ---- the keys of groups
+// ---- the path keys of groups
 
-// Whether a walk found entry e or a later one.
+// Whether the walk found entry e or a later one.
 fn not_before(e: u32, found: Entry) -> bool
     ensures { λ r. ⌜ r ≡ notBefore e (entry found) ⌝ }
 {
@@ -301,7 +272,7 @@ fn not_before(e: u32, found: Entry) -> bool
     }
 }
 
-// Whether a key finds entry e or a later one.
+// Whether the key k finds entry e or a later one.
 fn reaches(
     rows: &[u8],
     x: &[u8],
@@ -318,7 +289,7 @@ fn reaches(
     not_before(e, find_path(rows, x, links, heads, b, n, k))
 }
 
-// Whether an alias that is there finds entry e or a later one: it is spelled out, since no text holds it.
+// Whether an alias finds entry e or a later one. The path must have this alias. It is written out first, since the book does not hold it.
 fn alias_reaches(
     rows: &[u8],
     x: &[u8],
@@ -333,12 +304,12 @@ fn alias_reaches(
     requires { ⌜ Walked (now rows) (now x) (now links) (now heads) 12 b n × (length (now path) ≤ 4096) ⌝ }
     ensures { λ r. ⌜ r ≡ notBefore e (findPath (now (rows .entry)) (now (x .entry)) (now (links .entry)) (now (heads .entry)) b n (keyBytes (now (path .entry)) key)) ⌝ }
 {
-    let mut room = [0u8; KEY_BYTES];
-    let k = spell(&mut room, path, key);
-    reaches(rows, x, links, heads, b, n, e, &room[..k])
+    let mut scratch = [0u8; KEY_BYTES];
+    let k = spell(&mut scratch, path, key);
+    reaches(rows, x, links, heads, b, n, e, &scratch[..k])
 }
 
-// Whether an alias, if it is there, finds entry e or a later one.
+// Whether an alias finds entry e or a later one, if the path has this alias.
 fn alias_ok(
     rows: &[u8],
     x: &[u8],
@@ -359,7 +330,7 @@ fn alias_ok(
     alias_reaches(rows, x, links, heads, b, n, e, path, key)
 }
 
-// Whether each key of group g finds its entry or a later one.
+// Whether each key of group g finds its own entry or a later one.
 fn keys_ok(rows: &[u8], x: &[u8], links: &[u8], heads: &[u8], b: u32, n: u32, g: u32) -> bool
     requires { ⌜ Walked (now rows) (now x) (now links) (now heads) 12 b n × (g < n) ⌝ }
     ensures { λ r. ⌜ r ≡ keysReach (now (rows .entry)) (now (x .entry)) (now (links .entry)) (now (heads .entry)) b n g ⌝ }
@@ -401,7 +372,7 @@ fn each_keys_ok(rows: &[u8], x: &[u8], links: &[u8], heads: &[u8], b: u32, n: u3
 
 // ---- the leaves of groups
 
-// Whether a claim is group g's, or nobody's.
+// Whether the claim is group g, or ambiguous.
 fn is_settled(g: u32, found: Claim) -> bool
     ensures { λ r. ⌜ r ≡ isSettled g (claim found) ⌝ }
 {
@@ -414,7 +385,7 @@ fn is_settled(g: u32, found: Claim) -> bool
     found - 2 == g
 }
 
-// Whether the leaf of group g, if it has one, is claimed by it or by nobody.
+// Whether the leaf of group g is claimed by g or ambiguous, if the group has a leaf.
 fn leaf_ok(rows: &[u8], x: &[u8], links: &[u8], heads: &[u8], b: u32, n: u32, g: u32) -> bool
     requires { ⌜ Walked (now rows) (now x) (now links) (now heads) 4 b n × (g < n) ⌝ }
     ensures { λ r. ⌜ r ≡ leafSettled (now (rows .entry)) (now (x .entry)) (now (links .entry)) (now (heads .entry)) b n g ⌝ }
@@ -440,11 +411,11 @@ fn each_leaf_ok(rows: &[u8], x: &[u8], links: &[u8], heads: &[u8], b: u32, n: u3
     true
 }
 
-// ---- a memory
+// ---- the whole memory
 
-// Whether the lengths of all texts add up to what the header says.
+// Whether the lengths of all texts add up to the bytes held in the header.
 fn sum_ok(m: &[u8]) -> bool
-    requires { ⌜ Laid (now m) ⌝ }
+    requires { ⌜ InBounds (now m) ⌝ }
     ensures { λ r. ⌜ r ≡ sumOk (storeOf (now (m .entry))) ⌝ }
 {
     let g = length_sum(parts::guid_rows(m), parts::guids(m));
@@ -453,9 +424,9 @@ fn sum_ok(m: &[u8]) -> bool
     g + r + f == parts::held(m) as u64
 }
 
-// Whether each text lies in what is used, and is one.
+// Whether the texts of all three tables pass.
 fn texts_ok(m: &[u8]) -> bool
-    requires { ⌜ Laid (now m) ⌝ }
+    requires { ⌜ InBounds (now m) ⌝ }
     ensures { λ r. ⌜ r ≡ textsOk (storeOf (now (m .entry))) ⌝ }
 {
     let used = parts::used(m);
@@ -470,7 +441,7 @@ fn texts_ok(m: &[u8]) -> bool
 }
 
 fn guids_ok(m: &[u8]) -> bool
-    requires { ⌜ Laid (now m) ⌝ }
+    requires { ⌜ InBounds (now m) ⌝ }
     ensures { λ r. ⌜ r ≡ guidsOk (storeOf (now (m .entry))) ⌝ }
 {
     let b = (4 * parts::guids_allowed(m) + 1) as u32;
@@ -483,7 +454,7 @@ fn guids_ok(m: &[u8]) -> bool
 }
 
 fn groups_ok(m: &[u8]) -> bool
-    requires { ⌜ Laid (now m) ⌝ }
+    requires { ⌜ InBounds (now m) ⌝ }
     ensures { λ r. ⌜ r ≡ groupsOk (storeOf (now (m .entry))) ⌝ }
 {
     let b = (parts::groups_allowed(m) + 1) as u32;
@@ -496,7 +467,7 @@ fn groups_ok(m: &[u8]) -> bool
 }
 
 fn fields_ok(m: &[u8]) -> bool
-    requires { ⌜ Laid (now m) ⌝ }
+    requires { ⌜ InBounds (now m) ⌝ }
     ensures { λ r. ⌜ r ≡ fieldsOk (storeOf (now (m .entry))) ⌝ }
 {
     let b = (4 * parts::fields_allowed(m) + 1) as u32;
@@ -510,9 +481,9 @@ fn fields_ok(m: &[u8]) -> bool
     )
 }
 
-// Whether the keys of groups find them. The walks read texts of any group, so that all are tested before.
+// Whether the keys of all groups find them. A walk reads the text of any group, so all texts must have passed before.
 fn paths_ok(m: &[u8]) -> bool
-    requires { ⌜ Laid (now m) × (groupTexts (storeOf (now m)) ≡ true) ⌝ }
+    requires { ⌜ InBounds (now m) × (groupTexts (storeOf (now m)) ≡ true) ⌝ }
     ensures { λ r. ⌜ r ≡ pathsOk (storeOf (now (m .entry))) ⌝ }
 {
     let b = (3 * parts::groups_allowed(m) + 1) as u32;
@@ -527,7 +498,7 @@ fn paths_ok(m: &[u8]) -> bool
 }
 
 fn leaves_ok(m: &[u8]) -> bool
-    requires { ⌜ Laid (now m) × (groupTexts (storeOf (now m)) ≡ true) ⌝ }
+    requires { ⌜ InBounds (now m) × (groupTexts (storeOf (now m)) ≡ true) ⌝ }
     ensures { λ r. ⌜ r ≡ leavesOk (storeOf (now (m .entry))) ⌝ }
 {
     let b = (2 * parts::groups_allowed(m) + 1) as u32;
@@ -541,10 +512,11 @@ fn leaves_ok(m: &[u8]) -> bool
     )
 }
 
-// Whether the tables and the indexes are in order. The sum of the lengths comes first: after it the texts that are tested have no more
-// bytes than the memory has for texts, whatever its rows say.
+// Whether the tables and indexes pass. The sum of the lengths is first: if it passes, the texts checked next have no more bytes in total
+// than
+// the memory has for texts, whatever lengths the rows give.
 fn store_ok(m: &[u8]) -> bool
-    requires { ⌜ Laid (now m) ⌝ }
+    requires { ⌜ InBounds (now m) ⌝ }
     ensures { λ r. ⌜ r ≡ storeOk (storeOf (now (m .entry))) ⌝ }
 {
     if !sum_ok(m) {
@@ -568,11 +540,11 @@ fn store_ok(m: &[u8]) -> bool
     leaves_ok(m)
 }
 
-// Whether a lent memory holds a book.
+// Whether the memory is accepted; if not, a call is refused with refusal 2.
 pub fn check(m: &[u8]) -> bool
     ensures { λ r. ⌜ r ≡ check (now (m .entry)) ⌝ }
 {
-    if !laid_ok(m) {
+    if !bounds_ok(m) {
         return false;
     }
     store_ok(m)

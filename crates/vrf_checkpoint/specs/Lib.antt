@@ -1,10 +1,4 @@
--- The block reader in the code, beside document 01's.
--- GUIDs
-pub mod Stands
-pub mod StandsLaws
--- groups
-pub mod Counts
-pub mod CountsLaws
--- the whole
-pub mod Whole
-pub mod WholeLaws
+-- What the contracts of `vrf_checkpoint` are stated with. The block reader itself is defined in `vrf_model` (Block.antt).
+pub mod Inner
+-- What the proofs of these contracts use.
+pub mod Laws

@@ -1,4 +1,4 @@
-// A whole block: its head, its GUIDs, its groups, its end.
+// `read_checkpoint_tables`: the head of a block, its GUIDs, its groups, its end.
 use crate::groups::read_groups;
 use crate::guids::Guids;
 use crate::guids::Paths;
@@ -12,45 +12,45 @@ use vrf_model::CheckpointTables;
 use vrf_model::FRAME_OFFSET_MISMATCH;
 use vrf_model::RESERVED_WORD_SET;
 use vrf_model::Tables;
-use vrf_reader::Moved;
+use vrf_reader::Advanced;
+ghost use mathlib.Core.List.{List};
 ghost use Prim.Native.Nat.{ℕ, _≤_};
 ghost use lib.ListN.{length};
-ghost use mathlib.Core.List.{List};
-ghost use Rattle.vrf_model.specs.Block.{Table, zeroWord, countUpTo, blockEnd, block};
-ghost use Rattle.vrf_store.specs.Good.{Good};
+ghost use Rattle.vrf_model.specs.Block.{PathTable, zeroWord, countUpTo, blockEnd, block};
 ghost use Rattle.vrf_store.specs.Store.{storeOf};
-ghost use Rattle.vrf_reader.specs.Goes.{ReadsOnly, moved, valued};
-ghost use Rattle.vrf_checkpoint.specs.Stands.{Stands};
-ghost use Rattle.vrf_checkpoint.specs.Whole.{UpTo, ZerosRead, HeadReads, groupsFrom, BlockReads};
+ghost use Rattle.vrf_store.specs.Inner.WellFormed.{WellFormed};
+ghost use Rattle.vrf_reader.specs.Inner.Simulates.{RefinesReading, cursorOutcome, wordOutcome};
+ghost use Rattle.vrf_checkpoint.specs.Inner.Guids.{Represents};
+ghost use Rattle.vrf_checkpoint.specs.Inner.Block.{UpTo, ZerosRead, BlockHeadRefines, groupsFrom, BlockReads};
 
-// The head of a block: W, how many GUIDs follow, and the cursor behind them.
-enum Head {
+// The head of a block: W, the GUID count, and the cursor at the first GUID.
+enum BlockHead {
     Of(u32, u32, Cursor),
     Refused(Refusal),
 }
 
-// A word that must be 0: 30 with the byte at which it stands.
-fn read_zero(s: &[u8], c: Cursor, at: u32) -> Moved
-    ensures { λ r. ⌜ ReadsOnly (now (s .entry)) (zeroWord at) c (moved r) ⌝ }
+// A word that must be 0; 30 gives its byte, `at`, and its value.
+fn read_zero(s: &[u8], c: Cursor, at: u32) -> Advanced
+    ensures { λ r. ⌜ RefinesReading (now (s .entry)) (zeroWord at) c (cursorOutcome r) ⌝ }
 {
     match c.read_u32(s) {
-        Word::Refused(r) => Moved::Refused(r),
+        Word::Refused(r) => Advanced::Refused(r),
         Word::Value(w, next) => {
             if w != 0 {
-                return Moved::Refused(Refusal {
+                return Advanced::Refused(Refusal {
                     number: RESERVED_WORD_SET,
                     a: at as u64,
                     b: w as u64,
                 });
             }
-            Moved::To(next)
+            Advanced::To(next)
         }
     }
 }
 
-// A count of at most so many: 31 with which count it is.
+// A count; 31 gives which count it is, if it is above `top`.
 fn read_count(s: &[u8], c: Cursor, which: u32, top: u32) -> Word
-    ensures { λ r. ⌜ ReadsOnly (now (s .entry)) (countUpTo which top) c (valued r) × UpTo top r ⌝ }
+    ensures { λ r. ⌜ RefinesReading (now (s .entry)) (countUpTo which top) c (wordOutcome r) × UpTo top r ⌝ }
 {
     match c.read_u32(s) {
         Word::Refused(r) => Word::Refused(r),
@@ -67,30 +67,30 @@ fn read_count(s: &[u8], c: Cursor, which: u32, top: u32) -> Word
     }
 }
 
-// The three words behind W, which are 0.
-fn read_zeros(s: &[u8], c: Cursor) -> Moved
+// The three zero words after W.
+fn read_zeros(s: &[u8], c: Cursor) -> Advanced
     ensures { λ r. ⌜ ZerosRead (now (s .entry)) c r ⌝ }
 {
     match read_zero(s, c, 4) {
-        Moved::Refused(r) => Moved::Refused(r),
-        Moved::To(second) => match read_zero(s, second, 8) {
-            Moved::Refused(r) => Moved::Refused(r),
-            Moved::To(third) => read_zero(s, third, 12),
+        Advanced::Refused(r) => Advanced::Refused(r),
+        Advanced::To(second) => match read_zero(s, second, 8) {
+            Advanced::Refused(r) => Advanced::Refused(r),
+            Advanced::To(third) => read_zero(s, third, 12),
         },
     }
 }
 
-// W, the zero words, and how many GUIDs there are.
-fn read_head(s: &[u8], c: Cursor) -> Head
-    ensures { λ r. ⌜ HeadReads (now (s .entry)) c r ⌝ }
+// W, three zero words, GUID count.
+fn read_head(s: &[u8], c: Cursor) -> BlockHead
+    ensures { λ r. ⌜ BlockHeadRefines (now (s .entry)) c r ⌝ }
 {
     match c.read_u32(s) {
-        Word::Refused(r) => Head::Refused(r),
+        Word::Refused(r) => BlockHead::Refused(r),
         Word::Value(w, next) => match read_zeros(s, next) {
-            Moved::Refused(r) => Head::Refused(r),
-            Moved::To(then) => match read_count(s, then, 1, 1_000_000) {
-                Word::Refused(r) => Head::Refused(r),
-                Word::Value(guids, end) => Head::Of(w, guids, end),
+            Advanced::Refused(r) => BlockHead::Refused(r),
+            Advanced::To(then) => match read_count(s, then, 1, 1_000_000) {
+                Word::Refused(r) => BlockHead::Refused(r),
+                Word::Value(guids, end) => BlockHead::Of(w, guids, end),
             },
         },
     }
@@ -98,7 +98,7 @@ fn read_head(s: &[u8], c: Cursor) -> Head
 
 // The end byte is W + 8.
 fn read_end(c: Cursor, w: u32) -> Word
-    ensures { λ r. ⌜ ((s : List ℕ) → ReadsOnly s (blockEnd w) c (valued r)) ⌝ }
+    ensures { λ r. ⌜ ((s : List ℕ) → RefinesReading s (blockEnd w) c (wordOutcome r)) ⌝ }
 {
     let end = c.pos / 8;
     let expected = w as u64 + 8;
@@ -112,22 +112,22 @@ fn read_end(c: Cursor, w: u32) -> Word
     Word::Value(end, c)
 }
 
-// The groups and the end, behind the GUIDs.
+// What follows the GUIDs: the groups and the end byte.
 fn read_rest(
     s: &[u8],
     c: Cursor,
     m: &mut [u8],
-    room: &mut [u8],
+    scratch: &mut [u8],
     w: u32,
     guids: u32,
     t: Paths,
 ) -> Tables
-    requires { ⌜ Good (now m) × (4096 ≤ length (now room)) ⌝ }
-    ensures { λ r. ⌜ ((table : Table) → Stands (now (s .entry)) c (storeOf (now (m .entry)) .literals) t table → BlockReads (now (s .entry)) (groupsFrom w guids table) c (now (m .entry)) (now (m .exit)) r) ⌝ }
+    requires { ⌜ WellFormed (now m) × (4096 ≤ length (now scratch)) ⌝ }
+    ensures { λ r. ⌜ ((table : PathTable) → Represents (now (s .entry)) c (storeOf (now (m .entry)) .literals) t table → BlockReads (now (s .entry)) (groupsFrom w guids table) c (now (m .entry)) (now (m .exit)) r) ⌝ }
 {
     match read_count(s, c, 2, 100_000) {
         Word::Refused(r) => Tables::Refused(r),
-        Word::Value(groups, next) => match read_groups(s, next, m, room, groups) {
+        Word::Value(groups, next) => match read_groups(s, next, m, scratch, groups) {
             Bits::Refused(r) => Tables::Refused(r),
             Bits::Value(fields, then) => match read_end(then, w) {
                 Word::Refused(r) => Tables::Refused(r),
@@ -145,16 +145,16 @@ fn read_rest(
     }
 }
 
-// Reads a block into the book.
-pub fn read_checkpoint_tables(s: &[u8], c: Cursor, m: &mut [u8], room: &mut [u8]) -> Tables
-    requires { ⌜ Good (now m) × (4096 ≤ length (now room)) ⌝ }
+// Answers the seven counts. A refused block leaves all that was taken before the refused step.
+pub fn read_checkpoint_tables(s: &[u8], c: Cursor, m: &mut [u8], scratch: &mut [u8]) -> Tables
+    requires { ⌜ WellFormed (now m) × (4096 ≤ length (now scratch)) ⌝ }
     ensures { λ r. ⌜ BlockReads (now (s .entry)) block c (now (m .entry)) (now (m .exit)) r ⌝ }
 {
     match read_head(s, c) {
-        Head::Refused(r) => Tables::Refused(r),
-        Head::Of(w, n, next) => match read_guids(s, next, m, room, n) {
+        BlockHead::Refused(r) => Tables::Refused(r),
+        BlockHead::Of(w, n, next) => match read_guids(s, next, m, scratch, n) {
             Guids::Refused(r) => Tables::Refused(r),
-            Guids::To(t, then) => read_rest(s, then, m, room, w, n, t),
+            Guids::To(t, then) => read_rest(s, then, m, scratch, w, n, t),
         },
     }
 }

@@ -1,4 +1,4 @@
-// The groups of a block, and their slots.
+// The groups of a block and their slots.
 use vrf_bitio::Bits;
 use vrf_bitio::Byte;
 use vrf_bitio::Cursor;
@@ -9,7 +9,7 @@ use vrf_model::Added;
 use vrf_model::COUNT_OVERFLOW;
 use vrf_model::GROUP_COLLISION;
 use vrf_model::HANDLE_NOT_SLOT;
-use vrf_reader::Moved;
+use vrf_reader::Advanced;
 use vrf_reader::fields::named_field;
 use vrf_reader::names::read_text;
 use vrf_store::look::find_index;
@@ -21,22 +21,22 @@ ghost use mathlib.Core.Bool.{_||_};
 ghost use Prim.Native.Nat.{_+_, _*_, _^_, _≤_, _<_};
 ghost use lib.ListN.{length};
 ghost use Rattle.vrf_text.specs.Text.{IsText};
-ghost use Rattle.vrf_model.specs.Block.{isFound, addFirst, blockField, blockSlot, blockSlots, blockGroup, blockGroups};
 ghost use Rattle.vrf_model.specs.Lookup.{indexPlace, pathPlace};
-ghost use Rattle.vrf_store.specs.Good.{Good};
-ghost use Rattle.vrf_store.specs.Stepped.{held};
-ghost use Rattle.vrf_cache.specs.Taken.{AddedBy};
-ghost use Rattle.vrf_checkpoint.specs.Counts.{CountReads, DeclaredReads};
+ghost use Rattle.vrf_model.specs.Block.{isFound, addFirst, blockField, blockSlot, blockSlots, blockGroup, blockGroups};
+ghost use Rattle.vrf_store.specs.Inner.WellFormed.{WellFormed};
+ghost use Rattle.vrf_store.specs.Inner.Stepped.{held};
+ghost use Rattle.vrf_cache.specs.Inner.Taken.{AddedBy};
+ghost use Rattle.vrf_checkpoint.specs.Inner.Groups.{CountReads, DeclaredReads};
 
-// A group that was added: its index, its slots, and the cursor behind them.
+// A group that was added: its index, its slot count, and the cursor at its first slot.
 enum Declared {
     Slots(u32, u32, Cursor),
     Refused(Refusal),
 }
 
-// A filled slot: its handle, which is the slot, and its field. It answers how many fields it has.
-fn read_field(s: &[u8], c: Cursor, m: &mut [u8], room: &mut [u8], index: u32, slot: u32) -> Bits
-    requires { ⌜ Good (now m) × (4096 ≤ length (now room)) ⌝ }
+// A filled slot: its handle, which must equal the slot, and its field. Answers 1, the count of fields read.
+fn read_field(s: &[u8], c: Cursor, m: &mut [u8], scratch: &mut [u8], index: u32, slot: u32) -> Bits
+    requires { ⌜ WellFormed (now m) × (4096 ≤ length (now scratch)) ⌝ }
     ensures { λ r. ⌜ CountReads (now (s .entry)) (blockField index slot) c (now (m .entry)) (now (m .exit)) 1 r ⌝ }
 {
     match c.read_int_packed(s) {
@@ -49,17 +49,17 @@ fn read_field(s: &[u8], c: Cursor, m: &mut [u8], room: &mut [u8], index: u32, sl
                     b: handle as u64,
                 });
             }
-            match named_field(s, next, m, room, index, handle) {
-                Moved::Refused(r) => Bits::Refused(r),
-                Moved::To(end) => Bits::Value(1, end),
+            match named_field(s, next, m, scratch, index, handle) {
+                Advanced::Refused(r) => Bits::Refused(r),
+                Advanced::To(end) => Bits::Value(1, end),
             }
         }
     }
 }
 
-// A slot: a byte, 0 empty.
-fn read_slot(s: &[u8], c: Cursor, m: &mut [u8], room: &mut [u8], index: u32, slot: u32) -> Bits
-    requires { ⌜ Good (now m) × (4096 ≤ length (now room)) ⌝ }
+// A slot byte is 0 for empty; a field follows any other. Answers the count of fields read.
+fn read_slot(s: &[u8], c: Cursor, m: &mut [u8], scratch: &mut [u8], index: u32, slot: u32) -> Bits
+    requires { ⌜ WellFormed (now m) × (4096 ≤ length (now scratch)) ⌝ }
     ensures { λ r. ⌜ CountReads (now (s .entry)) (blockSlot index slot) c (now (m .entry)) (now (m .exit)) 1 r ⌝ }
 {
     match c.read_u8(s) {
@@ -68,28 +68,28 @@ fn read_slot(s: &[u8], c: Cursor, m: &mut [u8], room: &mut [u8], index: u32, slo
             if exported == 0 {
                 return Bits::Value(0, next);
             }
-            read_field(s, next, m, room, index, slot)
+            read_field(s, next, m, scratch, index, slot)
         }
     }
 }
 
-// The slots of a group, behind so many fields of the block.
+// The slots of a group. `fields` is the count of the block's fields before them.
 fn read_slots(
     s: &[u8],
     c: Cursor,
     m: &mut [u8],
-    room: &mut [u8],
+    scratch: &mut [u8],
     index: u32,
     slots: u32,
     fields: u64,
 ) -> Bits
-    requires { ⌜ Good (now m) × (4096 ≤ length (now room)) × (slots ≤ 65536) × (fields < 2 ^ 63) ⌝ }
+    requires { ⌜ WellFormed (now m) × (4096 ≤ length (now scratch)) × (slots ≤ 65536) × (fields < 2 ^ 63) ⌝ }
     ensures { λ r. ⌜ CountReads (now (s .entry)) (blockSlots slots index 0 fields) c (now (m .entry)) (now (m .exit)) (fields + 65536) r ⌝ }
 {
     let mut at = c;
     let mut total = fields;
     for slot in 0..slots {
-        match read_slot(s, at, m, room, index, slot) {
+        match read_slot(s, at, m, scratch, index, slot) {
             Bits::Refused(r) => return Bits::Refused(r),
             Bits::Value(more, next) => {
                 total += more;
@@ -100,9 +100,9 @@ fn read_slots(
     Bits::Value(total, at)
 }
 
-// Whether a group has this index, or this path among its keys.
+// Whether a group has this index, or has this path as a key.
 fn is_found(m: &[u8], path: &[u8], index: u32) -> bool
-    requires { ⌜ Good (now m) × IsText (now path) ⌝ }
+    requires { ⌜ WellFormed (now m) × IsText (now path) ⌝ }
     ensures { λ r. ⌜ r ≡ (isFound (indexPlace index (held (now (m .entry)) .groups)) || isFound (pathPlace (now (path .entry)) (held (now (m .entry)) .groups))) ⌝ }
 {
     match find_index(m, index) {
@@ -114,9 +114,9 @@ fn is_found(m: &[u8], path: &[u8], index: u32) -> bool
     }
 }
 
-// The adding of a group that the book does not have.
+// 34 if index or path is already found; otherwise the group is added.
 fn add_first(m: &mut [u8], path: &[u8], index: u32, slots: u32) -> Added
-    requires { ⌜ Good (now m) × IsText (now path) × (slots ≤ 65536) ⌝ }
+    requires { ⌜ WellFormed (now m) × IsText (now path) × (slots ≤ 65536) ⌝ }
     ensures { λ r. ⌜ AddedBy (addFirst (now (path .entry)) index slots (held (now (m .entry)))) (now (m .entry)) (now (m .exit)) r ⌝ }
 {
     if is_found(m, path, index) {
@@ -129,9 +129,9 @@ fn add_first(m: &mut [u8], path: &[u8], index: u32, slots: u32) -> Added
     add_export_group(m, path, index, slots)
 }
 
-// The group itself, behind its path.
+// What follows the path of a group: index and slots. Then the group is added.
 fn read_declared(s: &[u8], c: Cursor, m: &mut [u8], path: &[u8]) -> Declared
-    requires { ⌜ Good (now m) × IsText (now path) ⌝ }
+    requires { ⌜ WellFormed (now m) × IsText (now path) ⌝ }
     ensures { λ r. ⌜ DeclaredReads (now (s .entry)) (now (path .entry)) c (now (m .entry)) (now (m .exit)) r ⌝ }
 {
     match c.read_int_packed(s) {
@@ -155,29 +155,37 @@ fn read_declared(s: &[u8], c: Cursor, m: &mut [u8], path: &[u8]) -> Declared
     }
 }
 
-// One group with its slots.
-fn read_group(s: &[u8], c: Cursor, m: &mut [u8], room: &mut [u8], fields: u64) -> Bits
-    requires { ⌜ Good (now m) × (4096 ≤ length (now room)) × (fields < 2 ^ 63) ⌝ }
+// One group with its slots. `fields` is the count of the block's fields before it.
+fn read_group(s: &[u8], c: Cursor, m: &mut [u8], scratch: &mut [u8], fields: u64) -> Bits
+    requires { ⌜ WellFormed (now m) × (4096 ≤ length (now scratch)) × (fields < 2 ^ 63) ⌝ }
     ensures { λ r. ⌜ CountReads (now (s .entry)) (blockGroup fields) c (now (m .entry)) (now (m .exit)) (fields + 65536) r ⌝ }
 {
-    match read_text(s, c, room) {
+    match read_text(s, c, scratch) {
         Text::Refused(r) => Bits::Refused(r),
-        Text::Read(n, next) => match read_declared(s, next, m, &room[..n as usize]) {
+        Text::Read(n, next) => match read_declared(s, next, m, &scratch[..n as usize]) {
             Declared::Refused(r) => Bits::Refused(r),
-            Declared::Slots(index, slots, end) => read_slots(s, end, m, room, index, slots, fields),
+            Declared::Slots(index, slots, end) => read_slots(
+                s,
+                end,
+                m,
+                scratch,
+                index,
+                slots,
+                fields,
+            ),
         },
     }
 }
 
-// So many groups; it answers how many fields they have.
-pub fn read_groups(s: &[u8], c: Cursor, m: &mut [u8], room: &mut [u8], n: u32) -> Bits
-    requires { ⌜ Good (now m) × (4096 ≤ length (now room)) × (n ≤ 100000) ⌝ }
+// Answers the count of all fields read.
+pub fn read_groups(s: &[u8], c: Cursor, m: &mut [u8], scratch: &mut [u8], n: u32) -> Bits
+    requires { ⌜ WellFormed (now m) × (4096 ≤ length (now scratch)) × (n ≤ 100000) ⌝ }
     ensures { λ r. ⌜ CountReads (now (s .entry)) (blockGroups n 0) c (now (m .entry)) (now (m .exit)) (65536 * n) r ⌝ }
 {
     let mut at = c;
     let mut fields: u64 = 0;
     for _ in 0..n {
-        match read_group(s, at, m, room, fields) {
+        match read_group(s, at, m, scratch, fields) {
             Bits::Refused(r) => return Bits::Refused(r),
             Bits::Value(total, next) => {
                 fields = total;

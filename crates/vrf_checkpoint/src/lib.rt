@@ -1,4 +1,4 @@
-// The reader of checkpoint blocks (checkpoint.rs) over a good memory.
+// The reader of blocks (checkpoint.rs), on a well-formed memory.
 pub mod block;
 pub mod groups;
 pub mod guids;

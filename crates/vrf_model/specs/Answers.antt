@@ -1,29 +1,30 @@
--- What the code's answers stand for: this paper's answer for each case, a refusal with its number and details.
+-- Document 01's answer for each case of the code's answer enums, which are declared in src/lib.rt. The contracts use these definitions.
 use mathlib.Core.Bool.{true, false}
 use mathlib.Core.Option.{none, some}
 use Rattle.vrf_bitio.specs.declared.Refusal.{Refusal}
-use Rattle.vrf_model.specs.Block.{Counts}
-use Rattle.vrf_model.specs.Calls.{Answer, refusal-of, acted, field-placed, at-place, found, ran, counted, number}
-use Rattle.vrf_model.specs.Writer.{written, notWritten}
+use Rattle.vrf_model.specs.Block.{BlockCounts}
 use Rattle.vrf_model.specs.Writer
+use Rattle.vrf_model.specs.Writer.{written, notWritten}
+use Rattle.vrf_model.specs.Calls.{Answer, refusal-of, acted, field-placed, at-place, found, ran, block-counts, number}
 use Rattle.vrf_model.specs.declared.Acted.{Acted}
 use Rattle.vrf_model.specs.declared.Acted.the-variants.{Done, Refused as NotActed}
 use Rattle.vrf_model.specs.declared.Added.{Added}
 use Rattle.vrf_model.specs.declared.Added.the-variants.{At as AddedAt, Refused as NotAdded}
-use Rattle.vrf_model.specs.declared.Placed.{Placed}
-use Rattle.vrf_model.specs.declared.Placed.the-variants.{Placed as IsPlaced, NotPlaced, Refused as PlaceRefused}
+use Rattle.vrf_model.specs.declared.CheckpointTables.{CheckpointTables}
 use Rattle.vrf_model.specs.declared.Found.{Found}
 use Rattle.vrf_model.specs.declared.Found.the-variants.{At as FoundAt, Absent, Refused as NotFound}
-use Rattle.vrf_model.specs.declared.Ran.{Ran}
-use Rattle.vrf_model.specs.declared.Ran.the-variants.{Ended, Refused as NotRan}
-use Rattle.vrf_model.specs.declared.CheckpointTables.{CheckpointTables}
-use Rattle.vrf_model.specs.declared.Tables.{Tables}
-use Rattle.vrf_model.specs.declared.Tables.the-variants.{Read, Refused as NotRead}
 use Rattle.vrf_model.specs.declared.Number.{Number}
 use Rattle.vrf_model.specs.declared.Number.the-variants.{Is, Refused as NoNumber}
+use Rattle.vrf_model.specs.declared.Placed.{Placed}
+use Rattle.vrf_model.specs.declared.Placed.the-variants.{Placed as IsPlaced, NotPlaced, Refused as PlaceRefused}
+use Rattle.vrf_model.specs.declared.Ran.{Ran}
+use Rattle.vrf_model.specs.declared.Ran.the-variants.{Ended, Refused as NotRan}
+use Rattle.vrf_model.specs.declared.Tables.{Tables}
+use Rattle.vrf_model.specs.declared.Tables.the-variants.{Read, Refused as NotRead}
 use Rattle.vrf_model.specs.declared.Wrote.{Wrote}
 use Rattle.vrf_model.specs.declared.Wrote.the-variants.{Length, Refused as NotWrote}
 
+-- a refusal carries a number and details a, b
 abbrev pub refusalOf : Refusal → Answer
 refusalOf r = refusal-of (r .number) (r .a) (r .b)
 
@@ -49,7 +50,8 @@ abbrev pub ranOf : Ran → Answer
 ranOf (Ended n p) = ran n p
 ranOf (NotRan r) = refusalOf r
 
-abbrev pub countsOf : CheckpointTables → Counts
+-- the seven counts
+abbrev pub countsOf : CheckpointTables → BlockCounts
 countsOf t = record {
   guids = t .«guid_count»;
   groups = t .«group_count»;
@@ -61,7 +63,7 @@ countsOf t = record {
 }
 
 abbrev pub tablesOf : Tables → Answer
-tablesOf (Read t) = counted (countsOf t)
+tablesOf (Read t) = block-counts (countsOf t)
 tablesOf (NotRead r) = refusalOf r
 
 abbrev pub numberOf : Number → Answer

@@ -1,4 +1,4 @@
--- Checkpoint blocks read (document 01, Blocks): `read_checkpoint_tables`.
+-- Reading a block (document 01, Blocks): `read_checkpoint_tables`.
 use mathlib.Core.Bool.{Bool, cond, _||_}
 use mathlib.Core.List.{List, [], _∷_, _++_}
 use mathlib.Core.Option.{Option, none, some}
@@ -12,10 +12,10 @@ use Rattle.vrf_model.specs.Book.{Content, none-counted}
 use Rattle.vrf_model.specs.Lookup.{pathPlace, indexPlace}
 use Rattle.vrf_model.specs.Setting.{Step, done, refuses, setGuid, addGroup, setField}
 use Rattle.vrf_model.specs.Names.{fname}
-use Rattle.vrf_model.specs.Intake.{Intake, return, stop, _>>=_, read, step}
+use Rattle.vrf_model.specs.Parser.{Parser, return, fail, _>>=_, read, step}
 
--- the seven counts
-pub record Counts : Type 0 where
+-- seven counts return: GUIDs, groups, filled slots read, end byte, kind 0 entries, kind 1 entries, places resolved
+pub record BlockCounts : Type 0 where
   pub guids : ℕ
   pub groups : ℕ
   pub fields : ℕ
@@ -26,37 +26,37 @@ pub record Counts : Type 0 where
 
 -- ---- GUIDs
 
--- what the GUID entries so far have: this block's literals, kind 0 entries, places resolved
-pub record Table : Type 0 where
+-- of the GUID entries read so far: this block's literals, the number of kind 0 entries, the number of places resolved
+pub record PathTable : Type 0 where
   pub literals : List (List ℕ)
   pub indexed : ℕ
   pub resolved : ℕ
 
--- a literal is taken against allowance 5
+-- literals are taken against allowance 5; n is the count with this one
 unfoldable pub takeLiteral : ℕ → Content → Step (Unit {0})
 takeLiteral n c = cond (ltb (c .allowed .literals) n) (refuses 42 5 0) (done tt c none-counted)
 
--- kind 1: a text, one literal more
-unfoldable pub literal : Table → Intake (List ℕ × Table)
+-- text (kind 1)
+unfoldable pub literal : PathTable → Parser (List ℕ × PathTable)
 literal t = do
   path ← read fstring
   u ← step (takeLiteral (length (t .literals) + 1))
   return (path, record { literals = t .literals ++ (path ∷ []); indexed = t .indexed; resolved = t .resolved })
 
--- kind 0: a place among this block's earlier literals; 33 any other place
-unfoldable pub resolved : ℕ → Table → Intake (List ℕ × Table)
+-- packed place among this block's earlier literals (kind 0); 33: no such place
+unfoldable pub resolved : ℕ → PathTable → Parser (List ℕ × PathTable)
 resolved entry t = do
   place ← read packed
   cond (ltb place (length (t .literals)))
       (return (getD (t .literals) place [], record { literals = t .literals; indexed = t .indexed + 1; resolved = t .resolved + 1 }))
-      (stop 33 entry place)
+      (fail 33 entry place)
 
--- 32 any other kind
-unfoldable pub pathOfKind : ℕ → Table → ℕ → Intake (List ℕ × Table)
-pathOfKind entry t kind = cond (eqb kind 0) (resolved entry t) (cond (eqb kind 1) (literal t) (stop 32 entry kind))
+-- Decision over the kind byte: 0 place, 1 text; 32: any other
+unfoldable pub pathOfKind : ℕ → PathTable → ℕ → Parser (List ℕ × PathTable)
+pathOfKind entry t kind = cond (eqb kind 0) (resolved entry t) (cond (eqb kind 1) (literal t) (fail 32 entry kind))
 
--- one GUID: GUID and outer packed, kind byte, path, flags byte
-unfoldable pub blockGuid : ℕ → Table → Intake Table
+-- per GUID: GUID and outer packed, kind byte, then text or place, flags byte
+unfoldable pub blockGuid : ℕ → PathTable → Parser PathTable
 blockGuid entry t = do
   guid ← read packed
   outer ← read packed
@@ -66,8 +66,8 @@ blockGuid entry t = do
   u ← step (setGuid (record { guid = guid; path = p .0; outer = outer }))
   return (p .1)
 
--- n more, from an entry on
-unfoldable pub blockGuids : ℕ → ℕ → Table → Intake Table
+-- n GUIDs; entry is the number of the first
+unfoldable pub blockGuids : ℕ → ℕ → PathTable → Parser PathTable
 blockGuids zero entry t = return t
 blockGuids (suc n) entry t = do
   t′ ← blockGuid entry t
@@ -75,22 +75,22 @@ blockGuids (suc n) entry t = do
 
 -- ---- groups
 
--- 34 index or path already found; then the adding
 unfoldable pub isFound : Option ℕ → Bool
 isFound none = Bool.false
 isFound (some i) = Bool.true
 
+-- 34: index or path already found; otherwise the group is added
 unfoldable pub addFirst : List ℕ → ℕ → ℕ → Content → Step ℕ
 addFirst path index slots c =
     cond (isFound (indexPlace index (c .groups)) || isFound (pathPlace path (c .groups))) (refuses 34 index 0)
     (addGroup path index slots c)
 
--- 35 a handle that is not the slot
-unfoldable pub sameHandle : ℕ → ℕ → Intake (Unit {0})
-sameHandle slot handle = cond (eqb handle slot) (return tt) (stop 35 slot handle)
+-- 35: a handle that does not equal the slot
+unfoldable pub sameHandle : ℕ → ℕ → Parser (Unit {0})
+sameHandle slot handle = cond (eqb handle slot) (return tt) (fail 35 slot handle)
 
--- a filled slot: handle, checksum, name
-unfoldable pub blockField : ℕ → ℕ → Intake ℕ
+-- handle packed (equal to the slot), checksum, name; it answers 1, the count of fields read
+unfoldable pub blockField : ℕ → ℕ → Parser ℕ
 blockField index slot = do
   handle ← read packed
   u ← sameHandle slot handle
@@ -99,29 +99,30 @@ blockField index slot = do
   placed ← step (setField index handle checksum name)
   return 1
 
--- a slot: a byte, 0 empty; it answers how many fields it has
-unfoldable pub blockSlot : ℕ → ℕ → Intake ℕ
+-- per slot a byte, 0 empty, else a field; it answers how many fields were read
+unfoldable pub blockSlot : ℕ → ℕ → Parser ℕ
 blockSlot index slot = do
   exported ← read byte
   cond (eqb exported 0) (return 0) (blockField index slot)
 
--- n more slots, from a slot on, with the fields so far
-unfoldable pub blockSlots : ℕ → ℕ → ℕ → ℕ → Intake ℕ
+-- n slots; slot is the first, and fields the count of fields so far
+unfoldable pub blockSlots : ℕ → ℕ → ℕ → ℕ → Parser ℕ
 blockSlots zero index slot fields = return fields
 blockSlots (suc n) index slot fields = do
   f ← blockSlot index slot
   blockSlots n index (slot + 1) (fields + f)
 
--- one group: path text, index packed, slots packed; 31 (3) slots above 65,536
-unfoldable pub blockGroup : ℕ → Intake ℕ
+-- per group: path text, index packed, slots packed; 31 (3): slots above 65,536
+unfoldable pub blockGroup : ℕ → Parser ℕ
 blockGroup fields = do
   path ← read fstring
   index ← read packed
   slots ← read packed
-  place ← cond (ltb 65536 slots) (stop 31 3 slots) (step (addFirst path index slots))
+  place ← cond (ltb 65536 slots) (fail 31 3 slots) (step (addFirst path index slots))
   blockSlots slots index 0 fields
 
-unfoldable pub blockGroups : ℕ → ℕ → Intake ℕ
+-- n groups; fields is the count of fields so far
+unfoldable pub blockGroups : ℕ → ℕ → Parser ℕ
 blockGroups zero fields = return fields
 blockGroups (suc n) fields = do
   fields′ ← blockGroup fields
@@ -129,25 +130,26 @@ blockGroups (suc n) fields = do
 
 -- ---- the block
 
--- 30 word set: byte, value
-unfoldable pub zeroWord : ℕ → Intake (Unit {0})
+-- three zero words; 30: word set, with its byte and value
+unfoldable pub zeroWord : ℕ → Parser (Unit {0})
 zeroWord at = do
   w ← read word32
-  cond (eqb w 0) (return tt) (stop 30 at w)
+  cond (eqb w 0) (return tt) (fail 30 at w)
 
--- a count of at most so many: 31
-unfoldable pub countUpTo : ℕ → ℕ → Intake ℕ
+-- a 32-bit count; 31: above its top
+unfoldable pub countUpTo : ℕ → ℕ → Parser ℕ
 countUpTo which top = do
   n ← read word32
-  cond (ltb top n) (stop 31 which n) (return n)
+  cond (ltb top n) (fail 31 which n) (return n)
 
--- 36: the end byte is W+8
-unfoldable pub blockEnd : ℕ → Intake ℕ
+-- end byte = W+8; 36: any other
+unfoldable pub blockEnd : ℕ → Parser ℕ
 blockEnd w = do
   p ← read position
-  cond (eqb (p / 8) (w + 8)) (return (p / 8)) (stop 36 (p / 8) (w + 8))
+  cond (eqb (p / 8) (w + 8)) (return (p / 8)) (fail 36 (p / 8) (w + 8))
 
-unfoldable pub block : Intake Counts
+-- 32-bit word W, three zero words, GUID count, GUIDs, group count, groups, end byte
+unfoldable pub block : Parser BlockCounts
 block = do
   w ← read word32
   z4 ← zeroWord 4

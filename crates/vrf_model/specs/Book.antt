@@ -1,5 +1,5 @@
--- The book (document 01): GUID records in order of first setting, groups in a list, the five allowances and what is held against
--- them, and the five counters. Texts are lists of bytes.
+-- The book (document 01): the GUID list in order of first setting, the group list, the five allowances, what is held against them, and the
+-- five counters. A text is a list of its UTF-8 bytes.
 use mathlib.Core.Bool.{cond}
 use mathlib.Core.List.{List, [], _∷_}
 use mathlib.Core.Option.{Option, none, some}
@@ -7,24 +7,24 @@ use Prim.Native.Nat.{ℕ, _+_, _%_, _^_}
 use lib.Dec.{ltb}
 use lib.ListN.{length}
 
--- a GUID with its path and its outer; outer 0 is none
+-- GUID, path and outer; outer 0 is none
 pub record Guid : Type 0 where
   pub guid : ℕ
   pub path : List ℕ
   pub outer : ℕ
 
--- a slot of a group; a filled one has a checksum and a name, and its handle is its own place
+-- a slot; a filled slot has handle, checksum and name. The handle is the slot's own place, so only checksum and name are held
 pub data Slot : Type 0 where
   empty : Slot
   filled : ℕ → List ℕ → Slot
 
--- a group: path, path-name index, slots
+-- path, path-name index, slots
 pub record Group : Type 0 where
   pub path : List ℕ
   pub index : ℕ
   pub slots : List Slot
 
--- how much may be held: 1 GUID records, 2 groups, 3 filled fields, 4 text bytes, 5 literals in one block
+-- the five allowances: 1 GUID records, 2 groups, 3 filled fields, 4 text bytes, 5 literals in one block
 pub record Allowances : Type 0 where
   pub guids : ℕ
   pub groups : ℕ
@@ -32,14 +32,14 @@ pub record Allowances : Type 0 where
   pub text : ℕ
   pub literals : ℕ
 
--- the lists of a book, with its allowances
+-- what a book holds besides its counters: allowances, GUID list and group list
 pub record Content : Type 0 where
   pub allowed : Allowances
   pub guids : List Guid
   pub groups : List Group
 
--- five counts: the two generations, dropped, replaced, renamed
-pub record Tally : Type 0 where
+-- five counters: the two generations, dropped, replaced, renamed
+pub record Counters : Type 0 where
   pub schema : ℕ
   pub guid : ℕ
   pub dropped : ℕ
@@ -48,15 +48,16 @@ pub record Tally : Type 0 where
 
 pub record Book : Type 0 where
   pub content : Content
-  pub counters : Tally
+  pub counters : Counters
 
 -- ---- counters
 
-unfoldable pub none-counted : Tally
+unfoldable pub none-counted : Counters
 none-counted = record { schema = 0; guid = 0; dropped = 0; replaced = 0; renamed = 0 }
 
-unfoldable pub tallied : Tally → Tally → Tally
-tallied a b = record {
+-- the sum, not reduced modulo 2^64
+unfoldable pub addCounters : Counters → Counters → Counters
+addCounters a b = record {
   schema = a .schema + b .schema;
   guid = a .guid + b .guid;
   dropped = a .dropped + b .dropped;
@@ -64,8 +65,8 @@ tallied a b = record {
   renamed = a .renamed + b .renamed;
 }
 
--- the counters go up modulo 2^64
-unfoldable pub stepped : Tally → Tally → Tally
+-- five counters go up modulo 2^64: a, stepped by b
+unfoldable pub stepped : Counters → Counters → Counters
 stepped a b = record {
   schema = (a .schema + b .schema) % 2 ^ 64;
   guid = (a .guid + b .guid) % 2 ^ 64;
@@ -105,14 +106,15 @@ groupFields g = sum slotFields (g .slots)
 unfoldable pub groupText : Group → ℕ
 groupText g = length (g .path) + sum slotText (g .slots)
 
+-- allowance 3 counts the filled fields
 unfoldable pub heldFields : Content → ℕ
 heldFields c = sum groupFields (c .groups)
 
--- the UTF-8 bytes of all texts held
+-- allowance 4 counts the UTF-8 bytes of all texts then held: the paths of GUIDs and groups, and the names of filled slots
 unfoldable pub heldText : Content → ℕ
 heldText c = sum guidText (c .guids) + sum groupText (c .groups)
 
--- the lowest allowance that is passed, if one is
+-- the lowest allowance that a count passes, if any. Allowance 5 is not here: it is checked where a block's literals are read
 unfoldable pub passed : Content → Option ℕ
 passed c =
     cond (ltb (c .allowed .guids) (length (c .guids))) (some 1)

@@ -1,20 +1,27 @@
--- A leaf's claim by the groups that have the leaf (document 01, The book): the group if one group has it, ambiguous if several do, else
--- absent.
-use mathlib.Core.Path.{_≡_, refl, ap, subst}
+-- What a path lookup and a leaf's claim mean (document 01, The book), stated without the searches that `lastPlace` and `leafClaim` make.
+use mathlib.Core.Path.{_≡_}
 use mathlib.Core.Bool.{Bool, true, false}
-use mathlib.Core.List.{List, [], _∷_}
-use mathlib.Core.Logic.{_↔_}
-use Prim.Native.Nat.{ℕ, zero, suc, _<_, zero-le, suc-le-suc}
-use native.Mathlib.Omega.{arith}
-use Rattle.vrf_text.specs.Cases.{clash}
+use mathlib.Core.List.{List}
+use Prim.Native.Nat.{ℕ, _<_}
+use lib.ListN.{length, getD}
 use Rattle.vrf_model.specs.Book.{Group}
-use Rattle.vrf_model.specs.Lookup.{placeOr, Claim, absent, ambiguous, claimed, hasLeaf, withHead, leafClaim}
+use Rattle.vrf_model.specs.Lookup.{placeOr, Claim, absent, ambiguous, claimed, hasLeaf}
+
+-- ---- path lookup: the last group having the key
+
+-- the element at place i passes the test p, and no later one does; d is the default past the end
+pub record LastAt {A : Type 0} (p : A → Bool) (l : List A) (i : ℕ) : Type 0 where
+  pub below : i < length l
+  pub passes : (d : A) → p (getD l i d) ≡ true
+  pub later : (j : ℕ) → i < j → j < length l → (d : A) → p (getD l j d) ≡ false
+
+-- ---- a leaf's claim
 
 -- the group at a place has the leaf l
 abbrev pub HasLeafAt : List ℕ → List Group → ℕ → Type 0
 HasLeafAt l groups i = placeOr (hasLeaf l) false groups i ≡ true
 
--- two groups have it
+-- several groups have the leaf: at least these two
 pub record Several (l : List ℕ) (groups : List Group) : Type 0 where
   pub one : ℕ
   pub other : ℕ
@@ -22,39 +29,8 @@ pub record Several (l : List ℕ) (groups : List Group) : Type 0 where
   pub has-one : HasLeafAt l groups one
   pub has-other : HasLeafAt l groups other
 
-abbrev pub Claims : List ℕ → List Group → Claim → Type 0
-Claims l groups absent = (i : ℕ) → HasLeafAt l groups i → ⊥
-Claims l groups (claimed i) = HasLeafAt l groups i × ((j : ℕ) → HasLeafAt l groups j → j ≡ i)
-Claims l groups ambiguous = Several l groups
-
-module _ (l : List ℕ) where
-  claims : (groups : List Group) → Claims l groups (leafClaim l groups)
-  unfolding leafClaim withHead placeOr
-  claims [] = λ i h. clash cc
-  claims (g ∷ gs) = go (hasLeaf l g) refl (leafClaim l gs) (claims gs)
-    where
-      later : Several l gs → Several l (g ∷ gs)
-      later s = record { one = suc (s .one); other = suc (s .other); apart = suc-le-suc (s .apart); has-one = s .has-one; has-other = s .has-other }
-
-      go : (b : Bool) → hasLeaf l g ≡ b → (x : Claim) → Claims l gs x → Claims l (g ∷ gs) (withHead b x)
-      go true e absent h = (e, elim [ zero ↦ λ k. refl | suc j ↦ λ k. absurd (h j k) ])
-      go true e (claimed i) h = record { one = 0; other = suc i; apart = suc-le-suc zero-le; has-one = e; has-other = h .0 }
-      go true e ambiguous h = later h
-      go false e absent h = elim [ zero ↦ λ k. clash (cc (e, k)) | suc i ↦ h i ]
-      go false e (claimed i) h = (h .0, elim [ zero ↦ λ k. clash (cc (e, k)) | suc j ↦ λ k. ap suc (h .1 j k) ])
-      go false e ambiguous h = later h
-
-  -- no two of the three hold of the same groups
-  only : (groups : List Group) (x y : Claim) → Claims l groups x → Claims l groups y → x ≡ y
-  only groups absent absent h k = refl
-  only groups absent (claimed i) h k = absurd (h i (k .0))
-  only groups absent ambiguous h k = absurd (h (k .one) (k .has-one))
-  only groups (claimed i) absent h k = absurd (k i (h .0))
-  only groups (claimed i) (claimed j) h k = ap claimed (k .1 i (h .0))
-  only groups (claimed i) ambiguous h k = absurd (omega (arith, k .apart, h .1 (k .one) (k .has-one), h .1 (k .other) (k .has-other)))
-  only groups ambiguous absent h k = absurd (k (h .one) (h .has-one))
-  only groups ambiguous (claimed j) h k = absurd (omega (arith, h .apart, k .1 (h .one) (h .has-one), k .1 (h .other) (h .has-other)))
-  only groups ambiguous ambiguous h k = refl
-
-  pub leaf-claim : (groups : List Group) (x : Claim) → (leafClaim l groups ≡ x) ↔ Claims l groups x
-  leaf-claim groups x = (λ e. subst (Claims l groups) e (claims groups), λ h. only groups (leafClaim l groups) x (claims groups) h)
+-- the claim is the group if one group has the leaf, ambiguous if several do, else absent
+abbrev pub ClaimIs : List ℕ → List Group → Claim → Type 0
+ClaimIs l groups absent = (i : ℕ) → HasLeafAt l groups i → ⊥
+ClaimIs l groups (claimed i) = HasLeafAt l groups i × ((j : ℕ) → HasLeafAt l groups j → j ≡ i)
+ClaimIs l groups ambiguous = Several l groups

@@ -1,9 +1,10 @@
--- Document 01 as definitions. Read them in this order, beside its sections The book, Export runs and Blocks.
+-- Document 01 as definitions, in reading order. Read them beside its sections The book, Text, Export runs, Blocks and Where each check
+-- stands. Bits, texts and keys are defined in `vrf_bitio`, `vrf_text` and `vrf_path`.
 pub mod Book
 pub mod Lookup
 pub mod Setting
 pub mod Names
-pub mod Intake
+pub mod Parser
 pub mod Runs
 pub mod Block
 pub mod Writer
@@ -12,35 +13,10 @@ pub mod Answers
 pub mod Clash
 pub mod Claims
 pub mod Untouched
--- its examples, computed
-pub mod Computing
-pub mod Examples
-pub mod Cases
-pub mod Rules
--- the book's rules, and that every call keeps them
 pub mod Lawful
-pub mod EachLaws
-pub mod PlaceLaws
-pub mod ClashLaws
-pub mod UntouchedLaws
-pub mod AnswersLaws
-pub mod HeldLaws
-pub mod SettingLawful
-pub mod ReadsLaws
-pub mod NamesLaws
-pub mod IntakeLawful
-pub mod RunsLawful
-pub mod BlockLawful
-pub mod CallsLawful
--- blocks there and back, and the two seats
-pub mod IntakeLaws
-pub mod GuidsRead
-pub mod SlotsRead
-pub mod GroupsRead
-pub mod BlockRead
-pub mod ClashRead
-pub mod WriterLaws
-pub mod BlockBytes
-pub mod Determined
-pub mod Lockstep
-pub mod Seats
+pub mod LateJoin
+pub mod OneBlock
+-- Document 01's examples and further ones, computed from the definitions.
+pub mod Examples
+-- What is proved about the definitions.
+pub mod Laws

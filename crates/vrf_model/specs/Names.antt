@@ -1,4 +1,4 @@
--- A field name on the wire (document 01, Text).
+-- Field names (document 01, Text).
 use mathlib.Core.Bool.{cond}
 use mathlib.Core.List.{List}
 use Prim.Native.Nat.{ℕ}
@@ -13,19 +13,20 @@ use Rattle.vrf_names.specs.Names.{decimal, rendered}
 unfoldable pub limited : List ℕ → Reader (List ℕ)
 limited t = cond (ltb 4096 (length t)) (λ pos l. refused 41 (length t) 0) (return t)
 
--- kind zero: a text and a signed number
+-- zero: a text and a signed number
 unfoldable pub textName : Reader (List ℕ)
 textName = do
   base ← fstring
   number ← int32
   limited (rendered base number)
 
--- kind nonzero: a packed index, rendered in decimal
+-- nonzero: a packed index, rendered in decimal
 unfoldable pub indexName : Reader (List ℕ)
 indexName = do
   index ← packed
   return (decimal index)
 
+-- a field name has a kind byte
 unfoldable pub fname : Reader (List ℕ)
 fname = do
   kind ← byte

@@ -1,4 +1,4 @@
--- Export runs (document 01): `read_net_field_exports`, `read_export_guids` and `load_object`, in reader.rs's order.
+-- Export runs (document 01): `read_net_field_exports`, `read_export_guids` and `load_object`, each in the order of reader.rs.
 use mathlib.Core.Bool.{Bool, true, cond, _||_}
 use mathlib.Core.List.{List, [], _∷_}
 use mathlib.Core.Option.{Option, none, some}
@@ -11,31 +11,32 @@ use Rattle.vrf_model.specs.Book.{Content, none-counted}
 use Rattle.vrf_model.specs.Lookup.{indexPlace}
 use Rattle.vrf_model.specs.Setting.{Step, done, refuses, setGuid, addGroup, setField}
 use Rattle.vrf_model.specs.Names.{fname}
-use Rattle.vrf_model.specs.Intake.{Took, took, stopped, Intake, return, stop, _>>=_, read, step, times}
+use Rattle.vrf_model.specs.Parser.{Parsed, parsed, failed, Parser, return, fail, _>>=_, read, step, times}
 
 -- ---- fields run
 
--- 20 unknown index
+-- 20: unknown index
 unfoldable pub known : ℕ → Content → Option ℕ → Step (Unit {0})
 known index c none = refuses 20 index 0
 known index c (some i) = done tt c none-counted
 
--- a group declared in a run: 22 slots above 65,536; then the adding
-unfoldable pub declaredGroup : ℕ → Intake (Unit {0})
+-- a group that the run declares; 22: slots above 65,536
+unfoldable pub declaredGroup : ℕ → Parser (Unit {0})
 declaredGroup index = do
   path ← read fstring
   slots ← read packed
-  place ← cond (ltb 65536 slots) (stop 22 slots 0) (step (addGroup path index slots))
+  place ← cond (ltb 65536 slots) (fail 22 slots 0) (step (addGroup path index slots))
   return tt
 
--- the flag: 1 declares a group, 0 refers to one, any other is 21
-unfoldable pub groupOf : ℕ → ℕ → Intake (Unit {0})
+-- the flag: 0 refers to a known group, 1 declares a group; 21: flag not 0 or 1
+unfoldable pub groupOf : ℕ → ℕ → Parser (Unit {0})
 groupOf index flag =
     cond (eqb flag 0) (step (λ c. known index c (indexPlace index (c .groups))))
     (cond (eqb flag 1) (declaredGroup index)
-    (stop 21 index flag))
+    (fail 21 index flag))
 
-unfoldable pub exportedField : ℕ → Intake (Unit {0})
+-- a field: handle, checksum, name
+unfoldable pub exportedField : ℕ → Parser (Unit {0})
 exportedField index = do
   handle ← read packed
   checksum ← read word32
@@ -43,8 +44,8 @@ exportedField index = do
   placed ← step (setField index handle checksum name)
   return tt
 
--- one export: its group, and then a field where the byte is not 0
-unfoldable pub exportEntry : Intake (Unit {0})
+-- one export: its group, then a field if the byte is not 0
+unfoldable pub exportEntry : Parser (Unit {0})
 exportEntry = do
   index ← read packed
   flag ← read packed
@@ -52,7 +53,8 @@ exportEntry = do
   hasField ← read byte
   cond (eqb hasField 0) (return tt) (exportedField index)
 
-unfoldable pub fieldsRun : Intake ℕ
+-- `read_net_field_exports` answers its count
+unfoldable pub fieldsRun : Parser ℕ
 fieldsRun = do
   n ← read packed
   u ← times n exportEntry
@@ -61,17 +63,17 @@ fieldsRun = do
 -- ---- load_object
 
 -- flags are read when exporting or when the GUID is 1
-unfoldable pub flagsOf : Bool → ℕ → Intake ℕ
+unfoldable pub flagsOf : Bool → ℕ → Parser ℕ
 flagsOf exporting guid = cond (exporting || eqb guid 1) (read byte) (return 0)
 
--- bit 2: a checksum, read only after a path
-unfoldable pub skipChecksum : ℕ → Intake (Unit {0})
+-- bit 2 has a checksum, read only after a path
+unfoldable pub skipChecksum : ℕ → Parser (Unit {0})
 skipChecksum flags = cond (eqb (flags / 4 % 2) 1) (do
   checksum ← read word32
   return tt) (return tt)
 
--- bit 0: a path, behind the outer object; inner objects are recorded first
-unfoldable pub withPath : Intake ℕ → ℕ → ℕ → Intake ℕ
+-- bit 0 has a path. The outer object is read first: inner objects are recorded first
+unfoldable pub withPath : Parser ℕ → ℕ → ℕ → Parser ℕ
 withPath outerObject guid flags = do
   outer ← outerObject
   path ← read fstring
@@ -79,47 +81,49 @@ withPath outerObject guid flags = do
   v ← step (setGuid (record { guid = guid; path = path; outer = outer }))
   return guid
 
-unfoldable pub objectAfter : Intake ℕ → Bool → ℕ → Intake ℕ
+unfoldable pub objectAfter : Parser ℕ → Bool → ℕ → Parser ℕ
 objectAfter outerObject exporting guid = do
   flags ← flagsOf exporting guid
   cond (eqb (flags % 2) 1) (withPath outerObject guid flags) (return guid)
 
 -- GUID 0 ends a chain with nothing more read
-unfoldable pub objectOver : Intake ℕ → Bool → Intake ℕ
-objectOver outerObject exporting = do
+unfoldable pub objectWithOuter : Parser ℕ → Bool → Parser ℕ
+objectWithOuter outerObject exporting = do
   guid ← read packed
   cond (eqb guid 0) (return 0) (objectAfter outerObject exporting guid)
 
--- an object with so much depth left: sixteen minus its depth. With none left it is refused before reading
-unfoldable pub object : ℕ → Bool → Intake ℕ
-object zero exporting = stop 26 16 0
-object (suc left) exporting = objectOver (object left exporting) exporting
+-- an object with this depth left, which is 16 minus its depth. At depth 16 or more it is refused before reading
+unfoldable pub object : ℕ → Bool → Parser ℕ
+object zero exporting = fail 26 16 0
+object (suc left) exporting = objectWithOuter (object left exporting) exporting
 
-unfoldable pub objectAt : ℕ → Bool → Intake ℕ
+-- `load_object` with a starting depth given answers its GUID
+unfoldable pub objectAt : ℕ → Bool → Parser ℕ
 objectAt depth exporting = object (16 - depth) exporting
 
 -- ---- GUID run
 
--- what a payload's reading left: 25 whole bytes left; else the run goes on behind the payload
-unfoldable pub behind : {A : Type 0} → ℕ → List ℕ → Took A → Took A
-behind pos l (took a p [] c t) = took a pos l c t
-behind pos l (took a p (b ∷ m) c t) = stopped 25 (length (b ∷ m)) 0 c t
-behind pos l (stopped n a b c t) = stopped n a b c t
+-- after a payload is read: 25 if whole bytes are left in it; otherwise the run continues at pos, after the payload
+unfoldable pub afterPayload : {A : Type 0} → ℕ → List ℕ → Parsed A → Parsed A
+afterPayload pos l (parsed a p [] c t) = parsed a pos l c t
+afterPayload pos l (parsed a p (b ∷ m) c t) = failed 25 (length (b ∷ m)) 0 c t
+afterPayload pos l (failed n a b c t) = failed n a b c t
 
 -- a payload of n bytes is a window of its own, and positions inside it count from its first bit
-unfoldable pub payloadOf : {A : Type 0} → ℕ → Intake A → Intake A
+unfoldable pub payloadOf : {A : Type 0} → ℕ → Parser A → Parser A
 payloadOf n r pos l c t =
-    cond (ltb (length l) n) (stopped 10 pos (8 * n) c t)
-    (behind (pos + 8 * n) (drop n l) (r 0 (take n l) c t))
+    cond (ltb (length l) n) (failed 10 pos (8 * n) c t)
+    (afterPayload (pos + 8 * n) (drop n l) (r 0 (take n l) c t))
 
--- 24 negative size
-unfoldable pub guidEntry : Intake (Unit {0})
+-- 24: negative size
+unfoldable pub guidEntry : Parser (Unit {0})
 guidEntry = do
   size ← read word32
-  guid ← cond (leb (2 ^ 31) size) (stop 24 size 0) (payloadOf size (objectAt 0 true))
+  guid ← cond (leb (2 ^ 31) size) (fail 24 size 0) (payloadOf size (objectAt 0 true))
   return tt
 
-unfoldable pub guidRun : Intake ℕ
+-- `read_export_guids` answers its count
+unfoldable pub guidRun : Parser ℕ
 guidRun = do
   n ← read packed
   u ← times n guidEntry

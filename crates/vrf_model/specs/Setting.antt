@@ -1,4 +1,5 @@
--- The book calls that change it (document 01, The book). A step is taken whole, with what it adds to the counters, or refused.
+-- The calls that change a book (document 01, The book): `set_net_guid_path`, `add_export_group`, `set_field_on_group` and `clear`. The
+-- checks on callers' text are in Calls.antt. A refused step changes nothing.
 use mathlib.Core.Bool.{Bool, true, false, cond, _&&_}
 use mathlib.Core.List.{List, [], _∷_, _++_}
 use mathlib.Core.Option.{Option, none, some}
@@ -6,39 +7,40 @@ use Prim.Native.Nat.{ℕ, _-_}
 use lib.Dec.{eqb, ltb}
 use lib.ListN.{length, set, replicate}
 use Rattle.vrf_path.specs.Text.{same}
-use Rattle.vrf_model.specs.Book.{Guid, Slot, empty, filled, Group, Content, Tally, none-counted, fresh, passed}
+use Rattle.vrf_model.specs.Book.{Guid, Slot, empty, filled, Group, Content, Counters, none-counted, fresh, passed}
 use Rattle.vrf_model.specs.Lookup.{placeOr, pathPlace, indexPlace, guidPlace, slotAt}
 
+-- done: an answer, the content then held and what the counters go up by; or a refusal's number, a and b
 pub data Step (A : Type 0) : Type 0 where
-  done : A → Content → Tally → Step A
+  done : A → Content → Counters → Step A
   refuses : ℕ → ℕ → ℕ → Step A
 
--- keeping: 42 a count after this step would pass its allowance, lowest first
-unfoldable pub unlessPassed : {A : Type 0} → Option ℕ → A → Content → Tally → Step A
+-- keeping: 42, a count after this step would pass its allowance, lowest first
+unfoldable pub unlessPassed : {A : Type 0} → Option ℕ → A → Content → Counters → Step A
 unlessPassed none a c t = done a c t
 unlessPassed (some which) a c t = refuses 42 which 0
 
-unfoldable pub keep : {A : Type 0} → A → Content → Tally → Step A
+unfoldable pub keep : {A : Type 0} → A → Content → Counters → Step A
 keep a c t = unlessPassed (passed c) a c t
 
--- ---- counters that a step moves
+-- ---- what each step adds to the counters, as in cache.rs
 
-unfoldable pub schemaStep : Tally
+unfoldable pub schemaStep : Counters
 schemaStep = record { schema = 1; guid = 0; dropped = 0; replaced = 0; renamed = 0 }
 
-unfoldable pub replacedStep : Tally
+unfoldable pub replacedStep : Counters
 replacedStep = record { schema = 1; guid = 0; dropped = 0; replaced = 1; renamed = 0 }
 
-unfoldable pub guidStep : Tally
+unfoldable pub guidStep : Counters
 guidStep = record { schema = 0; guid = 1; dropped = 0; replaced = 0; renamed = 0 }
 
-unfoldable pub droppedStep : Tally
+unfoldable pub droppedStep : Counters
 droppedStep = record { schema = 0; guid = 0; dropped = 1; replaced = 0; renamed = 0 }
 
-unfoldable pub renamedStep : ℕ → Tally
+unfoldable pub renamedStep : ℕ → Counters
 renamedStep n = record { schema = 0; guid = 0; dropped = 0; replaced = 0; renamed = n }
 
-unfoldable pub clearStep : Tally
+unfoldable pub clearStep : Counters
 clearStep = record { schema = 1; guid = 1; dropped = 0; replaced = 0; renamed = 0 }
 
 -- ---- set_net_guid_path
@@ -49,10 +51,12 @@ withGuids c l = record { allowed = c .allowed; guids = l; groups = c .groups }
 unfoldable pub withGroups : Content → List Group → Content
 withGroups c l = record { allowed = c .allowed; guids = c .guids; groups = l }
 
+-- whether path and outer are the same
 unfoldable pub sameGuid : Guid → Guid → Bool
 sameGuid r q = same (r .path) (q .path) && eqb (r .outer) (q .outer)
 
--- a new GUID is appended; a known one takes path and outer in its place; an identical setting does nothing
+-- GUID, path and outer in order of first setting: a new GUID is appended, a known one takes path and outer in its place; an identical
+-- setting does nothing
 unfoldable pub setGuidAt : Guid → Content → Option ℕ → Step (Unit {0})
 setGuidAt r c none = keep tt (withGuids c (c .guids ++ (r ∷ []))) guidStep
 setGuidAt r c (some i) =
@@ -67,19 +71,20 @@ setGuid r c = setGuidAt r c (guidPlace (r .guid) (c .guids))
 unfoldable pub newGroup : List ℕ → ℕ → ℕ → Group
 newGroup path index slots = record { path = path; index = index; slots = replicate slots empty }
 
--- the slots of a group that grows to a slot count and never shrinks
+-- the slots of a group that grows to the slot count, never shrinks
 unfoldable pub grown : ℕ → List Slot → List Slot
 grown n slots = slots ++ replicate (n - length slots) empty
 
 unfoldable pub mergedGroup : List ℕ → ℕ → ℕ → Group → Group
 mergedGroup path index slots g = record { path = path; index = index; slots = grown slots (g .slots) }
 
--- path found: that group takes the new path and index and grows
+-- path found: that group takes the new path and index and grows to the slot count, never shrinks
 unfoldable pub merge : List ℕ → ℕ → ℕ → Content → ℕ → Step ℕ
 merge path index slots c i =
     keep i (withGroups c (set (c .groups) i (placeOr (mergedGroup path index slots) (newGroup path index slots) (c .groups) i))) schemaStep
 
--- path and index found at different groups: 23; only the index found: the group is replaced, fields gone; neither: append
+-- path and index found at different groups: 23; path found: merge; only the index found: the group is replaced, fields gone; neither:
+-- append
 unfoldable pub addGroupAt : List ℕ → ℕ → ℕ → Content → Option ℕ → Option ℕ → Step ℕ
 addGroupAt path index slots c none none = keep (length (c .groups)) (withGroups c (c .groups ++ (newGroup path index slots ∷ []))) schemaStep
 addGroupAt path index slots c none (some j) = keep j (withGroups c (set (c .groups) j (newGroup path index slots))) replacedStep
@@ -94,15 +99,16 @@ addGroup path index slots c = addGroupAt path index slots c (pathPlace path (c .
 unfoldable pub withSlot : ℕ → Slot → Group → Group
 withSlot handle s g = record { path = g .path; index = g .index; slots = set (g .slots) handle s }
 
--- one where a filled slot takes another name
+-- 1 if a filled slot takes another name, otherwise 0
 unfoldable pub renames : Slot → List ℕ → ℕ
 renames empty name = 0
 renames (filled c n) name = cond (same n name) 0 1
 
+-- a default for places without a group; a place that was found has one
 unfoldable pub noGroup : Group
 noGroup = record { path = []; index = 0; slots = [] }
 
--- not placed, and a drop counted, for an unknown index or a handle past the slots
+-- answers not placed (and counts a drop) for an unknown index or a handle past the slots
 unfoldable pub setFieldAt : ℕ → ℕ → List ℕ → Content → Option ℕ → Step Bool
 setFieldAt handle checksum name c none = done false c droppedStep
 setFieldAt handle checksum name c (some i) =
@@ -115,5 +121,6 @@ setField index handle checksum name c = setFieldAt handle checksum name c (index
 
 -- ---- clear
 
+-- `clear` steps both generations and keeps the other three; the allowances stay
 unfoldable pub clear : Content → Step (Unit {0})
 clear c = done tt (fresh (c .allowed)) clearStep

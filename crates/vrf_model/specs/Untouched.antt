@@ -1,5 +1,5 @@
--- Demand 1 on the definitions: what an accepted field, an accepted adding and a GUID's setting leave as it was. So no call writes into
--- another group's slots.
+-- Demand 1: no call touches another group's slots. These definitions state what stays as it was when a field is placed and when a group is
+-- added, and which calls are readers. Proved in Laws/Untouched.antt and Laws/Lawful/Calls.antt.
 use mathlib.Core.Path.{_≡_}
 use mathlib.Core.List.{List}
 use mathlib.Core.Option.{Option, none, some}
@@ -7,12 +7,16 @@ use Prim.Native.Nat.{ℕ}
 use lib.ListN.{length}
 use Rattle.vrf_model.specs.Book.{Slot, Group, Content}
 use Rattle.vrf_model.specs.Lookup.{placeOr, indexPlace, pathAt, indexAt, slotsAt, slotAt}
+use Rattle.vrf_model.specs.Calls.{Call, clear-book, add-export-group, set-field-on-group, set-net-guid-path, read-net-field-exports, read-export-guids, load-object, read-checkpoint-tables}
+use Rattle.vrf_model.specs.Calls.{get-group-by-index, get-group-by-path, get-path-by-guid, get-outer-guid, get-outer-path, get-gameplay-tag-name, get-field, unique-leaf-match}
+use Rattle.vrf_model.specs.Calls.{resolve-cnc-for-instance-name, find-class-net-cache-key, group-path, group-index, group-slots, field-name, guid-path}
 
 -- the group at a place, if there is one
 abbrev pub groupAt : List Group → ℕ → Option Group
 groupAt groups p = placeOr some none groups p
 
--- the slot of the group at a place has s; every other slot of any group, and all else, is as it was
+-- c before, d after: the slot of the group at the place is s; every other slot, each path, index and slot count, and the GUID list are as
+-- they were
 pub record OneSlot (place slot : ℕ) (s : Slot) (c d : Content) : Type 0 where
   pub own : slotAt (d .groups) place slot ≡ s
   pub others : (p q : ℕ) → ((p ≡ place) × (q ≡ slot) → ⊥) → slotAt (d .groups) p q ≡ slotAt (c .groups) p q
@@ -22,15 +26,43 @@ pub record OneSlot (place slot : ℕ) (s : Slot) (c d : Content) : Type 0 where
   pub groups : length (d .groups) ≡ length (c .groups)
   pub guids : d .guids ≡ c .guids
 
--- a field that is placed is in a slot of the group that has its index
+-- a placed field: only its slot changes, in the group that has its index
 pub record PlacedAlone (index handle : ℕ) (s : Slot) (c d : Content) : Type 0 where
   pub place : ℕ
   pub found : indexPlace index (c .groups) ≡ some place
   pub slot : OneSlot place handle s c d
 
--- the group at a place has the path and the index; every other group, and all else, is as it was
+-- c before, d after: the group at the place has the path and the index; every other group and the GUID list are as they were
 pub record OneGroup (place : ℕ) (path : List ℕ) (index : ℕ) (c d : Content) : Type 0 where
   pub own-path : pathAt (d .groups) place ≡ path
   pub own-index : indexAt (d .groups) place ≡ index
   pub others : (p : ℕ) → (p ≡ place → ⊥) → groupAt (d .groups) p ≡ groupAt (c .groups) p
   pub guids : d .guids ≡ c .guids
+
+-- ---- readers
+
+-- a refused reader leaves all it took before the refused step; any other refusal changes no book content or counter
+abbrev pub IsReader : Call → Type 0
+IsReader clear-book = ⊥
+IsReader (add-export-group path index slots) = ⊥
+IsReader (set-field-on-group index handle checksum name) = ⊥
+IsReader (set-net-guid-path guid path outer) = ⊥
+IsReader (read-net-field-exports w) = Unit {0}
+IsReader (read-export-guids w) = Unit {0}
+IsReader (load-object w exporting depth) = Unit {0}
+IsReader (read-checkpoint-tables w) = Unit {0}
+IsReader (get-group-by-index index) = ⊥
+IsReader (get-group-by-path path) = ⊥
+IsReader (get-path-by-guid guid) = ⊥
+IsReader (get-outer-guid guid) = ⊥
+IsReader (get-outer-path guid) = ⊥
+IsReader (get-gameplay-tag-name tag) = ⊥
+IsReader (get-field place slot) = ⊥
+IsReader (unique-leaf-match name) = ⊥
+IsReader (resolve-cnc-for-instance-name name) = ⊥
+IsReader (find-class-net-cache-key path) = ⊥
+IsReader (group-path place) = ⊥
+IsReader (group-index place) = ⊥
+IsReader (group-slots place) = ⊥
+IsReader (field-name place slot) = ⊥
+IsReader (guid-path place) = ⊥

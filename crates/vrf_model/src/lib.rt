@@ -1,10 +1,10 @@
-// The answers of the book calls, and the numbers of document 01's table that they can refuse with. What each answer stands for in
-// the definitions is said in specs/Answers.antt.
+// The answers of the book calls, and the refusal numbers that document 01's table gives to the checks of a book. specs/Answers.antt gives
+// document 01's answer for each case.
 use vrf_bitio::Refusal;
 
 pub const ALLOWANCE_ABOVE_TOP: u32 = 1;
 
-pub const SPOILED_BOOK: u32 = 2;
+pub const CORRUPT_BOOK: u32 = 2;
 
 pub const MEMORY_TOO_SHORT: u32 = 3;
 
@@ -42,39 +42,40 @@ pub const PATH_IS_EARLIER_KEY: u32 = 44;
 
 pub const BLOCK_TOO_LONG: u32 = 45;
 
-// A call that only acts: `clear`, `set_net_guid_path`.
+// The answer of `clear` and `set_net_guid_path`.
 pub enum Acted {
     Done,
     Refused(Refusal),
 }
 
-// A place in the group list, for `add_export_group`.
+// The answer of `add_export_group`: a place in the group list.
 pub enum Added {
     At(u32),
     Refused(Refusal),
 }
 
-// Whether a field found its slot.
+// The answer of `set_field_on_group`: not placed for an unknown index or a handle past the slots.
 pub enum Placed {
     Placed,
     NotPlaced,
     Refused(Refusal),
 }
 
-// A place, a GUID or a checksum.
+// The answer of a lookup: a place in the group list or the GUID list, a GUID or a checksum; or absent.
 pub enum Found {
     At(u32),
     Absent,
     Refused(Refusal),
 }
 
-// A run's count or an object's GUID, with the position after it.
+// The answer of a run, its count, or of `load_object`, its GUID; each with the position after it, in bits.
 pub enum Ran {
     Ended(u32, u32),
     Refused(Refusal),
 }
 
-// What reading a block counted; the Rust's names. As many fields as 100,000 groups of 65,536 slots may have pass 32 bits.
+// The seven counts of a block, with the names of checkpoint.rs. Fields are counted in 64 bits, because 100,000 groups of 65,536 slots have
+// more than 2^32.
 pub struct CheckpointTables {
     pub guid_count: u32,
     pub group_count: u32,
@@ -90,13 +91,13 @@ pub enum Tables {
     Refused(Refusal),
 }
 
-// An index or a slot count at a group place.
+// The path-name index or the slot count at a group place.
 pub enum Number {
     Is(u32),
     Refused(Refusal),
 }
 
-// A written block's length.
+// The answer of the writer: the block's length in bytes.
 pub enum Wrote {
     Length(u64),
     Refused(Refusal),

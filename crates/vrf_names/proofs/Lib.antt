@@ -1,3 +1,3 @@
--- Pure lemmas of the proofs, by subject.
+-- Lemmas that the proofs use, by subject.
 pub mod Names
 pub mod Signed

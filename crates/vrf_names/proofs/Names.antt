@@ -1,4 +1,4 @@
--- What the functions that render names need.
+-- Lemmas for the functions that write numbers, suffixes and names.
 use mathlib.Core.Path.{_≡_, refl, sym, _∙_}
 use mathlib.Core.List.{List, [], _∷_, _++_, append-assoc}
 use Prim.Native.Char.{code}
@@ -10,17 +10,18 @@ use lib.Seq.{length-take-le}
 use mir.Syntax.{w32}
 use mir.Val.{SFits, toZ, ofZ}
 use Rattle.vrf_bitio.specs.Pasted.{pasted}
+use Rattle.vrf_bitio.specs.Laws.Pasted.{pasted-nil, pasted-cons, pasted-snoc, pasted-front}
 use Rattle.vrf_names.specs.Names.{decimal, suffix, rendered, refused, renderedInto}
-use Rattle.vrf_names.specs.Answers.{suffixText, answerOf, RenderedAnswer}
-use Rattle.vrf_names.specs.NamesLaws.{decimal-one, decimal-more, more-length, into-long, into-short, into-fits}
-use Rattle.vrf_bitio.specs.PastedLaws.{pasted-nil, pasted-cons, pasted-snoc, pasted-front}
-use Rattle.vrf_names.proofs.Signed.{as-passed}
-use Rattle.vrf_names.specs.declared.Suffix.{Suffix}
-use Rattle.vrf_names.specs.declared.Suffix.the-variants.{Empty, Plain, Minus}
+use Rattle.vrf_names.specs.Answers.{answerOf, RenderedAnswer}
+use Rattle.vrf_names.specs.Inner.Suffix.{suffixText}
+use Rattle.vrf_names.specs.Laws.Names.{decimal-one, decimal-more, more-length, into-long, into-short, into-fits}
 use Rattle.vrf_names.specs.declared.Rendered.{Rendered}
 use Rattle.vrf_names.specs.declared.Rendered.the-variants.{Length, Refused}
+use Rattle.vrf_names.specs.declared.Suffix.{Suffix}
+use Rattle.vrf_names.specs.declared.Suffix.the-variants.{Empty, Plain, Minus}
+use Rattle.vrf_names.proofs.Signed.{as-passed}
 
--- a number put into a buffer: what is left of it, its last digit at place end
+-- a number written to a buffer, last digit first: rest is what is left of it, end the place of its last digit
 module _ (out : List ℕ) (at rest end : ℕ) (e : end + 1 ≡ at + length (decimal rest)) (h : end < length out) where
   pub digit-next : 10 ≤ rest → pasted out at (decimal rest) ≡ pasted (set out end (code "0" + rest % 10)) at (decimal (rest / 10))
   digit-next l =
@@ -35,29 +36,29 @@ module _ (out : List ℕ) (at rest end : ℕ) (e : end + 1 ≡ at + length (deci
       let b : at < length out = omega arith in
       rw (p, decimal-one rest l) (pasted-cons out at (code "0" + rest) [] b ∙ pasted-nil (set out at (code "0" + rest)) (at + 1))
 
--- what a number adds, put into a buffer
+-- a suffix written to a buffer
 module _ (out : List ℕ) (at : ℕ) {s : Suffix} where
   pub put-empty : s ≡ Empty → out ≡ pasted out at (suffixText s)
   put-empty e = rw e (sym (pasted-nil out at))
 
   module _ {n : ℕ} (h : at + length (suffixText s) ≤ length out) where
-    pub plain-room : s ≡ Plain n → at + (1 + length (decimal n)) ≤ length out
-    plain-room e = let g : at + suc (length (decimal n)) ≤ length out = rw e at h in omega arith
+    pub plain-space : s ≡ Plain n → at + (1 + length (decimal n)) ≤ length out
+    plain-space e = let g : at + suc (length (decimal n)) ≤ length out = rw e at h in omega arith
 
     pub put-plain : s ≡ Plain n → {o : List ℕ} → o ≡ pasted (set out at (code "_")) (at + 1) (decimal n) → o ≡ pasted out at (suffixText s)
-    put-plain e eo = eo ∙ rw e (sym (pasted-cons out at (code "_") (decimal n) (omega (arith, plain-room e))))
+    put-plain e eo = eo ∙ rw e (sym (pasted-cons out at (code "_") (decimal n) (omega (arith, plain-space e))))
 
-    pub minus-room : s ≡ Minus n → at + (2 + length (decimal n)) ≤ length out
-    minus-room e = let g : at + suc (suc (length (decimal n))) ≤ length out = rw e at h in omega arith
+    pub minus-space : s ≡ Minus n → at + (2 + length (decimal n)) ≤ length out
+    minus-space e = let g : at + suc (suc (length (decimal n))) ≤ length out = rw e at h in omega arith
 
     pub put-minus : s ≡ Minus n → {o : List ℕ} → o ≡ pasted (set (set out at (code "_")) (at + 1) (code "-")) (at + 2) (decimal n) → o ≡ pasted out at (suffixText s)
     put-minus e eo =
         let two : at + 2 ≡ at + 1 + 1 = omega arith in
-        let a : at < length out = omega (arith, minus-room e) in
-        let b : at + 1 < length (set out at (code "_")) = rw length-set (omega (arith, minus-room e)) in
+        let a : at < length out = omega (arith, minus-space e) in
+        let b : at + 1 < length (set out at (code "_")) = rw length-set (omega (arith, minus-space e)) in
         eo ∙ rw (e, two) (sym (pasted-cons out at (code "_") (code "-" ∷ decimal n) a ∙ pasted-cons (set out at (code "_")) (at + 1) (code "-") (decimal n) b))
 
--- what a rendering answers, for a text t of so many bytes: too long, a buffer of m bytes that is too short, and written
+-- the answer for a text t of len bytes: it is too long, the buffer of m bytes is too short, or it is written
 module _ (m : ℕ) (t before : List ℕ) {len : ℕ} (en : len ≡ length t) where
   pub answer-long : 4096 < len → RenderedAnswer (renderedInto m t) before before (Refused (record { number = 41; a = len; b = 0 }))
   answer-long h = rw (into-long m t (omega arith), en) (record { answer = refl; bytes = refl })
@@ -68,13 +69,13 @@ module _ (m : ℕ) (t before : List ℕ) {len : ℕ} (en : len ≡ length t) whe
   pub answer-fits : len ≤ 4096 → len ≤ m → {after : List ℕ} → after ≡ pasted before 0 t → RenderedAnswer (renderedInto m t) before after (Length len)
   answer-fits l h ea = rw (into-fits m t (omega arith) (omega arith), ea, en) (record { answer = refl; bytes = refl })
 
--- what a number adds, behind the first n bytes of a buffer
+-- a buffer after a suffix is written after its first n bytes
 written : (out : List ℕ) (n : ℕ) (z : ℤ) (s : Suffix) → suffixText s ≡ suffix z → {r : ℕ} → r ≡ length (suffixText s)
     → pasted out n (suffixText s) ≡ rendered (take n out) z ++ drop (n + r) out
 unfolding rendered pasted
 written out n z s e er = rw (er, e, append-assoc)
 
--- a base text at the front of a buffer, and what its number adds
+-- a base text at the front of a buffer, with its suffix
 module _ (out : List ℕ) (n : ℕ) (base : n ≤ length out) (z : ℤ) (fits : SFits w32 z) (s : Suffix) (e : suffixText s ≡ suffix (toZ w32 (ofZ w32 z))) {r : ℕ} (er : r ≡ length (suffixText s)) where
   abbrev name : List ℕ
   name = rendered (take n out) z

@@ -1,4 +1,4 @@
--- What `suffix_of` needs: a signed number of 32 bits by its sign, and what is computed of it.
+-- Lemmas for `suffix_of`: a signed number of 32 bits, by its sign, and what the code computes from it.
 use mathlib.Core.Path.{_≡_, refl, sym, ap, _∙_, subst}
 use mathlib.Core.Bool.{true, false}
 use mathlib.Core.List.{List, _∷_}
@@ -6,20 +6,20 @@ use Prim.Native.Char.{code}
 use Prim.Native.Nat.{ℕ, zero, suc, _+_, _<_, _≤_}
 use native.Mathlib.Numerals.{add-one}
 use native.Mathlib.Omega.{arith}
-use borrow.Author.Tests.{ltb-false}
 use lib.Dec.{T}
 use lib.IntN.{ℤ, pos, negsuc, sucℤ, negℤ, natAbs, _+ℤ_, _-ℤ_, +ℤ-one, -ℤ-one, +ℤ-idl, negℤ-negℤ}
 use lib.Signed.{ltZ, nonNeg}
+use borrow.Author.Tests.{ltb-false}
 use mir.Facts.{toZ-ofZ}
 use mir.Syntax.{w32}
 use mir.Val.{Fits, SFits, toZ, ofZ}
 use Rattle.vrf_names.specs.Names.{decimal, suffix}
 
--- a signed number goes to a callee by its bits, and is the number again there
+-- a signed number is passed as its bits, and the callee gets the same number
 pub as-passed : (z : ℤ) → SFits w32 z → {t : List ℕ} → t ≡ suffix (toZ w32 (ofZ w32 z)) → t ≡ suffix z
 as-passed z h e = e ∙ ap suffix (toZ-ofZ h)
 
--- the sign, by the code's tests
+-- the sign, from the code's tests
 module _ (z : ℤ) (h : SFits w32 z) where
   pub is-zero : ofZ w32 z ≡ 0 → z ≡ pos 0
   is-zero e = sym (toZ-ofZ h) ∙ ap (toZ w32) e
@@ -61,7 +61,7 @@ module _ (z : ℤ) (h : SFits w32 z) (m : ℕ) (e : z ≡ pos (suc m)) where
   unfolding suffix
   plain = rw (less, e)
 
--- the magnitude of a negative number, the lowest included: one more than what one more than it lacks to 0
+-- the magnitude of a negative number, the lowest included: 1 is added, the sum is negated, and 1 is added again
 module _ (z : ℤ) (h : SFits w32 z) (m : ℕ) (e : z ≡ negsuc m) where
   one-more : toZ w32 (ofZ w32 z) +ℤ pos 1 ≡ negℤ (pos m)
   one-more = rw (toZ-ofZ h, e) (+ℤ-one (negsuc m) ∙ back m)

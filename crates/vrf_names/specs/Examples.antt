@@ -1,4 +1,4 @@
--- The entry of document 01's examples table that speaks of names, and edges.
+-- N1 of document 01's examples table, and names, numbers and lengths at their limits, computed.
 use mathlib.Core.Path.{_≡_, refl}
 use Prim.Native.Char.{code}
 use lib.IntN.{pos, negsuc}
@@ -21,12 +21,12 @@ pub ends : (suffix (pos 2147483647) ≡ ascii "_2147483646") × (suffix (negsuc 
 unfolding suffix decimal digits ascii
 ends = (refl, refl)
 
--- the highest index of 32 bits, and where a digit more begins
+-- the highest index of 32 bits, and the numbers on either side of the second digit
 pub indices : (decimal 4294967295 ≡ ascii "4294967295") × (decimal 9 ≡ ascii "9") × (decimal 10 ≡ ascii "10")
 unfolding decimal digits ascii
 indices = (refl, refl, refl)
 
--- 4,096 bytes pass and 4,097 are 41, whatever the target has; five bytes for a target of four are 15, in bits
+-- 4,096 bytes pass; 4,097 are refusal 41, whatever the target has; five bytes for a target of four are refusal 15, counted in bits
 pub limits : (renderedInto 4096 (replicate 4096 (code "x")) ≡ named (replicate 4096 (code "x")))
     × (renderedInto 0 (replicate 4097 (code "x")) ≡ refused 41 4097 0)
     × (renderedInto 4 (ascii "Foo_3") ≡ refused 15 40 32)

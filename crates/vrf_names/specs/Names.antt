@@ -1,4 +1,4 @@
--- Document 01, Text: a field name is an index in decimal, or a base text with a signed number.
+-- Document 01, section Text: a field name is an index in decimal, or a base text with a signed number.
 use mathlib.Core.Bool.{cond}
 use mathlib.Core.List.{List, [], _∷_, _++_}
 use Prim.Native.Char.{code}
@@ -7,18 +7,18 @@ use lib.Dec.{ltb}
 use lib.IntN.{ℤ, pos, negsuc}
 use lib.ListN.{length}
 
--- the last digits of n, `most` at most
+-- the digits of n, or its last `most` digits if it has more
 unfoldable pub digits : ℕ → ℕ → List ℕ
 digits zero n = []
 digits (suc most) n =
     let higher = digits most (n / 10) in
     cond (ltb n 10) ((code "0" + n) ∷ []) (higher ++ ((code "0" + n % 10) ∷ []))
 
--- n in decimal, ASCII, with no leading zeros; n + 1 digits are always enough
+-- n in decimal, as ASCII, without leading zeros; n + 1 digits are always enough
 unfoldable pub decimal : ℕ → List ℕ
 decimal n = digits (suc n) n
 
--- 0 adds nothing, n above 0 adds `_` and n - 1, n below 0 adds `_` and n with its minus sign
+-- what a number adds to a name: 0 adds nothing, n above 0 adds `_` and n - 1, n below 0 adds `_` and n with its minus sign
 unfoldable pub suffix : ℤ → List ℕ
 suffix (pos zero) = []
 suffix (pos (suc n)) = code "_" ∷ decimal n
@@ -32,7 +32,7 @@ pub data Name : Type 0 where
   named : List ℕ → Name
   refused : ℕ → ℕ → ℕ → Name
 
--- the rendered name t for a target of m bytes: 41 more than 4,096 bytes; then 15 a target that is short, in bits
+-- the rendered name t for a target of m bytes. 41: more than 4,096 bytes. Then 15: the target is too short, counted in bits.
 unfoldable pub renderedInto : ℕ → List ℕ → Name
 renderedInto m t =
     cond (ltb 4096 (length t)) (refused 41 (length t) 0)

@@ -1,4 +1,4 @@
-// Rendered field names of document 01: an index in decimal, or a text with a signed number. Names follow export.rs.
+// Rendered field names of document 01: an index in decimal, or a text with a signed number. The function names are those of export.rs.
 use vrf_bitio::Refusal;
 use vrf_bitio::SHORT;
 ghost use mathlib.Core.Path.{_≡_};
@@ -6,9 +6,10 @@ ghost use Prim.Native.Nat.{_+_, _*_, _≤_};
 ghost use lib.ListN.{length, take};
 ghost use Rattle.vrf_bitio.specs.Pasted.{pasted};
 ghost use Rattle.vrf_names.specs.Names.{decimal, suffix, rendered, refused, renderedInto};
-ghost use Rattle.vrf_names.specs.Answers.{suffixText, putInto, answerOf, RenderedAnswer};
+ghost use Rattle.vrf_names.specs.Answers.{putInto, answerOf, RenderedAnswer};
+ghost use Rattle.vrf_names.specs.Inner.Suffix.{suffixText};
 
-// The number of document 01 for a rendered name above `NAME_BYTES` bytes.
+// The refusal number of document 01 for a rendered name of more than `NAME_BYTES` bytes.
 pub const NAME_TOO_LONG: u32 = 41;
 
 const NAME_BYTES: usize = 4_096;
@@ -20,14 +21,14 @@ enum Suffix {
     Minus(u32),
 }
 
-// A rendered name's length, or why there is none: 41 with the bytes of a name above 4,096, and then 15 with the bits wanted and the bits of
-// a buffer that is too short.
+// A rendered name's length, or a refusal. 41: a name above 4,096 bytes, with its bytes. Then 15: a buffer that is too short, with the bits
+// wanted and the bits it has.
 pub enum Rendered {
     Length(usize),
     Refused(Refusal),
 }
 
-// How many digits a number has.
+// The number of decimal digits of n.
 pub fn decimal_len(n: u64) -> usize
     ensures { λ r. ⌜ (r ≡ length (decimal n)) × (r ≤ 20) ⌝ }
 {
@@ -40,7 +41,7 @@ pub fn decimal_len(n: u64) -> usize
     len
 }
 
-// Writes a number in decimal into a buffer that has room for it, from a place on, the last digit first.
+// Writes n in decimal to out from place at on, the last digit first. It must fit.
 fn put_digits(n: u64, out: &mut [u8], at: usize)
     requires { ⌜ at + length (decimal n) ≤ length (now out) ⌝ }
     ensures { λ _. ⌜ now (out .exit) ≡ pasted (now (out .entry)) at (decimal n) ⌝ }
@@ -55,7 +56,7 @@ fn put_digits(n: u64, out: &mut [u8], at: usize)
     out[end] = b'0' + rest as u8;
 }
 
-// Writes a number in decimal into a buffer, from a place on; where it does not fit, nothing.
+// Writes n in decimal to out from place at on. If it does not fit, writes nothing.
 pub fn put_decimal(n: u64, out: &mut [u8], at: usize)
     ensures { λ _. ⌜ now (out .exit) ≡ putInto (now (out .entry)) at (decimal n) ⌝ }
 {
@@ -69,19 +70,19 @@ pub fn put_decimal(n: u64, out: &mut [u8], at: usize)
     put_digits(n, out, at);
 }
 
-// A name of so many bytes for a buffer of fewer.
-fn short(len: usize, room: usize) -> Rendered
-    requires { ⌜ (len ≤ 4096) × (room ≤ len) ⌝ }
-    ensures { λ r. ⌜ r ≡ answerOf (refused 15 (8 * len) (8 * room)) ⌝ }
+// The refusal of a name of len bytes for a buffer of fewer.
+fn short(len: usize, space: usize) -> Rendered
+    requires { ⌜ (len ≤ 4096) × (space ≤ len) ⌝ }
+    ensures { λ r. ⌜ r ≡ answerOf (refused 15 (8 * len) (8 * space)) ⌝ }
 {
     Rendered::Refused(Refusal {
         number: SHORT,
         a: 8 * (len as u64),
-        b: 8 * (room as u64),
+        b: 8 * (space as u64),
     })
 }
 
-// The number in decimal, at the front of a buffer.
+// Writes n in decimal to the first bytes of out, as the name with index n.
 pub fn render_index(n: u32, out: &mut [u8]) -> Rendered
     ensures { λ r. ⌜ RenderedAnswer (renderedInto (length (now (out .entry))) (decimal n)) (now (out .entry)) (now (out .exit)) r ⌝ }
 {
@@ -93,7 +94,7 @@ pub fn render_index(n: u32, out: &mut [u8]) -> Rendered
     Rendered::Length(len)
 }
 
-// What a number adds to a name. The lowest number has no positive counterpart, so one is added before it is negated, and after.
+// What a number adds to a name. The lowest number has no positive counterpart, so 1 is added before negation and again after it.
 fn suffix_of(number: i32) -> Suffix
     ensures { λ r. ⌜ suffixText r ≡ suffix number ⌝ }
 {
@@ -106,7 +107,7 @@ fn suffix_of(number: i32) -> Suffix
     Suffix::Minus((-(number + 1)) as u32 + 1)
 }
 
-// How many bytes that has.
+// The number of bytes that a suffix adds.
 fn suffix_len(s: Suffix) -> usize
     ensures { λ r. ⌜ (r ≡ length (suffixText s)) × (r ≤ 22) ⌝ }
 {
@@ -117,7 +118,7 @@ fn suffix_len(s: Suffix) -> usize
     }
 }
 
-// Writes it into a buffer, from a place on.
+// Writes a suffix to out from place at on. It must fit.
 fn put_suffix(s: Suffix, out: &mut [u8], at: usize)
     requires { ⌜ at + length (suffixText s) ≤ length (now out) ⌝ }
     ensures { λ _. ⌜ now (out .exit) ≡ pasted (now (out .entry)) at (suffixText s) ⌝ }
@@ -136,7 +137,7 @@ fn put_suffix(s: Suffix, out: &mut [u8], at: usize)
     }
 }
 
-// The base text of n bytes at the front of a buffer gets its number behind it.
+// Appends a number to the base text, the first n bytes of out.
 fn append_number(out: &mut [u8], n: usize, number: i32) -> Rendered
     requires { ⌜ n ≤ length (now out) ⌝ }
     ensures { λ r. ⌜ RenderedAnswer (renderedInto (length (now (out .entry))) (rendered (take n (now (out .entry))) number)) (now (out .entry)) (now (out .exit)) r ⌝ }
@@ -157,8 +158,8 @@ fn append_number(out: &mut [u8], n: usize, number: i32) -> Rendered
     Rendered::Length(len)
 }
 
-// The base text at the front of a buffer gets its number behind it, as the Rust's String does. The base is the first n bytes of the
-// buffer, and all of them where it has fewer than n.
+// Appends a number to the base text, as the Rust does to its String. The base is the first n bytes of out, or all of out if it has fewer
+// than n.
 pub fn render_fname(out: &mut [u8], n: usize, number: i32) -> Rendered
     ensures { λ r. ⌜ RenderedAnswer (renderedInto (length (now (out .entry))) (rendered (take n (now (out .entry))) number)) (now (out .entry)) (now (out .exit)) r ⌝ }
 {

@@ -1,4 +1,4 @@
--- What `key_len`, `key_byte` and `has_key` need: a key's bytes by how it is spelled.
+-- Lemmas for `key_len`, `key_byte` and `has_key`: a key's length and bytes, by the recipe that makes it.
 use mathlib.Core.Path.{_≡_, refl, sym, ap, _∙_}
 use mathlib.Core.Bool.{Bool, true, false}
 use mathlib.Core.List.{List, _∷_, _++_}
@@ -6,18 +6,18 @@ use mathlib.Core.Option.{Option}
 use Prim.Native.Char.{code}
 use Prim.Native.Nat.{ℕ, suc, _+_, _-_, _<_, _≤_}
 use native.Mathlib.Omega.{arith}
-use borrow.Author.Tests.{ltb-true, ltb-false}
 use lib.Dec.{ltb}
 use lib.ListN.{length, getD, take, drop, length-append, length-take, length-drop, List·getD-append, List·getD-eq-default}
 use lib.Seq.{take-all, getD-take, getD-drop, getD-append-add, getD-at, length-take-le}
+use borrow.Author.Tests.{ltb-true, ltb-false}
 use Rattle.vrf_path.specs.Text.{same}
-use Rattle.vrf_path.specs.Keys.{defaultPrefix, charactersCore, hasKey, defaultAlias, coreAlias, isThe}
+use Rattle.vrf_path.specs.Keys.{defaultPrefix, charactersCore, hasKey, defaultAlias, coreAlias, keyIs}
 use Rattle.vrf_path.specs.Answers.{keyBytes}
-use Rattle.vrf_path.specs.KeysLaws.{has-by-parts, core-other}
+use Rattle.vrf_path.specs.Laws.Keys.{has-by-parts, core-other}
 use Rattle.vrf_path.specs.declared.Key.{Key}
 use Rattle.vrf_path.specs.declared.Key.the-variants.{Itself, Stripped, Prefixed, Cut, Inserted}
 
--- how long a key is
+-- the length of a key
 module _ (t : List ℕ) {k : Key} where
   pub len-stripped : k ≡ Stripped → {r : ℕ} → r ≡ length t - 9 → r ≡ length (keyBytes t k)
   len-stripped e er = rw (e, length-drop) er
@@ -36,13 +36,13 @@ module _ (t : List ℕ) {k : Key} where
   unfolding charactersCore
   len-inserted e er = rw e (simp length-drop (omega arith))
 
--- behind a first part
+-- the bytes after a first part p
 past : (p t : List ℕ) (i : ℕ) → length p ≤ i → getD (p ++ t) i 0 ≡ getD t (i - length p) 0
 past p t i h =
     let e : i ≡ length p + (i - length p) = omega arith in
     ap (λ (n : ℕ). getD (p ++ t) n 0) e ∙ getD-append-add p t (i - length p) 0
 
--- the bytes of a path with `/` for its `/_Core/`
+-- the bytes of a path with `/` in place of its `/_Core/`
 module _ (t : List ℕ) (at i : ℕ) where
   module _ (h : length t < at) where
     pub cut-past-slash : i ≡ length t → code "/" ≡ getD (keyBytes t (Cut at)) i 0
@@ -69,8 +69,8 @@ module _ (t : List ℕ) (at i : ℕ) where
     pub cut-slash : i ≡ at → code "/" ≡ getD (keyBytes t (Cut at)) i 0
     cut-slash e = sym (getD-at (take at t) (code "/") (drop (at + 7) t) 0 i (length-take-le at t h ∙ sym e))
 
-    pub cut-behind : at ≤ i → (i ≡ at → ⊥) → {r : ℕ} → r ≡ getD t (i + 6) 0 → r ≡ getD (keyBytes t (Cut at)) i 0
-    cut-behind hi e er =
+    pub cut-following : at ≤ i → (i ≡ at → ⊥) → {r : ℕ} → r ≡ getD t (i + 6) 0 → r ≡ getD (keyBytes t (Cut at)) i 0
+    cut-following hi e er =
         er ∙ sym (past (take at t) (code "/" ∷ drop (at + 7) t) i (rw length-take (omega arith))
         ∙ rw (length-take-le at t h, next) (getD-drop (at + 7) t (i - at - 1) 0 ∙ ap (λ (n : ℕ). getD t n 0) place))
       where
@@ -80,7 +80,7 @@ module _ (t : List ℕ) (at i : ℕ) where
         place : at + 7 + (i - at - 1) ≡ i + 6
         place = omega arith
 
--- a key's byte
+-- the bytes of a key
 module _ (t : List ℕ) {k : Key} (i : ℕ) {r : ℕ} where
   pub byte-itself : k ≡ Itself → r ≡ getD t i 0 → r ≡ getD (keyBytes t k) i 0
   byte-itself e er = rw e er
@@ -109,16 +109,16 @@ module _ (t : List ℕ) {k : Key} (i : ℕ) {r : ℕ} where
       let c : i - 23 + 17 ≡ 17 + (i - 23) = omega arith in
       rw e (er ∙ rw c (sym (past charactersCore (drop 17 t) i h ∙ getD-drop 17 t (i - 23) 0)))
 
--- what was compared, and what that says of the keys
+-- the answer of `has_key`, from its comparisons
 module _ (t k : List ℕ) {r : Bool} where
   pub is-path : r ≡ same t k → r ≡ true → true ≡ hasKey t k
   is-path e h = sym (has-by-parts t k ∙ rw (sym e ∙ h))
 
-  module _ {s : Bool} (es : s ≡ same t k) (hs : s ≡ false) {d : Option (List ℕ)} (ed : d ≡ defaultAlias t) (er : r ≡ isThe d k) where
+  module _ {s : Bool} (es : s ≡ same t k) (hs : s ≡ false) {d : Option (List ℕ)} (ed : d ≡ defaultAlias t) (er : r ≡ keyIs d k) where
     pub is-default : r ≡ true → true ≡ hasKey t k
     is-default h = sym (has-by-parts t k ∙ rw (sym es ∙ hs, ← ed, sym er ∙ h))
 
-    pub is-core : r ≡ false → {c : Option (List ℕ)} → c ≡ coreAlias t → {q : Bool} → q ≡ isThe c k → q ≡ hasKey t k
+    pub is-core : r ≡ false → {c : Option (List ℕ)} → c ≡ coreAlias t → {q : Bool} → q ≡ keyIs c k → q ≡ hasKey t k
     is-core h ec eq = sym (has-by-parts t k ∙ rw (sym es ∙ hs, ← ed, sym er ∙ h, ← ec, ← eq))
 
     pub is-none : r ≡ false → (length k + 6 ≡ length t → ⊥) → (length t + 6 ≡ length k → ⊥) → false ≡ hasKey t k

@@ -1,4 +1,4 @@
--- Pure lemmas of the proofs, by subject.
+-- Lemmas that the proofs use, by subject.
 pub mod Texts
 pub mod Keys
 pub mod Stems

@@ -1,5 +1,5 @@
--- The base of a leaf. It is no term of document 01: groups are looked up by the base of their leaf, since the leaves that a name or a stem
--- is tried as share it.
+-- The base of a leaf. Document 01 does not have this term. The book looks groups up by the base of their leaf, because the leaves that a
+-- name or a stem is tried as have one base, except the first leaf of a name that itself ends with such a suffix.
 use mathlib.Core.Bool.{cond}
 use mathlib.Core.List.{List}
 use Prim.Native.Nat.{ℕ, _-_}
@@ -8,14 +8,14 @@ use Rattle.vrf_path.specs.Text.{endsWith}
 use Rattle.vrf_path.specs.Toggle.{classNetCache}
 use Rattle.vrf_path.specs.Stems.{component, underscoreC}
 
--- what a text has before p, where it ends with p; all where it does not
+-- t without its ending p; all of t if it does not end with p
 unfoldable pub cutAt : List ℕ → List ℕ → List ℕ
 cutAt p t = cond (endsWith p t) (take (length t - length p) t) t
 
--- what a class's name has before a closing `Component` or `_C`
+-- the name of a class without a final `Component` or `_C`
 unfoldable pub classBase : List ℕ → List ℕ
 classBase t = cond (endsWith component t) (cutAt component t) (cutAt underscoreC t)
 
--- and what a leaf has, which may close with `_ClassNetCache` besides
+-- a leaf without a final `_ClassNetCache`, and then without a final `Component` or `_C`
 unfoldable pub leafBase : List ℕ → List ℕ
 leafBase l = classBase (cutAt classNetCache l)

@@ -1,4 +1,4 @@
--- Document 01, Keys: a path's keys are itself, its default alias and its core alias.
+-- Document 01, section Keys: a path's keys are itself, its default alias and its core alias.
 use mathlib.Core.Bool.{Bool, false, cond, _||_}
 use mathlib.Core.List.{List, [], _∷_, _++_, Option·toList}
 use mathlib.Core.Option.{Option, none, some}
@@ -33,14 +33,15 @@ unfoldable pub hasSeparator : List ℕ → Bool
 hasSeparator [] = false
 hasSeparator (b ∷ t) = isSeparator b || hasSeparator t
 
--- default alias: without a leading `Default__`; else, if it has none of `/ . :`, with `Default__` before it
+-- default alias: without a leading `Default__`; otherwise, if the path has none of `/ . :`, with `Default__` before it
 unfoldable pub defaultAlias : List ℕ → Option (List ℕ)
 defaultAlias t =
     cond (startsWith defaultPrefix t) (some (drop (length defaultPrefix) t))
     (cond (hasSeparator t) none
     (some (defaultPrefix ++ t)))
 
--- core alias: the first `/_Core/`, at place i, becomes `/`; else a leading `/Game/Characters/` becomes `/Game/Characters/_Core/`; else none
+-- core alias: the first `/_Core/`, at place i, becomes `/`; otherwise a leading `/Game/Characters/` becomes `/Game/Characters/_Core/`;
+-- otherwise none
 unfoldable pub coreAliasAt : List ℕ → Option ℕ → Option (List ℕ)
 coreAliasAt t (some i) = some (take i t ++ (code "/" ∷ drop (i + length coreSegment) t))
 coreAliasAt t none = cond (startsWith charactersRoot t) (some (charactersCore ++ drop (length charactersRoot) t)) none
@@ -48,20 +49,19 @@ coreAliasAt t none = cond (startsWith charactersRoot t) (some (charactersCore ++
 unfoldable pub coreAlias : List ℕ → Option (List ℕ)
 coreAlias t = coreAliasAt t (firstFrom coreSegment 0 t)
 
--- a path's keys: itself, its default alias and its core alias
 unfoldable pub keys : List ℕ → List (List ℕ)
 keys t = t ∷ (Option·toList (defaultAlias t) ++ Option·toList (coreAlias t))
 
--- whether k is one of some texts
+-- whether k is one of the texts
 unfoldable pub isOneOf : List ℕ → List (List ℕ) → Bool
 isOneOf k [] = false
 isOneOf k (t ∷ ts) = same t k || isOneOf k ts
 
--- whether a text is one of a path's keys
+-- whether `key` is one of a path's keys
 unfoldable pub hasKey : List ℕ → List ℕ → Bool
 hasKey path key = isOneOf key (keys path)
 
--- whether a text that may be missing is there and is k
-unfoldable pub isThe : Option (List ℕ) → List ℕ → Bool
-isThe none k = false
-isThe (some t) k = same t k
+-- whether there is a text and it is k
+unfoldable pub keyIs : Option (List ℕ) → List ℕ → Bool
+keyIs none k = false
+keyIs (some t) k = same t k

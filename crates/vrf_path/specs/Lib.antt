@@ -1,4 +1,5 @@
--- Document 01, section Keys, as definitions. Read them in this order.
+-- Document 01, section Keys, and the leaves, toggles and stems of path.rs and resolve.rs: the definitions, in reading order. `Answers`
+-- relates them to the code's answer types.
 pub mod Text
 pub mod Keys
 pub mod Leaf
@@ -6,17 +7,9 @@ pub mod Toggle
 pub mod Stems
 pub mod Base
 pub mod Answers
+-- their examples, computed
 pub mod Examples
-pub mod DefaultExamples
-pub mod CoreExamples
-pub mod LeafExamples
-pub mod ToggleExamples
-pub mod StemsExamples
-pub mod TextLaws
-pub mod KeysLaws
-pub mod LeafLaws
-pub mod ToggleLaws
-pub mod StemsLaws
-pub mod BaseLaws
-pub mod AnswersLaws
-pub mod Determined
+-- definitions for inner contracts
+pub mod Inner
+-- what is proved about these definitions
+pub mod Laws

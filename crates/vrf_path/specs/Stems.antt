@@ -1,4 +1,4 @@
--- The stems that `resolve_cnc_for_instance_name` tries, in its order, and the leaves that it and `unique_leaf_match` try (resolve.rs).
+-- The stems that `resolve_cnc_for_instance_name` tries, in order, and the leaves that it and `unique_leaf_match` try (resolve.rs).
 use mathlib.Core.Bool.{Bool, cond, _&&_}
 use mathlib.Core.List.{List, [], _∷_, _++_}
 use Prim.Native.Char.{code}
@@ -8,7 +8,7 @@ use lib.ListN.{length, getD, take}
 use Rattle.vrf_bitio.specs.Ascii.{ascii}
 use Rattle.vrf_path.specs.Toggle.{classNetCache}
 
--- name cut at each `_` that stands below place n and above place 0, the last one first
+-- the name cut at each `_` below place n and above place 0, the last `_` first
 unfoldable pub cutsBelow : List ℕ → ℕ → List (List ℕ)
 cutsBelow name zero = []
 cutsBelow name (suc zero) = []
@@ -21,7 +21,7 @@ isDigit b = leb (code "0") b && leb b (code "9")
 unfoldable pub isCapital : ℕ → Bool
 isCapital b = leb (code "A") b && leb b (code "Z")
 
--- how long the first n bytes of a name are without their trailing digits
+-- the length of the first n bytes of a name without their trailing digits
 unfoldable pub digitsFrom : List ℕ → ℕ → ℕ
 digitsFrom name zero = zero
 digitsFrom name (suc i) = cond (isDigit (getD name i 0)) (digitsFrom name i) (suc i)
@@ -32,11 +32,11 @@ capitalStems name zero = []
 capitalStems name (suc zero) = []
 capitalStems name (suc (suc i)) = cond (isCapital (getD name (suc i) 0)) (take (suc i) name ∷ []) []
 
--- of the n first bytes, which are all but the trailing digits: these, if some digits went and something is left, and then without a capital
+-- the first n bytes of a name, which are all but its trailing digits, if both parts are non-empty; then these without one trailing capital
 unfoldable pub digitStems : List ℕ → ℕ → List (List ℕ)
 digitStems name n = cond (ltb 0 n && ltb n (length name)) (take n name ∷ capitalStems name n) []
 
--- the name; cut at each `_`; without its trailing digits; without one capital before these
+-- the name; the name cut at each `_`; without its trailing digits; also without one capital before the digits
 unfoldable pub stems : List ℕ → List (List ℕ)
 stems name = name ∷ (cutsBelow name (length name) ++ digitStems name (digitsFrom name (length name)))
 

@@ -12,7 +12,7 @@ unfoldable pub classNetCache : List ℕ
 unfolding ascii
 classNetCache = ascii "_ClassNetCache"
 
--- the suffix removed if present, appended if absent; removed to the empty text it is no key
+-- the suffix removed if the key ends with it, otherwise appended; a key that is only the suffix has no toggle
 unfoldable pub toggle : List ℕ → Option (List ℕ)
 toggle k = cond (endsWith classNetCache k) (nonEmpty (take (length k - length classNetCache) k)) (some (k ++ classNetCache))
 

@@ -1,37 +1,23 @@
-// Path keys, leaves and stems of document 01. Names follow path.rs and resolve.rs.
+// Path keys, leaves and stems of document 01. The function names are those of path.rs and resolve.rs.
 ghost use mathlib.Core.Path.{_≡_};
 ghost use mathlib.Core.Bool.{true, _||_};
 ghost use Prim.Native.Nat.{_+_, _-_, _^_, _<_, _≤_};
 ghost use lib.ListN.{length, getD, drop};
 ghost use Rattle.vrf_path.specs.Text.{same, four, eight, startsWith, endsWith, firstFrom, lastBelow};
-ghost use Rattle.vrf_path.specs.Keys.{isSeparator, hasSeparator, defaultAlias, coreAlias, hasKey, isThe};
+ghost use Rattle.vrf_path.specs.Keys.{isSeparator, hasSeparator, defaultAlias, coreAlias, hasKey, keyIs};
 ghost use Rattle.vrf_path.specs.Stems.{isDigit, isCapital, digitsFrom, digitStems, capitalStems, stems};
 ghost use Rattle.vrf_path.specs.Base.{cutAt, classBase, leafBase};
-ghost use Rattle.vrf_path.specs.Answers.{
-  place,
-  Differ,
-  Front,
-  spelled,
-  defaultKey,
-  coreKey,
-  KeyAnswer,
-  keyBytes,
-  absent,
-  LeafAnswer,
-  ToggleAnswer,
-  StemAnswer,
-  stemsAfter,
-};
+ghost use Rattle.vrf_path.specs.Answers.{Front, spelled, defaultKey, coreKey, KeyAnswer, keyBytes, absent, LeafAnswer, ToggleAnswer, StemAnswer, stemsAfter};
+ghost use Rattle.vrf_path.specs.Inner.Text.{place, Differ};
 
-// A place in a text.
-enum Found {
+enum TextPlace {
     At(usize),
     Nowhere,
 }
 
-// How one of a path's keys is spelled, from the bytes of the path: a key is compared and hashed without being built.
+// One of a path's keys, as the recipe that makes it from the bytes of the path. So a key is compared and hashed without being built.
 pub enum Key {
-    // The path.
+    // The path itself.
     Itself,
     // Without the leading `Default__`.
     Stripped,
@@ -51,21 +37,21 @@ pub enum Leaf {
     Absent,
 }
 
-// A key's `_ClassNetCache` toggle: so many of its first bytes, or the key with the suffix behind it.
+// A key's `_ClassNetCache` toggle: its first n bytes, or the key with the suffix appended.
 pub enum Toggle {
     Stripped(usize),
     Appended,
     Absent,
 }
 
-// By which rule a stem was made: cut at `_`, without the trailing digits, or also without a capital.
+// The rule that made a stem: cut at `_`, without the trailing digits, or also without a capital.
 pub enum Phase {
     Underscore,
     Digits,
     Capital,
 }
 
-// A stem of a name: so many of its first bytes. From `first_stem` by `next_stem` to the end one meets `stems name`, in order.
+// A stem of a name: its first n bytes. `first_stem` and then `next_stem`, until `End`, give `stems name`, in order.
 pub enum Stem {
     At(usize, Phase),
     End,
@@ -78,7 +64,7 @@ fn wide(x: u8) -> u64
     x as u64
 }
 
-// Four bytes from i on as one number, low byte first.
+// The four bytes from i on as one number, low byte first.
 fn four(t: &[u8], i: usize) -> u64
     requires { ⌜ i + 4 ≤ length (now t) ⌝ }
     ensures { λ r. ⌜ (r ≡ four (now (t .entry)) i) × (r < 2 ^ 32) ⌝ }
@@ -86,7 +72,7 @@ fn four(t: &[u8], i: usize) -> u64
     wide(t[i]) + 0x100 * wide(t[i + 1]) + 0x1_0000 * wide(t[i + 2]) + 0x100_0000 * wide(t[i + 3])
 }
 
-// Eight bytes from i on as one number, low byte first: one load.
+// The eight bytes from i on as one number, low byte first. This compiles to one load.
 fn eight(t: &[u8], i: usize) -> u64
     requires { ⌜ i + 8 ≤ length (now t) ⌝ }
     ensures { λ r. ⌜ r ≡ eight (now (t .entry)) i ⌝ }
@@ -94,7 +80,7 @@ fn eight(t: &[u8], i: usize) -> u64
     four(t, i) + 0x1_0000_0000 * four(t, i + 4)
 }
 
-// Whether two texts of one length are the same, byte by byte.
+// Compares two texts of one length byte by byte.
 fn same_bytes(a: &[u8], b: &[u8]) -> bool
     requires { ⌜ length (now a) ≡ length (now b) ⌝ }
     ensures { λ r. ⌜ r ≡ same (now (a .entry)) (now (b .entry)) ⌝ }
@@ -109,7 +95,7 @@ fn same_bytes(a: &[u8], b: &[u8]) -> bool
     true
 }
 
-// Whether eight bytes of two texts, from i on, differ.
+// Whether the eight bytes from i on differ in two texts.
 fn eight_differ(a: &[u8], b: &[u8], i: usize) -> bool
     requires { ⌜ (i + 8 ≤ length (now a)) × (i + 8 ≤ length (now b)) ⌝ }
     ensures { λ r. ⌜ Differ (now (a .entry)) (now (b .entry)) (eight (now (a .entry)) i ≡ eight (now (b .entry)) i) r ⌝ }
@@ -117,7 +103,7 @@ fn eight_differ(a: &[u8], b: &[u8], i: usize) -> bool
     eight(a, i) != eight(b, i)
 }
 
-// Whether 32 bytes of two texts, from i on, differ. All words are compared, with no branch between them.
+// Whether the 32 bytes from i on differ in two texts. All words are compared, with no branch between them.
 fn four_differ(a: &[u8], b: &[u8], i: usize) -> bool
     requires { ⌜ (i + 32 ≤ length (now a)) × (i + 32 ≤ length (now b)) ⌝ }
     ensures { λ r. ⌜ Differ (now (a .entry)) (now (b .entry)) (same (drop i (now (a .entry))) (drop i (now (b .entry))) ≡ same (drop (i + 32) (now (a .entry))) (drop (i + 32) (now (b .entry)))) r ⌝ }
@@ -128,7 +114,7 @@ fn four_differ(a: &[u8], b: &[u8], i: usize) -> bool
         | eight_differ(a, b, i + 24)
 }
 
-// Whether the last 32 bytes of two texts of one length differ, or all if there are fewer: four words, which then overlap.
+// Whether two texts of one length differ in their last 32 bytes, or in any byte if they have fewer. The four words then overlap.
 fn last_differ(a: &[u8], b: &[u8]) -> bool
     requires { ⌜ (length (now a) ≡ length (now b)) × (8 ≤ length (now a)) ⌝ }
     ensures { λ r. ⌜ Differ (now (a .entry)) (now (b .entry)) (same (drop (length (now (a .entry)) - 32) (now (a .entry))) (drop (length (now (a .entry)) - 32) (now (b .entry))) ≡ true) r ⌝ }
@@ -140,7 +126,7 @@ fn last_differ(a: &[u8], b: &[u8]) -> bool
         | eight_differ(a, b, left(n, 32))
 }
 
-// Whether two texts of one length, at least eight bytes, are the same: 32 bytes a turn, and then the last 32.
+// Compares two texts of one length, at least eight bytes: 32 bytes in each turn, and then the last 32.
 fn same_words(a: &[u8], b: &[u8]) -> bool
     requires { ⌜ (length (now a) ≡ length (now b)) × (8 ≤ length (now a)) ⌝ }
     ensures { λ r. ⌜ r ≡ same (now (a .entry)) (now (b .entry)) ⌝ }
@@ -159,7 +145,6 @@ fn same_words(a: &[u8], b: &[u8]) -> bool
     true
 }
 
-// Whether two texts are the same.
 pub fn same(a: &[u8], b: &[u8]) -> bool
     ensures { λ r. ⌜ r ≡ same (now (a .entry)) (now (b .entry)) ⌝ }
 {
@@ -172,7 +157,6 @@ pub fn same(a: &[u8], b: &[u8]) -> bool
     same_words(a, b)
 }
 
-// Whether a text starts with p.
 fn starts_with(text: &[u8], p: &[u8]) -> bool
     ensures { λ r. ⌜ r ≡ startsWith (now (p .entry)) (now (text .entry)) ⌝ }
 {
@@ -183,7 +167,6 @@ fn starts_with(text: &[u8], p: &[u8]) -> bool
     same(&text[..n], p)
 }
 
-// Whether a text ends with p.
 fn ends_with(text: &[u8], p: &[u8]) -> bool
     ensures { λ r. ⌜ r ≡ endsWith (now (p .entry)) (now (text .entry)) ⌝ }
 {
@@ -194,8 +177,8 @@ fn ends_with(text: &[u8], p: &[u8]) -> bool
     same(&text[from..], p)
 }
 
-// The first place at which a text has p, of at least a byte: only where its first byte stands are the others looked at.
-fn find(text: &[u8], p: &[u8]) -> Found
+// The first place at which a text has p, which is not empty. The whole of p is compared only where its first byte is found.
+fn find(text: &[u8], p: &[u8]) -> TextPlace
     requires { ⌜ 0 < length (now p) ⌝ }
     ensures { λ r. ⌜ place r ≡ firstFrom (now (p .entry)) 0 (now (text .entry)) ⌝ }
 {
@@ -204,16 +187,16 @@ fn find(text: &[u8], p: &[u8]) -> Found
     while i < text.len() {
         if text[i] == first {
             if starts_with(&text[i..], p) {
-                return Found::At(i);
+                return TextPlace::At(i);
             }
         }
         i += 1;
     }
-    Found::Nowhere
+    TextPlace::Nowhere
 }
 
 // The last place below n at which a text has the byte b.
-fn rfind(text: &[u8], b: u8, n: usize) -> Found
+fn rfind(text: &[u8], b: u8, n: usize) -> TextPlace
     requires { ⌜ n ≤ length (now text) ⌝ }
     ensures { λ r. ⌜ place r ≡ lastBelow b (now (text .entry)) n ⌝ }
 {
@@ -221,10 +204,10 @@ fn rfind(text: &[u8], b: u8, n: usize) -> Found
     while 0 < i {
         i -= 1;
         if text[i] == b {
-            return Found::At(i);
+            return TextPlace::At(i);
         }
     }
-    Found::Nowhere
+    TextPlace::Nowhere
 }
 
 // One of `/ . :`.
@@ -234,7 +217,7 @@ fn is_separator(b: u8) -> bool
     (b == b'/') | ((b == b'.') | (b == b':'))
 }
 
-// Whether one of four bytes, from i on, is a separator.
+// Whether one of the four bytes from i on is a separator.
 fn four_separators(t: &[u8], i: usize) -> bool
     requires { ⌜ i + 4 ≤ length (now t) ⌝ }
     ensures { λ r. ⌜ hasSeparator (drop i (now (t .entry))) ≡ (r || hasSeparator (drop (i + 4) (now (t .entry)))) ⌝ }
@@ -242,7 +225,7 @@ fn four_separators(t: &[u8], i: usize) -> bool
     is_separator(t[i]) | is_separator(t[i + 1]) | is_separator(t[i + 2]) | is_separator(t[i + 3])
 }
 
-// Of eight bytes. All are tested, with no branch between them: one load and a few comparisons.
+// Whether one of the eight bytes from i on is a separator. All are tested, with no branch between them: one load and a few comparisons.
 fn eight_separators(t: &[u8], i: usize) -> bool
     requires { ⌜ i + 8 ≤ length (now t) ⌝ }
     ensures { λ r. ⌜ hasSeparator (drop i (now (t .entry))) ≡ (r || hasSeparator (drop (i + 8) (now (t .entry)))) ⌝ }
@@ -250,7 +233,7 @@ fn eight_separators(t: &[u8], i: usize) -> bool
     four_separators(t, i) | four_separators(t, i + 4)
 }
 
-// Whether a text has a separator, byte by byte.
+// Whether a text has a separator, tested byte by byte.
 fn few_separators(text: &[u8]) -> bool
     ensures { λ r. ⌜ r ≡ hasSeparator (now (text .entry)) ⌝ }
 {
@@ -264,7 +247,7 @@ fn few_separators(text: &[u8]) -> bool
     false
 }
 
-// Whether the last 16 bytes of a text have one, or all if there are fewer: two words, which then overlap.
+// Whether the last 16 bytes of a text have a separator, or any byte if there are fewer. The two words then overlap.
 fn last_separators(t: &[u8]) -> bool
     requires { ⌜ 8 ≤ length (now t) ⌝ }
     ensures { λ r. ⌜ hasSeparator (drop (length (now (t .entry)) - 16) (now (t .entry))) ≡ r ⌝ }
@@ -273,7 +256,7 @@ fn last_separators(t: &[u8]) -> bool
     eight_separators(t, left(n, 16)) | eight_separators(t, n - 8)
 }
 
-// Whether a text of at least eight bytes has a separator: 16 bytes a turn, and then the last 16.
+// Whether a text of at least eight bytes has a separator: 16 bytes in each turn, and then the last 16.
 fn many_separators(text: &[u8]) -> bool
     requires { ⌜ 8 ≤ length (now text) ⌝ }
     ensures { λ r. ⌜ r ≡ hasSeparator (now (text .entry)) ⌝ }
@@ -289,7 +272,7 @@ fn many_separators(text: &[u8]) -> bool
     last_separators(text)
 }
 
-// Whether a text is a qualified path and no bare name.
+// Whether a text is a qualified path, not a bare name.
 pub fn has_path_separator(text: &[u8]) -> bool
     ensures { λ r. ⌜ r ≡ hasSeparator (now (text .entry)) ⌝ }
 {
@@ -299,7 +282,7 @@ pub fn has_path_separator(text: &[u8]) -> bool
     many_separators(text)
 }
 
-// The default alias: the `Default__` prefix toggled.
+// The default alias: a leading `Default__` removed, or added to a bare name.
 pub fn default_object_alias(path: &[u8]) -> Key
     ensures { λ r. ⌜ KeyAnswer (now (path .entry)) defaultAlias defaultKey r ⌝ }
 {
@@ -312,13 +295,13 @@ pub fn default_object_alias(path: &[u8]) -> Key
     Key::Prefixed
 }
 
-// The core alias: the first `/_Core/` as `/`, or `_Core/` put in after a leading `/Game/Characters/`.
+// The core alias: the first `/_Core/` becomes `/`, or `_Core/` is inserted after a leading `/Game/Characters/`.
 pub fn core_alias(path: &[u8]) -> Key
     ensures { λ r. ⌜ KeyAnswer (now (path .entry)) coreAlias coreKey r ⌝ }
 {
     match find(path, b"/_Core/") {
-        Found::At(i) => Key::Cut(i),
-        Found::Nowhere => {
+        TextPlace::At(i) => Key::Cut(i),
+        TextPlace::Nowhere => {
             if starts_with(path, b"/Game/Characters/") {
                 return Key::Inserted;
             }
@@ -327,7 +310,6 @@ pub fn core_alias(path: &[u8]) -> Key
     }
 }
 
-// Whether there is no such key.
 pub fn is_absent(key: Key) -> bool
     ensures { λ r. ⌜ r ≡ absent key ⌝ }
 {
@@ -341,7 +323,7 @@ pub fn is_absent(key: Key) -> bool
     }
 }
 
-// n less k, and 0 where k is more.
+// n - k, or 0 if k is larger.
 pub fn left(n: usize, k: usize) -> usize
     ensures { λ r. ⌜ r ≡ n - k ⌝ }
 {
@@ -355,8 +337,8 @@ fn byte_at(text: &[u8], i: usize) -> u8
     if i < text.len() { text[i] } else { 0 }
 }
 
-// The byte a few places behind i, 0 past the end.
-fn byte_behind(text: &[u8], i: usize, skip: usize) -> u8
+// The byte `skip` places after i, 0 past the end.
+fn byte_after(text: &[u8], i: usize, skip: usize) -> u8
     requires { ⌜ skip < 32 ⌝ }
     ensures { λ r. ⌜ r ≡ getD (now (text .entry)) (i + skip) 0 ⌝ }
 {
@@ -366,7 +348,7 @@ fn byte_behind(text: &[u8], i: usize, skip: usize) -> u8
     0
 }
 
-// How many bytes a path's key has.
+// The number of bytes of a path's key.
 pub fn key_len(path: &[u8], key: Key) -> usize
     ensures { λ r. ⌜ r ≡ length (keyBytes (now (path .entry)) key) ⌝ }
 {
@@ -386,7 +368,7 @@ pub fn key_len(path: &[u8], key: Key) -> usize
     }
 }
 
-// The byte at i of a path with `/` for its `/_Core/` at this place.
+// Byte i of a path with `/` in place of the `/_Core/` at place `at`.
 fn cut_byte(path: &[u8], at: usize, i: usize) -> u8
     ensures { λ r. ⌜ r ≡ getD (keyBytes (now (path .entry)) (Key.Cut at)) i 0 ⌝ }
 {
@@ -400,16 +382,16 @@ fn cut_byte(path: &[u8], at: usize, i: usize) -> u8
     if i == at {
         return b'/';
     }
-    byte_behind(path, i, 6)
+    byte_after(path, i, 6)
 }
 
-// The byte at i of a path's key, 0 past its end.
+// Byte i of a path's key, 0 past its end.
 pub fn key_byte(path: &[u8], key: Key, i: usize) -> u8
     ensures { λ r. ⌜ r ≡ getD (keyBytes (now (path .entry)) key) i 0 ⌝ }
 {
     match key {
         Key::Itself => byte_at(path, i),
-        Key::Stripped => byte_behind(path, i, 9),
+        Key::Stripped => byte_after(path, i, 9),
         Key::Prefixed => {
             if i < 9 {
                 return byte_at(b"Default__", i);
@@ -421,7 +403,7 @@ pub fn key_byte(path: &[u8], key: Key, i: usize) -> u8
             if i < 23 {
                 return byte_at(b"/Game/Characters/_Core/", i);
             }
-            byte_behind(path, i - 23, 17)
+            byte_after(path, i - 23, 17)
         }
         Key::Absent => 0,
     }
@@ -444,9 +426,9 @@ fn same_key(path: &[u8], key: Key, text: &[u8]) -> bool
     true
 }
 
-// Whether a path's key is there and is this text.
+// Whether the path has this key and it is this text.
 pub fn is_key(path: &[u8], key: Key, text: &[u8]) -> bool
-    ensures { λ r. ⌜ r ≡ isThe (spelled (now (path .entry)) key) (now (text .entry)) ⌝ }
+    ensures { λ r. ⌜ r ≡ keyIs (spelled (now (path .entry)) key) (now (text .entry)) ⌝ }
 {
     if is_absent(key) {
         return false;
@@ -473,14 +455,14 @@ pub fn has_key(path: &[u8], text: &[u8]) -> bool
     false
 }
 
-// Where a path's leaf starts, the non-empty text after its last dot.
+// The place where a path's leaf starts: the non-empty text after its last dot.
 pub fn leaf_at(path: &[u8]) -> Leaf
     ensures { λ r. ⌜ LeafAnswer (now (path .entry)) r ⌝ }
 {
     let n = path.len();
     match rfind(path, b'.', n) {
-        Found::Nowhere => Leaf::Absent,
-        Found::At(i) => {
+        TextPlace::Nowhere => Leaf::Absent,
+        TextPlace::At(i) => {
             if i + 1 < n {
                 return Leaf::At(i + 1);
             }
@@ -489,8 +471,8 @@ pub fn leaf_at(path: &[u8]) -> Leaf
     }
 }
 
-// A key's `_ClassNetCache` toggle: the suffix removed if present, appended if absent. Removed to nothing it is no key.
-pub fn strip_class_net_cache(key: &[u8]) -> Toggle
+// A key's `_ClassNetCache` toggle: the suffix removed if present, otherwise appended. A key that is only the suffix has no toggle.
+pub fn toggle_class_net_cache(key: &[u8]) -> Toggle
     ensures { λ r. ⌜ ToggleAnswer (now (key .entry)) r ⌝ }
 {
     if ends_with(key, b"_ClassNetCache") {
@@ -502,7 +484,7 @@ pub fn strip_class_net_cache(key: &[u8]) -> Toggle
     Toggle::Appended
 }
 
-// The last byte of a text, 0 where it is empty.
+// The last byte of a text, 0 if it is empty.
 fn last_byte(t: &[u8]) -> u8
     ensures { λ r. ⌜ r ≡ getD (now (t .entry)) (length (now (t .entry)) - 1) 0 ⌝ }
 {
@@ -512,7 +494,7 @@ fn last_byte(t: &[u8]) -> u8
     t[t.len() - 1]
 }
 
-// How many bytes a text has before p, where it ends with p; all where it does not.
+// The length of t without its ending p; all of t if it does not end with p.
 fn cut_at(t: &[u8], p: &[u8]) -> usize
     ensures { λ r. ⌜ Front (cutAt (now (p .entry)) (now (t .entry))) (now (t .entry)) r ⌝ }
 {
@@ -522,7 +504,7 @@ fn cut_at(t: &[u8], p: &[u8]) -> usize
     t.len()
 }
 
-// How many bytes of a class's name stand before a closing `Component` or `_C`: its base. The last byte tells which of them it can be.
+// The length of a class's name without a final `Component` or `_C`: its base. The last byte decides which of them is possible.
 pub fn class_base(t: &[u8]) -> usize
     ensures { λ r. ⌜ Front (classBase (now (t .entry))) (now (t .entry)) r ⌝ }
 {
@@ -533,8 +515,8 @@ pub fn class_base(t: &[u8]) -> usize
     }
 }
 
-// How many bytes of a leaf are its base. The leaves that a name is tried as have one base, the name, but for the first where it has such
-// an end itself.
+// The length of a leaf's base. All the leaves that a name is tried as have the name as their base. The only exception is the first leaf of
+// a name that itself ends with one of these suffixes.
 pub fn leaf_base(l: &[u8]) -> usize
     ensures { λ r. ⌜ Front (leafBase (now (l .entry))) (now (l .entry)) r ⌝ }
 {
@@ -565,7 +547,7 @@ fn is_capital(b: u8) -> bool
     b <= b'Z'
 }
 
-// How many bytes a name has before its trailing digits.
+// The length of a name without its trailing digits.
 fn digits_from(name: &[u8]) -> usize
     ensures { λ r. ⌜ (r ≡ digitsFrom (now (name .entry)) (length (now (name .entry)))) × (r ≤ length (now (name .entry))) ⌝ }
 {
@@ -579,7 +561,7 @@ fn digits_from(name: &[u8]) -> usize
     0
 }
 
-// The stem without the trailing digits, if some went and something is left.
+// The stem without the trailing digits, if there are some and something is left.
 fn digit_stem(name: &[u8]) -> Stem
     ensures { λ r. ⌜ StemAnswer (now (name .entry)) (digitStems (now (name .entry)) (digitsFrom (now (name .entry)) (length (now (name .entry))))) r ⌝ }
 {
@@ -609,14 +591,14 @@ fn capital_stem(name: &[u8], n: usize) -> Stem
     Stem::End
 }
 
-// The stem cut at the last `_` below place n and above place 0, or else the first of the stems that follow the cuts.
+// The stem cut at the last `_` below place n and above place 0. If there is none, the first of the stems that come after the cuts.
 fn cut_stem(name: &[u8], n: usize) -> Stem
     requires { ⌜ n ≤ length (now name) ⌝ }
     ensures { λ r. ⌜ StemAnswer (now (name .entry)) (stemsAfter (now (name .entry)) n Phase.Underscore) r ⌝ }
 {
     match rfind(name, b'_', n) {
-        Found::Nowhere => digit_stem(name),
-        Found::At(i) => {
+        TextPlace::Nowhere => digit_stem(name),
+        TextPlace::At(i) => {
             if 0 < i {
                 return Stem::At(i, Phase::Underscore);
             }
@@ -625,14 +607,14 @@ fn cut_stem(name: &[u8], n: usize) -> Stem
     }
 }
 
-// The first stem of a name: the name.
+// The first stem of a name is the whole name.
 pub fn first_stem(name: &[u8]) -> Stem
     ensures { λ r. ⌜ StemAnswer (now (name .entry)) (stems (now (name .entry))) r ⌝ }
 {
     Stem::At(name.len(), Phase::Underscore)
 }
 
-// The stem that follows the one of so many bytes, made by this rule.
+// The stem after the one of len bytes that this rule made.
 pub fn next_stem(name: &[u8], len: usize, phase: Phase) -> Stem
     ensures { λ r. ⌜ StemAnswer (now (name .entry)) (stemsAfter (now (name .entry)) len phase) r ⌝ }
 {

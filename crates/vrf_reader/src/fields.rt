@@ -1,5 +1,5 @@
-// read_net_field_exports: groups are declared or referred to, and fields are set on them, export after export.
-use crate::Moved;
+// `read_net_field_exports`: each export declares a group or refers to one, and may set a field on it.
+use crate::Advanced;
 use crate::names::read_fname;
 use crate::names::read_text;
 use vrf_bitio::Byte;
@@ -18,36 +18,35 @@ use vrf_table::Entry;
 use vrf_text::Text;
 ghost use Prim.Native.Nat.{_≤_};
 ghost use lib.ListN.{length};
-ghost use Rattle.vrf_model.specs.Intake.{times};
+ghost use Rattle.vrf_model.specs.Parser.{times};
 ghost use Rattle.vrf_model.specs.Runs.{declaredGroup, groupOf, exportedField, exportEntry, fieldsRun};
-ghost use Rattle.vrf_store.specs.Good.{Good};
-ghost use Rattle.vrf_reader.specs.Goes.{Reads, moved, valued};
-ghost use Rattle.vrf_reader.specs.Fields.{fieldRead, fieldOf};
+ghost use Rattle.vrf_store.specs.Inner.WellFormed.{WellFormed};
+ghost use Rattle.vrf_reader.specs.Inner.Simulates.{Refines, cursorOutcome, wordOutcome};
+ghost use Rattle.vrf_reader.specs.Inner.Fields.{fieldRead, fieldOf};
 
-// A group has at most this many slots.
 const MAX_SLOTS: u32 = 65536;
 
-// A field behind its handle, in an export and in a block: checksum and name. One that finds no slot stops no reader.
+// A field after its handle, in an export and in a block: checksum and name. A field that is not placed does not stop the reader.
 pub fn named_field(
     s: &[u8],
     c: Cursor,
     m: &mut [u8],
-    room: &mut [u8],
+    scratch: &mut [u8],
     index: u32,
     handle: u32,
-) -> Moved
-    requires { ⌜ Good (now m) × (4096 ≤ length (now room)) ⌝ }
-    ensures { λ r. ⌜ Reads (now (s .entry)) (fieldRead index handle) c (now (m .entry)) (now (m .exit)) (moved r) ⌝ }
+) -> Advanced
+    requires { ⌜ WellFormed (now m) × (4096 ≤ length (now scratch)) ⌝ }
+    ensures { λ r. ⌜ Refines (now (s .entry)) (fieldRead index handle) c (now (m .entry)) (now (m .exit)) (cursorOutcome r) ⌝ }
 {
     match c.read_u32(s) {
-        Word::Refused(r) => Moved::Refused(r),
-        Word::Value(checksum, next) => match read_fname(s, next, room) {
-            Text::Refused(r) => Moved::Refused(r),
+        Word::Refused(r) => Advanced::Refused(r),
+        Word::Value(checksum, next) => match read_fname(s, next, scratch) {
+            Text::Refused(r) => Advanced::Refused(r),
             Text::Read(n, end) => {
-                match set_field_on_group(m, index, handle, checksum, &room[..n as usize]) {
-                    Placed::Refused(r) => Moved::Refused(r),
-                    Placed::Placed => Moved::To(end),
-                    Placed::NotPlaced => Moved::To(end),
+                match set_field_on_group(m, index, handle, checksum, &scratch[..n as usize]) {
+                    Placed::Refused(r) => Advanced::Refused(r),
+                    Placed::Placed => Advanced::To(end),
+                    Placed::NotPlaced => Advanced::To(end),
                 }
             }
         },
@@ -55,76 +54,83 @@ pub fn named_field(
 }
 
 // An exported field: handle, checksum, name.
-fn exported_field(s: &[u8], c: Cursor, m: &mut [u8], room: &mut [u8], index: u32) -> Moved
-    requires { ⌜ Good (now m) × (4096 ≤ length (now room)) ⌝ }
-    ensures { λ r. ⌜ Reads (now (s .entry)) (exportedField index) c (now (m .entry)) (now (m .exit)) (moved r) ⌝ }
+fn exported_field(s: &[u8], c: Cursor, m: &mut [u8], scratch: &mut [u8], index: u32) -> Advanced
+    requires { ⌜ WellFormed (now m) × (4096 ≤ length (now scratch)) ⌝ }
+    ensures { λ r. ⌜ Refines (now (s .entry)) (exportedField index) c (now (m .entry)) (now (m .exit)) (cursorOutcome r) ⌝ }
 {
     match c.read_int_packed(s) {
-        Word::Refused(r) => Moved::Refused(r),
-        Word::Value(handle, next) => named_field(s, next, m, room, index, handle),
+        Word::Refused(r) => Advanced::Refused(r),
+        Word::Value(handle, next) => named_field(s, next, m, scratch, index, handle),
     }
 }
 
-// What follows an export's group: a field where the byte is not 0.
-fn field_of(s: &[u8], c: Cursor, m: &mut [u8], room: &mut [u8], index: u32) -> Moved
-    requires { ⌜ Good (now m) × (4096 ≤ length (now room)) ⌝ }
-    ensures { λ r. ⌜ Reads (now (s .entry)) (fieldOf index) c (now (m .entry)) (now (m .exit)) (moved r) ⌝ }
+// What follows an export's group: a field if the byte is not 0.
+fn field_of(s: &[u8], c: Cursor, m: &mut [u8], scratch: &mut [u8], index: u32) -> Advanced
+    requires { ⌜ WellFormed (now m) × (4096 ≤ length (now scratch)) ⌝ }
+    ensures { λ r. ⌜ Refines (now (s .entry)) (fieldOf index) c (now (m .entry)) (now (m .exit)) (cursorOutcome r) ⌝ }
 {
     match c.read_u8(s) {
-        Byte::Refused(r) => Moved::Refused(r),
+        Byte::Refused(r) => Advanced::Refused(r),
         Byte::Value(has_field, next) => {
             if has_field == 0 {
-                return Moved::To(next);
+                return Advanced::To(next);
             }
-            exported_field(s, next, m, room, index)
+            exported_field(s, next, m, scratch, index)
         }
     }
 }
 
-// A group declared in the run: path and slots, 22 above 65,536, and then the adding.
-fn declared_group(s: &[u8], c: Cursor, m: &mut [u8], room: &mut [u8], index: u32) -> Moved
-    requires { ⌜ Good (now m) × (4096 ≤ length (now room)) ⌝ }
-    ensures { λ r. ⌜ Reads (now (s .entry)) (declaredGroup index) c (now (m .entry)) (now (m .exit)) (moved r) ⌝ }
+// A group that the run declares: path and slots; 22 above 65,536.
+fn declared_group(s: &[u8], c: Cursor, m: &mut [u8], scratch: &mut [u8], index: u32) -> Advanced
+    requires { ⌜ WellFormed (now m) × (4096 ≤ length (now scratch)) ⌝ }
+    ensures { λ r. ⌜ Refines (now (s .entry)) (declaredGroup index) c (now (m .entry)) (now (m .exit)) (cursorOutcome r) ⌝ }
 {
-    match read_text(s, c, room) {
-        Text::Refused(r) => Moved::Refused(r),
+    match read_text(s, c, scratch) {
+        Text::Refused(r) => Advanced::Refused(r),
         Text::Read(n, next) => match next.read_int_packed(s) {
-            Word::Refused(r) => Moved::Refused(r),
+            Word::Refused(r) => Advanced::Refused(r),
             Word::Value(slots, end) => {
                 if slots > MAX_SLOTS {
-                    return Moved::Refused(Refusal {
+                    return Advanced::Refused(Refusal {
                         number: TOO_MANY_SLOTS,
                         a: slots as u64,
                         b: 0,
                     });
                 }
-                match add_export_group(m, &room[..n as usize], index, slots) {
-                    Added::Refused(r) => Moved::Refused(r),
-                    Added::At(_) => Moved::To(end),
+                match add_export_group(m, &scratch[..n as usize], index, slots) {
+                    Added::Refused(r) => Advanced::Refused(r),
+                    Added::At(_) => Advanced::To(end),
                 }
             }
         },
     }
 }
 
-// The flag: 1 declares a group, 0 refers to one that the book has, else 20; any other flag is 21.
-fn group_of(s: &[u8], c: Cursor, m: &mut [u8], room: &mut [u8], index: u32, flag: u32) -> Moved
-    requires { ⌜ Good (now m) × (4096 ≤ length (now room)) ⌝ }
-    ensures { λ r. ⌜ Reads (now (s .entry)) (groupOf index flag) c (now (m .entry)) (now (m .exit)) (moved r) ⌝ }
+// Flag 1 declares a group. Flag 0 refers to a group that the book has; 20 if it has none. Any other flag is 21.
+fn group_of(
+    s: &[u8],
+    c: Cursor,
+    m: &mut [u8],
+    scratch: &mut [u8],
+    index: u32,
+    flag: u32,
+) -> Advanced
+    requires { ⌜ WellFormed (now m) × (4096 ≤ length (now scratch)) ⌝ }
+    ensures { λ r. ⌜ Refines (now (s .entry)) (groupOf index flag) c (now (m .entry)) (now (m .exit)) (cursorOutcome r) ⌝ }
 {
     if flag == 1 {
-        return declared_group(s, c, m, room, index);
+        return declared_group(s, c, m, scratch, index);
     }
     if flag != 0 {
-        return Moved::Refused(Refusal {
+        return Advanced::Refused(Refusal {
             number: BAD_EXPORTED_FLAG,
             a: index as u64,
             b: flag as u64,
         });
     }
     match find_index(m, index) {
-        Entry::At(_) => Moved::To(c),
-        Entry::Nowhere => Moved::Refused(Refusal {
+        Entry::At(_) => Advanced::To(c),
+        Entry::Nowhere => Advanced::Refused(Refusal {
             number: UNKNOWN_PATH_INDEX,
             a: index as u64,
             b: 0,
@@ -132,50 +138,49 @@ fn group_of(s: &[u8], c: Cursor, m: &mut [u8], room: &mut [u8], index: u32, flag
     }
 }
 
-// One export: index, flag, its group, and its field.
-fn export_entry(s: &[u8], c: Cursor, m: &mut [u8], room: &mut [u8]) -> Moved
-    requires { ⌜ Good (now m) × (4096 ≤ length (now room)) ⌝ }
-    ensures { λ r. ⌜ Reads (now (s .entry)) exportEntry c (now (m .entry)) (now (m .exit)) (moved r) ⌝ }
+// One export: index, flag, group, field.
+fn export_entry(s: &[u8], c: Cursor, m: &mut [u8], scratch: &mut [u8]) -> Advanced
+    requires { ⌜ WellFormed (now m) × (4096 ≤ length (now scratch)) ⌝ }
+    ensures { λ r. ⌜ Refines (now (s .entry)) exportEntry c (now (m .entry)) (now (m .exit)) (cursorOutcome r) ⌝ }
 {
     match c.read_int_packed(s) {
-        Word::Refused(r) => Moved::Refused(r),
+        Word::Refused(r) => Advanced::Refused(r),
         Word::Value(index, at_flag) => match at_flag.read_int_packed(s) {
-            Word::Refused(r) => Moved::Refused(r),
-            Word::Value(flag, at_group) => match group_of(s, at_group, m, room, index, flag) {
-                Moved::Refused(r) => Moved::Refused(r),
-                Moved::To(at_field) => field_of(s, at_field, m, room, index),
+            Word::Refused(r) => Advanced::Refused(r),
+            Word::Value(flag, at_group) => match group_of(s, at_group, m, scratch, index, flag) {
+                Advanced::Refused(r) => Advanced::Refused(r),
+                Advanced::To(at_field) => field_of(s, at_field, m, scratch, index),
             },
         },
     }
 }
 
-// So many exports, one after the other.
-fn export_entries(s: &[u8], c: Cursor, m: &mut [u8], room: &mut [u8], n: u32) -> Moved
-    requires { ⌜ Good (now m) × (4096 ≤ length (now room)) ⌝ }
-    ensures { λ r. ⌜ Reads (now (s .entry)) (times n exportEntry) c (now (m .entry)) (now (m .exit)) (moved r) ⌝ }
+fn export_entries(s: &[u8], c: Cursor, m: &mut [u8], scratch: &mut [u8], n: u32) -> Advanced
+    requires { ⌜ WellFormed (now m) × (4096 ≤ length (now scratch)) ⌝ }
+    ensures { λ r. ⌜ Refines (now (s .entry)) (times n exportEntry) c (now (m .entry)) (now (m .exit)) (cursorOutcome r) ⌝ }
 {
     let mut at = c;
     let mut i: u32 = 0;
     while i < n {
-        match export_entry(s, at, m, room) {
-            Moved::Refused(r) => return Moved::Refused(r),
-            Moved::To(next) => at = next,
+        match export_entry(s, at, m, scratch) {
+            Advanced::Refused(r) => return Advanced::Refused(r),
+            Advanced::To(next) => at = next,
         }
         i += 1;
     }
-    Moved::To(at)
+    Advanced::To(at)
 }
 
-// A fields run answers its count. What it took before a refused step stays in the book.
-pub fn read_net_field_exports(s: &[u8], c: Cursor, m: &mut [u8], room: &mut [u8]) -> Word
-    requires { ⌜ Good (now m) × (4096 ≤ length (now room)) ⌝ }
-    ensures { λ r. ⌜ Reads (now (s .entry)) fieldsRun c (now (m .entry)) (now (m .exit)) (valued r) ⌝ }
+// Answers the count of exports. A refused run leaves all it took before the refused step.
+pub fn read_net_field_exports(s: &[u8], c: Cursor, m: &mut [u8], scratch: &mut [u8]) -> Word
+    requires { ⌜ WellFormed (now m) × (4096 ≤ length (now scratch)) ⌝ }
+    ensures { λ r. ⌜ Refines (now (s .entry)) fieldsRun c (now (m .entry)) (now (m .exit)) (wordOutcome r) ⌝ }
 {
     match c.read_int_packed(s) {
         Word::Refused(r) => Word::Refused(r),
-        Word::Value(n, next) => match export_entries(s, next, m, room, n) {
-            Moved::Refused(r) => Word::Refused(r),
-            Moved::To(end) => Word::Value(n, end),
+        Word::Value(n, next) => match export_entries(s, next, m, scratch, n) {
+            Advanced::Refused(r) => Word::Refused(r),
+            Advanced::To(end) => Word::Value(n, end),
         },
     }
 }

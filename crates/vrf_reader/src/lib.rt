@@ -1,4 +1,4 @@
-// Readers of export runs and objects (reader.rs) over a good memory.
+// Readers of export runs and objects (reader.rs), on a well-formed memory.
 pub mod fields;
 pub mod guids;
 pub mod names;
@@ -7,8 +7,8 @@ pub mod objects;
 use vrf_bitio::Cursor;
 use vrf_bitio::Refusal;
 
-// A step of a run: the cursor behind it, or a refusal.
-pub enum Moved {
+// The end of one part of a run: the cursor after it, or a refusal.
+pub enum Advanced {
     To(Cursor),
     Refused(Refusal),
 }

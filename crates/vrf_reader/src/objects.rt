@@ -1,5 +1,5 @@
-// load_object: an object and, inside it, its outer objects, which are recorded first.
-use crate::Moved;
+// `load_object`: an object and its outer objects, which are recorded first.
+use crate::Advanced;
 use crate::names::read_text;
 use vrf_bitio::Byte;
 use vrf_bitio::Cursor;
@@ -12,15 +12,15 @@ use vrf_text::Text;
 ghost use Prim.Native.Nat.{_≤_};
 ghost use lib.ListN.{length};
 ghost use Rattle.vrf_model.specs.Runs.{flagsOf, skipChecksum, object};
-ghost use Rattle.vrf_store.specs.Good.{Good};
-ghost use Rattle.vrf_reader.specs.Goes.{Reads, ReadsOnly, moved, byted, valued};
-ghost use Rattle.vrf_reader.specs.Objects.{HeadOf, recorded};
+ghost use Rattle.vrf_store.specs.Inner.WellFormed.{WellFormed};
+ghost use Rattle.vrf_reader.specs.Inner.Simulates.{Refines, RefinesReading, cursorOutcome, byteOutcome, wordOutcome};
+ghost use Rattle.vrf_reader.specs.Inner.Objects.{ObjectHeadOf, recorded};
 
-// At this depth an object is refused.
+// At this depth or more an object is refused.
 pub const MAX_NET_GUID_RECURSION: u32 = 16;
 
-// An object up to its flags: its GUID where it ends there, its GUID and its flags where a path follows.
-enum Head {
+// An object up to its flags. `Ends`: its GUID, if nothing follows. `Path`: its GUID and flags, if a path follows.
+enum ObjectHead {
     Ends(u32, Cursor),
     Path(u32, u8, Cursor),
     Refused(Refusal),
@@ -28,7 +28,7 @@ enum Head {
 
 // Flags are read when exporting or when the GUID is 1.
 fn read_flags(s: &[u8], c: Cursor, exporting: bool, guid: u32) -> Byte
-    ensures { λ r. ⌜ ReadsOnly (now (s .entry)) (flagsOf exporting guid) c (byted r) ⌝ }
+    ensures { λ r. ⌜ RefinesReading (now (s .entry)) (flagsOf exporting guid) c (byteOutcome r) ⌝ }
 {
     if exporting || guid == 1 {
         return c.read_u8(s);
@@ -36,60 +36,60 @@ fn read_flags(s: &[u8], c: Cursor, exporting: bool, guid: u32) -> Byte
     Byte::Value(0, c)
 }
 
-// The GUID and its flags: GUID 0 ends a chain with nothing more read, and bit 0 has a path.
-fn read_head(s: &[u8], c: Cursor, exporting: bool) -> Head
-    ensures { λ r. ⌜ HeadOf (now (s .entry)) exporting c r ⌝ }
+// GUID 0 ends a chain with nothing more read. Bit 0 of the flags has a path.
+fn read_head(s: &[u8], c: Cursor, exporting: bool) -> ObjectHead
+    ensures { λ r. ⌜ ObjectHeadOf (now (s .entry)) exporting c r ⌝ }
 {
     match c.read_int_packed(s) {
-        Word::Refused(r) => Head::Refused(r),
+        Word::Refused(r) => ObjectHead::Refused(r),
         Word::Value(guid, next) => {
             if guid == 0 {
-                return Head::Ends(0, next);
+                return ObjectHead::Ends(0, next);
             }
             match read_flags(s, next, exporting, guid) {
-                Byte::Refused(r) => Head::Refused(r),
+                Byte::Refused(r) => ObjectHead::Refused(r),
                 Byte::Value(flags, at) => {
                     if flags % 2 == 1 {
-                        return Head::Path(guid, flags, at);
+                        return ObjectHead::Path(guid, flags, at);
                     }
-                    Head::Ends(guid, at)
+                    ObjectHead::Ends(guid, at)
                 }
             }
         }
     }
 }
 
-// Bit 2 of the flags: a checksum, which is read after a path and not kept.
-fn skip_checksum(s: &[u8], c: Cursor, flags: u8) -> Moved
-    ensures { λ r. ⌜ ReadsOnly (now (s .entry)) (skipChecksum flags) c (moved r) ⌝ }
+// Bit 2 of the flags has a checksum, read only after a path. It is not kept.
+fn skip_checksum(s: &[u8], c: Cursor, flags: u8) -> Advanced
+    ensures { λ r. ⌜ RefinesReading (now (s .entry)) (skipChecksum flags) c (cursorOutcome r) ⌝ }
 {
     if flags / 4 % 2 == 1 {
         return match c.read_u32(s) {
-            Word::Refused(r) => Moved::Refused(r),
-            Word::Value(_, next) => Moved::To(next),
+            Word::Refused(r) => Advanced::Refused(r),
+            Word::Value(_, next) => Advanced::To(next),
         };
     }
-    Moved::To(c)
+    Advanced::To(c)
 }
 
-// Behind the outer object: path and checksum, and then the setting.
+// What follows the outer object: path and checksum. Then the object is recorded.
 fn record_object(
     s: &[u8],
     c: Cursor,
     m: &mut [u8],
-    room: &mut [u8],
+    scratch: &mut [u8],
     guid: u32,
     flags: u8,
     outer: u32,
 ) -> Word
-    requires { ⌜ Good (now m) × (4096 ≤ length (now room)) ⌝ }
-    ensures { λ r. ⌜ Reads (now (s .entry)) (recorded guid flags outer) c (now (m .entry)) (now (m .exit)) (valued r) ⌝ }
+    requires { ⌜ WellFormed (now m) × (4096 ≤ length (now scratch)) ⌝ }
+    ensures { λ r. ⌜ Refines (now (s .entry)) (recorded guid flags outer) c (now (m .entry)) (now (m .exit)) (wordOutcome r) ⌝ }
 {
-    match read_text(s, c, room) {
+    match read_text(s, c, scratch) {
         Text::Refused(r) => Word::Refused(r),
         Text::Read(n, next) => match skip_checksum(s, next, flags) {
-            Moved::Refused(r) => Word::Refused(r),
-            Moved::To(at) => match set_net_guid_path(m, guid, &room[..n as usize], outer) {
+            Advanced::Refused(r) => Word::Refused(r),
+            Advanced::To(at) => match set_net_guid_path(m, guid, &scratch[..n as usize], outer) {
                 Acted::Refused(r) => Word::Refused(r),
                 Acted::Done => Word::Value(guid, at),
             },
@@ -97,17 +97,17 @@ fn record_object(
     }
 }
 
-// An object with so much depth left: sixteen minus its depth. With none left it is refused before reading.
+// `left` is 16 minus the depth. At 0 the object is refused before reading.
 pub fn load_object(
     s: &[u8],
     c: Cursor,
     m: &mut [u8],
-    room: &mut [u8],
+    scratch: &mut [u8],
     exporting: bool,
     left: u32,
 ) -> Word
-    requires { ⌜ Good (now m) × (4096 ≤ length (now room)) ⌝ }
-    ensures { λ r. ⌜ Reads (now (s .entry)) (object left exporting) c (now (m .entry)) (now (m .exit)) (valued r) ⌝ }
+    requires { ⌜ WellFormed (now m) × (4096 ≤ length (now scratch)) ⌝ }
+    ensures { λ r. ⌜ Refines (now (s .entry)) (object left exporting) c (now (m .entry)) (now (m .exit)) (wordOutcome r) ⌝ }
 {
     if left == 0 {
         return Word::Refused(Refusal {
@@ -117,11 +117,18 @@ pub fn load_object(
         });
     }
     match read_head(s, c, exporting) {
-        Head::Refused(r) => Word::Refused(r),
-        Head::Ends(guid, next) => Word::Value(guid, next),
-        Head::Path(guid, flags, next) => match load_object(s, next, m, room, exporting, left - 1) {
+        ObjectHead::Refused(r) => Word::Refused(r),
+        ObjectHead::Ends(guid, next) => Word::Value(guid, next),
+        ObjectHead::Path(guid, flags, next) => match load_object(
+            s,
+            next,
+            m,
+            scratch,
+            exporting,
+            left - 1,
+        ) {
             Word::Refused(r) => Word::Refused(r),
-            Word::Value(outer, at) => record_object(s, at, m, room, guid, flags, outer),
+            Word::Value(outer, at) => record_object(s, at, m, scratch, guid, flags, outer),
         },
     }
 }

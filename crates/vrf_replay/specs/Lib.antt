@@ -1,4 +1,4 @@
--- What the player promises of places in a script, of the books in its memory and of blocks in its room: none is past the end.
-pub mod Areas
-pub mod Blocks
-pub mod Places
+-- The script player promises only that it stays inside the slices that it is lent. `Inner` holds the definitions for these contracts.
+pub mod Inner
+-- laws
+pub mod Laws

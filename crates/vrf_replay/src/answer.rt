@@ -1,10 +1,10 @@
-// Writing answers into a lent buffer. Each function takes the place to write at and answers the place behind what it wrote, which is
+// Writes answers into a lent buffer. Each function takes the place to write at, and answers the place after what it wrote. That place is
 // never past the buffer's end: what does not fit is left out.
 use vrf_bitio::Refusal;
 ghost use Prim.Native.Nat.{_≤_};
 ghost use lib.ListN.{length};
 
-// The place itself, or the end where it is past it.
+// The place `to`, or the buffer's end if `to` is past it.
 pub fn clipped(out: &[u8], to: usize) -> usize
     ensures { λ r. ⌜ r ≤ length (now (out .entry)) ⌝ }
 {
@@ -32,7 +32,7 @@ pub fn word(out: &mut [u8], to: usize, text: &[u8]) -> usize
     to
 }
 
-// In decimal. The digits before the last are those of a tenth.
+// In decimal: first the digits of n / 10, then the last digit.
 pub fn number(out: &mut [u8], to: usize, n: u64) -> usize
     ensures { λ r. ⌜ r ≤ length (now (out .entry)) ⌝ }
 {
@@ -43,15 +43,15 @@ pub fn number(out: &mut [u8], to: usize, n: u64) -> usize
     byte(out, at, 48 + (n % 10) as u8)
 }
 
-// A number behind a word that says what it is.
+// A number after a label.
 pub fn labelled(out: &mut [u8], to: usize, what: &[u8], n: u64) -> usize
     ensures { λ r. ⌜ r ≤ length (now (out .entry)) ⌝ }
 {
-    let said = word(out, to, what);
-    number(out, said, n)
+    let after = word(out, to, what);
+    number(out, after, n)
 }
 
-// In decimal, below 0 with a sign. The lowest number has no positive one, so the number after it is negated.
+// In decimal, with a minus sign below 0. The lowest number cannot be negated in 32 bits, so -1 - n is computed, and 1 is added in 64 bits.
 pub fn signed(out: &mut [u8], to: usize, n: i32) -> usize
     ensures { λ r. ⌜ r ≤ length (now (out .entry)) ⌝ }
 {
@@ -62,7 +62,7 @@ pub fn signed(out: &mut [u8], to: usize, n: i32) -> usize
     number(out, to, n as u64)
 }
 
-// The digit of a number below 16.
+// The hexadecimal digit of a number below 16.
 fn digit(n: u8) -> u8
     requires { ⌜ n ≤ 15 ⌝ }
 {
@@ -82,7 +82,7 @@ pub fn hexadecimal(out: &mut [u8], to: usize, n: u64) -> usize
     to
 }
 
-// A byte of a text: as it is, or as `\xHH`.
+// A byte of a text: a printable byte as it is, any other byte as `\xHH`.
 fn shown(out: &mut [u8], to: usize, b: u8) -> usize
     ensures { λ r. ⌜ r ≤ length (now (out .entry)) ⌝ }
 {
@@ -108,15 +108,15 @@ pub fn quoted(out: &mut [u8], to: usize, text: &[u8]) -> usize
 pub fn refusal(out: &mut [u8], to: usize, r: Refusal) -> usize
     ensures { λ r. ⌜ r ≤ length (now (out .entry)) ⌝ }
 {
-    let said = word(out, to, b"refused ");
-    let number_end = number(out, said, r.number as u64);
+    let after = word(out, to, b"refused ");
+    let number_end = number(out, after, r.number as u64);
     let a = byte(out, number_end, b' ');
     let a_end = number(out, a, r.a);
     let b = byte(out, a_end, b' ');
     number(out, b, r.b)
 }
 
-// What every line begins with: the number of its call.
+// Every line begins with the number of its call.
 pub fn begin(out: &mut [u8], to: usize, call: u64) -> usize
     ensures { λ r. ⌜ r ≤ length (now (out .entry)) ⌝ }
 {

@@ -1,10 +1,10 @@
-// The call `bits`: a window, and readings one after another. Bits, numbers, inner windows and positions go through vrf_bitreader, so that a
-// program runs its struct; texts and copies go through the cursor.
+// The call `bits`: a window, and readings one after another. Bits, numbers, inner windows and positions are read with vrf_bitreader, so
+// that some program runs its struct. Texts and copies are read with the cursor.
 use crate::answer;
 use crate::run::Run;
 use crate::script;
-use crate::script::Asked;
 use crate::script::Blob;
+use crate::script::NextReading;
 use crate::script::Reading;
 use crate::windows::Windows;
 use vrf_bitio::Bit;
@@ -21,10 +21,10 @@ use vrf_text::Text;
 ghost use Prim.Native.Nat.{_+_, _≤_, _<_};
 ghost use lib.ListN.{length};
 
-// The most bytes that a copy's target has, and what each of them holds before the copy.
+// The most bytes that a copy's target may have.
 const TARGET: usize = 65_536;
 
-// What a reading leaves: its cursor, the place behind its answer, and whether there was room to make it.
+// What a reading in its window leaves: the cursor, the place after the answer, and whether the reading was small enough to be made.
 struct After {
     c: Cursor,
     to: usize,
@@ -69,10 +69,10 @@ fn number(c: Cursor, b: Bits, out: &mut [u8], to: usize) -> After
     match b {
         Bits::Refused(r) => refused(c, r, out, to),
         Bits::Value(v, next) => {
-            let said = answer::word(out, to, b"value ");
+            let after = answer::word(out, to, b"value ");
             After {
                 c: next,
-                to: answer::number(out, said, v),
+                to: answer::number(out, after, v),
                 fits: true,
             }
         }
@@ -85,10 +85,10 @@ fn signed(c: Cursor, n: Int, out: &mut [u8], to: usize) -> After
     match n {
         Int::Refused(r) => refused(c, r, out, to),
         Int::Value(v, next) => {
-            let said = answer::word(out, to, b"value ");
+            let after = answer::word(out, to, b"value ");
             After {
                 c: next,
-                to: answer::signed(out, said, v),
+                to: answer::signed(out, after, v),
                 fits: true,
             }
         }
@@ -98,18 +98,18 @@ fn signed(c: Cursor, n: Int, out: &mut [u8], to: usize) -> After
 fn text(s: &[u8], c: Cursor, out: &mut [u8], to: usize) -> After
     ensures { λ r. ⌜ r .to ≤ length (now (out .entry)) ⌝ }
 {
-    let mut room = [0u8; 4096];
-    text_in(s, c, &mut room, out, to)
+    let mut scratch = [0u8; 4096];
+    text_in(s, c, &mut scratch, out, to)
 }
 
-fn text_in(s: &[u8], c: Cursor, room: &mut [u8], out: &mut [u8], to: usize) -> After
+fn text_in(s: &[u8], c: Cursor, scratch: &mut [u8], out: &mut [u8], to: usize) -> After
     ensures { λ r. ⌜ r .to ≤ length (now (out .entry)) ⌝ }
 {
-    match vrf_text::read_fstring(s, c, room) {
+    match vrf_text::read_fstring(s, c, scratch) {
         Text::Refused(r) => refused(c, r, out, to),
         Text::Read(n, next) => {
             let k = n as usize;
-            said(next, &room[0..k], out, to)
+            text_value(next, &scratch[0..k], out, to)
         }
     }
 }
@@ -117,39 +117,39 @@ fn text_in(s: &[u8], c: Cursor, room: &mut [u8], out: &mut [u8], to: usize) -> A
 fn name(s: &[u8], c: Cursor, out: &mut [u8], to: usize) -> After
     ensures { λ r. ⌜ r .to ≤ length (now (out .entry)) ⌝ }
 {
-    let mut room = [0u8; 4096];
-    name_in(s, c, &mut room, out, to)
+    let mut scratch = [0u8; 4096];
+    name_in(s, c, &mut scratch, out, to)
 }
 
-fn name_in(s: &[u8], c: Cursor, room: &mut [u8], out: &mut [u8], to: usize) -> After
-    requires { ⌜ 4096 ≤ length (now room) ⌝ }
+fn name_in(s: &[u8], c: Cursor, scratch: &mut [u8], out: &mut [u8], to: usize) -> After
+    requires { ⌜ 4096 ≤ length (now scratch) ⌝ }
     ensures { λ r. ⌜ r .to ≤ length (now (out .entry)) ⌝ }
 {
-    match vrf_reader::names::read_fname(s, c, room) {
+    match vrf_reader::names::read_fname(s, c, scratch) {
         Text::Refused(r) => refused(c, r, out, to),
         Text::Read(n, next) => {
             let k = n as usize;
-            said(next, &room[0..k], out, to)
+            text_value(next, &scratch[0..k], out, to)
         }
     }
 }
 
-// A text that was read, with the cursor behind it.
-fn said(next: Cursor, text: &[u8], out: &mut [u8], to: usize) -> After
+// The answer of a text that was read, with the cursor after it.
+fn text_value(next: Cursor, text: &[u8], out: &mut [u8], to: usize) -> After
     ensures { λ r. ⌜ r .to ≤ length (now (out .entry)) ⌝ }
 {
-    let begun = answer::word(out, to, b"text ");
+    let started = answer::word(out, to, b"text ");
     After {
         c: next,
-        to: answer::quoted(out, begun, text),
+        to: answer::quoted(out, started, text),
         fits: true,
     }
 }
 
-fn copy(s: &[u8], c: Cursor, room: u32, n: u64, out: &mut [u8], to: usize) -> After
+fn copy(s: &[u8], c: Cursor, target_len: u32, n: u64, out: &mut [u8], to: usize) -> After
     ensures { λ r. ⌜ r .to ≤ length (now (out .entry)) ⌝ }
 {
-    let k = room as usize;
+    let k = target_len as usize;
     if TARGET < k {
         return After {
             c,
@@ -161,16 +161,16 @@ fn copy(s: &[u8], c: Cursor, room: u32, n: u64, out: &mut [u8], to: usize) -> Af
     copy_into(s, c, &mut target[0..k], n, out, to)
 }
 
-// The target is shown after a refusal too: it must be as it was lent.
+// The target is shown after a refusal too: it must be as it was before.
 fn copy_into(s: &[u8], c: Cursor, target: &mut [u8], n: u64, out: &mut [u8], to: usize) -> After
     ensures { λ r. ⌜ r .to ≤ length (now (out .entry)) ⌝ }
 {
     let done = copied(c, c.copy_bits_to(s, target, n), out, to);
     let next = done.c;
-    let said = answer::word(out, done.to, b" target ");
+    let after = answer::word(out, done.to, b" target ");
     After {
         c: next,
-        to: answer::quoted(out, said, target),
+        to: answer::quoted(out, after, target),
         fits: true,
     }
 }
@@ -201,7 +201,7 @@ fn read(s: &[u8], c: Cursor, what: Reading, out: &mut [u8], to: usize) -> After
         Reading::Packed => number(c, of_word(vrf_bitreader::packed_over(s, c)), out, to),
         Reading::Text => text(s, c, out, to),
         Reading::Name => name(s, c, out, to),
-        Reading::Copy(room, n) => copy(s, c, room, n, out, to),
+        Reading::Copy(target_len, n) => copy(s, c, target_len, n, out, to),
         _ => After {
             c,
             to: answer::word(out, to, b"no such reading"),
@@ -210,7 +210,7 @@ fn read(s: &[u8], c: Cursor, what: Reading, out: &mut [u8], to: usize) -> After
     }
 }
 
-// What a reading leaves: the windows, the place behind its answer, the position to be shown there, and whether there was room.
+// What a reading leaves: the windows, the place after the answer, the position to show there, and whether it was small enough to be made.
 struct Done {
     windows: Windows,
     to: usize,
@@ -218,7 +218,7 @@ struct Done {
     fits: bool,
 }
 
-// Goes into a window over the next bits. The position shown is the outer one.
+// Opens an inner window over the next bits. The answer shows the outer position.
 fn enter(s: &[u8], w: Windows, n: u64, out: &mut [u8], to: usize) -> Done
     requires { ⌜ w .deep ≤ 16 ⌝ }
     ensures { λ r. ⌜ (r .to ≤ length (now (out .entry))) × (r .windows .deep ≤ 16) ⌝ }
@@ -232,7 +232,7 @@ fn enter(s: &[u8], w: Windows, n: u64, out: &mut [u8], to: usize) -> Done
             position: vrf_bitreader::position_over(s, c),
             fits: true,
         },
-        Sub::Inner(inner, behind) => {
+        Sub::Inner(inner, following) => {
             if 16 <= deep {
                 return Done {
                     windows: w,
@@ -242,9 +242,9 @@ fn enter(s: &[u8], w: Windows, n: u64, out: &mut [u8], to: usize) -> Done
                 };
             }
             Done {
-                windows: w.inside(inner, behind),
+                windows: w.inside(inner, following),
                 to: answer::word(out, to, b"inner"),
-                position: vrf_bitreader::position_over(s, behind),
+                position: vrf_bitreader::position_over(s, following),
                 fits: true,
             }
         }
@@ -291,25 +291,25 @@ fn play_reading(s: &[u8], w: Windows, what: Reading, out: &mut [u8], to: usize) 
     }
 }
 
-// A turn of the readings: the windows behind one, and the run.
-struct Turn {
+// What the line of a reading leaves: the windows and the run.
+struct ReadingTurn {
     windows: Windows,
     run: Run,
 }
 
-// The line of one reading. One for which there is no room ends the run.
-fn play_line(s: &[u8], w: Windows, what: Reading, out: &mut [u8], run: Run) -> Turn
+// The line of one reading. A reading that is too large ends the run.
+fn play_line(s: &[u8], w: Windows, what: Reading, out: &mut [u8], run: Run) -> ReadingTurn
     requires { ⌜ w .deep ≤ 16 ⌝ }
     ensures { λ r. ⌜ (r .run .to ≤ length (now (out .entry))) × (r .windows .deep ≤ 16) ⌝ }
 {
     let call = run.call;
     let at = run.at;
-    let begun = answer::begin(out, run.to, call);
-    let done = play_reading(s, w, what, out, begun);
+    let started = answer::begin(out, run.to, call);
+    let done = play_reading(s, w, what, out, started);
     let windows = done.windows;
     if !done.fits {
         let to = answer::end(out, done.to);
-        return Turn {
+        return ReadingTurn {
             windows,
             run: Run {
                 call,
@@ -319,10 +319,10 @@ fn play_line(s: &[u8], w: Windows, what: Reading, out: &mut [u8], run: Run) -> T
             },
         };
     }
-    let said = answer::word(out, done.to, b" at ");
-    let shown = answer::number(out, said, done.position as u64);
+    let after = answer::word(out, done.to, b" at ");
+    let shown = answer::number(out, after, done.position as u64);
     let to = answer::end(out, shown);
-    Turn {
+    ReadingTurn {
         windows,
         run: Run {
             call,
@@ -333,17 +333,17 @@ fn play_line(s: &[u8], w: Windows, what: Reading, out: &mut [u8], run: Run) -> T
     }
 }
 
-// The reading that stands at the run's place in the script.
-fn play_turn(s: &[u8], w: Windows, script: &[u8], out: &mut [u8], run: Run) -> Turn
+// Makes the reading at the run's place in the script.
+fn play_turn(s: &[u8], w: Windows, script: &[u8], out: &mut [u8], run: Run) -> ReadingTurn
     requires { ⌜ w .deep ≤ 16 ⌝ }
     ensures { λ r. ⌜ (r .run .to ≤ length (now (out .entry))) × (r .windows .deep ≤ 16) ⌝ }
 {
     match script::take_reading(script, run.at) {
-        Asked::Cut => Turn {
+        NextReading::Cut => ReadingTurn {
             windows: w,
             run: run.cut(out),
         },
-        Asked::Reading(what, next) => play_line(s, w, what, out, run.behind(next)),
+        NextReading::Reading(what, next) => play_line(s, w, what, out, run.following(next)),
     }
 }
 
@@ -363,23 +363,23 @@ fn play_readings(s: &[u8], c: Cursor, script: &[u8], n: u32, out: &mut [u8], mut
     run
 }
 
-// Behind a refused window the readings are passed over.
+// After a refused window the readings are skipped.
 fn skip_readings(script: &[u8], n: u32, out: &mut [u8], mut run: Run) -> Run
     requires { ⌜ run .to ≤ length (now out) ⌝ }
     ensures { λ r. ⌜ r .to ≤ length (now (out .entry)) ⌝ }
 {
     for _ in 0..n {
         match script::take_reading(script, run.at) {
-            Asked::Cut => return run.cut(out),
-            Asked::Reading(_, next) => {
-                run = run.behind(next);
+            NextReading::Cut => return run.cut(out),
+            NextReading::Reading(_, next) => {
+                run = run.following(next);
             }
         }
     }
     run
 }
 
-// The call over the bytes s of its window's blob, with the run behind those.
+// The call over the bytes s of its window's blob. The run is at the place after the blob.
 fn over(s: &[u8], script: &[u8], out: &mut [u8], run: Run) -> Run
     ensures { λ r. ⌜ r .to ≤ length (now (out .entry)) ⌝ }
 {
@@ -388,53 +388,53 @@ fn over(s: &[u8], script: &[u8], out: &mut [u8], run: Run) -> Run
         return run.cut(out);
     }
     let n = script::word_at(script, at + 16);
-    let behind = run.behind(at + 20);
+    let following = run.following(at + 20);
     match script::window(s, script, at) {
         Opened::Refused(r) => {
-            let run = behind.refused(out, r);
+            let run = following.refused(out, r);
             skip_readings(script, n, out, run)
         }
         Opened::Window(c) => {
-            let run = behind.line(out, b"window");
+            let run = following.line(out, b"window");
             play_readings(s, c, script, n, out, run)
         }
     }
 }
 
-// The call with a blob that stands in the script.
+// The call with a blob that is in the script.
 fn over_part(script: &[u8], a: usize, e: usize, out: &mut [u8], run: Run) -> Run
     requires { ⌜ (a ≤ e) × (e ≤ length (now script)) ⌝ }
     ensures { λ r. ⌜ r .to ≤ length (now (out .entry)) ⌝ }
 {
-    over(&script[a..e], script, out, run.behind(e))
+    over(&script[a..e], script, out, run.following(e))
 }
 
-// The call with a filled blob of n bytes, which is laid out in the room.
-fn over_room(
+// The call with a filled blob of n bytes, which is laid out in the scratch buffer.
+fn over_scratch(
     script: &[u8],
     a: usize,
     e: usize,
     n: usize,
-    room: &mut [u8],
+    scratch: &mut [u8],
     out: &mut [u8],
     run: Run,
 ) -> Run
     requires { ⌜ (a ≤ e) × (e < length (now script)) × (e ≤ a + n) ⌝ }
     ensures { λ r. ⌜ r .to ≤ length (now (out .entry)) ⌝ }
 {
-    if room.len() < n {
+    if scratch.len() < n {
         return run.too_large(out);
     }
-    script::lay_out(&mut room[0..n], &script[a..e], script[e]);
-    over(&room[0..n], script, out, run.behind(e + 1))
+    script::lay_out(&mut scratch[0..n], &script[a..e], script[e]);
+    over(&scratch[0..n], script, out, run.following(e + 1))
 }
 
-pub fn play(script: &[u8], room: &mut [u8], out: &mut [u8], run: Run) -> Run
+pub fn play(script: &[u8], scratch: &mut [u8], out: &mut [u8], run: Run) -> Run
     ensures { λ r. ⌜ r .to ≤ length (now (out .entry)) ⌝ }
 {
     match script::take_blob(script, run.at) {
         Blob::Cut => run.cut(out),
         Blob::Here(a, e) => over_part(script, a, e, out, run),
-        Blob::Filled(a, e, n) => over_room(script, a, e, n, room, out, run),
+        Blob::Filled(a, e, n) => over_scratch(script, a, e, n, scratch, out, run),
     }
 }

@@ -1,5 +1,5 @@
-// The call `write`. The buffer is lent behind the last written block, which stands at the front of the room, so that a refused writing
-// leaves that one; a block that is written then moves to the front in its place.
+// The call `write`. The last written block is at the front of the scratch buffer. The writer is lent bytes after it, so a refused writing
+// leaves that block. A new block is then moved to the front and replaces it.
 use crate::answer;
 use crate::books;
 use crate::books::Books;
@@ -9,11 +9,11 @@ use std::num::wrapping_add_u64;
 use vrf_model::Wrote;
 ghost use Prim.Native.Nat.{_+_, _≤_};
 ghost use lib.ListN.{length};
-ghost use Rattle.vrf_replay.specs.Areas.{total};
-ghost use Rattle.vrf_replay.specs.Blocks.{KeptIn, WroteIn};
+ghost use Rattle.vrf_replay.specs.Inner.Areas.{total};
+ghost use Rattle.vrf_replay.specs.Inner.Blocks.{KeptIn, WroteIn};
 
-// What a writing leaves: the run behind it, and how long the last written block is.
-pub struct Kept {
+// What a writing leaves: the run after it, and the length of the last written block.
+pub struct WrittenBlock {
     pub run: Run,
     pub kept: usize,
 }
@@ -56,81 +56,88 @@ fn answered(answer: Wrote, out: &mut [u8], to: usize) -> usize
     }
 }
 
-// The answer, and the sum over the whole buffer as the writing left it.
+// The line of a writing: the answer, and the hash of the whole buffer after the writing.
 fn say(answer: Wrote, sum: u64, out: &mut [u8], run: Run) -> Run
     ensures { λ r. ⌜ r .to ≤ length (now (out .entry)) ⌝ }
 {
-    let begun = answer::begin(out, run.to, run.call);
-    let said = answered(answer, out, begun);
-    let label = answer::word(out, said, b" fnv ");
+    let started = answer::begin(out, run.to, run.call);
+    let after = answered(answer, out, started);
+    let label = answer::word(out, after, b" fnv ");
     let shown = answer::hexadecimal(out, label, sum);
     run.ended(out, shown)
 }
 
-// How long the last written block is after a writing behind the one before.
-fn keep(answer: Wrote, room: &mut [u8], kept: usize, n: usize) -> usize
-    requires { ⌜ (kept + n ≤ length (now room)) × (WroteIn n answer) × (kept ≤ 268435456) ⌝ }
-    ensures { λ r. ⌜ KeptIn (length (now (room .entry))) r ⌝ }
+// The length of the last written block after a writing. A new block is moved to the front.
+fn keep(answer: Wrote, scratch: &mut [u8], kept: usize, n: usize) -> usize
+    requires { ⌜ (kept + n ≤ length (now scratch)) × (WroteIn n answer) × (kept ≤ 268435456) ⌝ }
+    ensures { λ r. ⌜ KeptIn (length (now (scratch .entry))) r ⌝ }
 {
     match answer {
         Wrote::Refused(_) => kept,
         Wrote::Length(long) => {
             let size = long as usize;
-            books::move_down(room, kept, 0, size);
+            books::move_down(scratch, kept, 0, size);
             size
         }
     }
 }
 
-// Writes into a buffer of n bytes.
-fn write(book: &[u8], n: usize, room: &mut [u8], out: &mut [u8], run: Run, kept: usize) -> Kept
-    requires { ⌜ (kept + n ≤ length (now room)) × (kept ≤ 268435456) ⌝ }
-    ensures { λ r. ⌜ (r .run .to ≤ length (now (out .entry))) × (KeptIn (length (now (room .entry))) (r .kept)) ⌝ }
+// Writes into the n bytes after the last written block.
+fn write(
+    book: &[u8],
+    n: usize,
+    scratch: &mut [u8],
+    out: &mut [u8],
+    run: Run,
+    kept: usize,
+) -> WrittenBlock
+    requires { ⌜ (kept + n ≤ length (now scratch)) × (kept ≤ 268435456) ⌝ }
+    ensures { λ r. ⌜ (r .run .to ≤ length (now (out .entry))) × (KeptIn (length (now (scratch .entry))) (r .kept)) ⌝ }
 {
     let end = kept + n;
-    let answer = write_into(book, &mut room[kept..end]);
-    let sum = fnv(&room[kept..end]);
-    Kept {
+    let answer = write_into(book, &mut scratch[kept..end]);
+    let sum = fnv(&scratch[kept..end]);
+    WrittenBlock {
         run: say(answer, sum, out, run),
-        kept: keep(answer, room, kept, n),
+        kept: keep(answer, scratch, kept, n),
     }
 }
 
 pub fn play(
     script: &[u8],
     memory: &[u8],
-    room: &mut [u8],
+    scratch: &mut [u8],
     out: &mut [u8],
     run: Run,
     books: Books,
     kept: usize,
-) -> Kept
-    requires { ⌜ (total books ≤ length (now memory)) × (KeptIn (length (now room)) kept) ⌝ }
-    ensures { λ r. ⌜ (r .run .to ≤ length (now (out .entry))) × (KeptIn (length (now (room .entry))) (r .kept)) ⌝ }
+) -> WrittenBlock
+    requires { ⌜ (total books ≤ length (now memory)) × (KeptIn (length (now scratch)) kept) ⌝ }
+    ensures { λ r. ⌜ (r .run .to ≤ length (now (out .entry))) × (KeptIn (length (now (scratch .entry))) (r .kept)) ⌝ }
 {
     let at = run.at;
     if script::left(script, at) < 8 {
-        return Kept {
+        return WrittenBlock {
             run: run.cut(out),
             kept,
         };
     }
     let n = script::long_at(script, at);
-    let behind = run.behind(at + 8);
+    let following = run.following(at + 8);
     let area = books.area(memory);
     let from = area.from;
     let to = from + area.size;
     if from == to {
-        return Kept {
-            run: behind.line(out, b"no book"),
+        return WrittenBlock {
+            run: following.line(out, b"no book"),
             kept,
         };
     }
-    if ((room.len() - kept) as u64) < n {
-        return Kept {
-            run: behind.too_large(out),
+    if ((scratch.len() - kept) as u64) < n {
+        return WrittenBlock {
+            run: following.too_large(out),
             kept,
         };
     }
-    write(&memory[from..to], n as usize, room, out, behind, kept)
+    write(&memory[from..to], n as usize, scratch, out, following, kept)
 }

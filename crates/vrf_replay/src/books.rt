@@ -1,17 +1,17 @@
 // The four books of a run, and the calls that open and choose one.
 //
-// The books stand one after another at the front of the memory, in the order of their numbers, and what is behind the last of them is
-// free. A book of no bytes is unopened: every opened one has some. A book that is opened with another size than it had moves those behind
-// it, so nothing is lost between books, and an opening finds no memory only where all the books together are longer than the memory.
+// The books are one after another at the front of the memory, in the order of their numbers. The memory after the last book is free. An
+// unopened book has no bytes; every opened book has some. When a book is opened with a new size, the books after it are moved, so there is
+// no unused memory between books. An opening fails for lack of memory only if all the books together are longer than the memory.
 use crate::run::Run;
 use crate::script;
 use vrf_model::Acted;
 ghost use mathlib.Core.Path.{_≡_};
 ghost use Prim.Native.Nat.{_+_, _≤_};
 ghost use lib.ListN.{length};
-ghost use Rattle.vrf_replay.specs.Areas.{total};
+ghost use Rattle.vrf_replay.specs.Inner.Areas.{total};
 
-// The number of the current book, and how many bytes each book has.
+// The number of the current book, and the size of each book in bytes.
 pub struct Books {
     pub current: u8,
     pub a: usize,
@@ -20,27 +20,27 @@ pub struct Books {
     pub d: usize,
 }
 
-// Where the current book stands: how many bytes are before it, how many it has, and how many the books behind it have.
+// Where the current book is: the bytes before it, its size, and the bytes of the books after it.
 pub struct Area {
     pub from: usize,
     pub size: usize,
-    pub behind: usize,
+    pub following: usize,
 }
 
-// The area of the current book, and the books as they are once it has another size.
-struct Sized {
+// The area of the current book, and the books with a new size of the current book.
+struct SizedArea {
     area: Area,
     books: Books,
 }
 
-// What a call leaves: the run behind it, and the books.
-pub struct Turn {
+// What a call leaves: the run after it, and the books.
+pub struct BookTurn {
     pub run: Run,
     pub books: Books,
 }
 
-// What a book is opened with.
-struct Allowances {
+// The allowances that a book is opened with.
+struct AllowanceNumbers {
     guids: u64,
     groups: u64,
     fields: u64,
@@ -60,11 +60,15 @@ fn books_of(current: u8, a: usize, b: usize, c: usize, d: usize) -> Books
     }
 }
 
-fn sized_at(from: usize, size: usize, behind: usize, books: Books) -> Sized
-    ensures { λ r. ⌜ (r .area .from ≡ from) × (r .area .size ≡ size) × (r .area .behind ≡ behind) × (total (r .books) ≡ total books) ⌝ }
+fn sized_at(from: usize, size: usize, following: usize, books: Books) -> SizedArea
+    ensures { λ r. ⌜ (r .area .from ≡ from) × (r .area .size ≡ size) × (r .area .following ≡ following) × (total (r .books) ≡ total books) ⌝ }
 {
-    Sized {
-        area: Area { from, size, behind },
+    SizedArea {
+        area: Area {
+            from,
+            size,
+            following,
+        },
         books,
     }
 }
@@ -85,16 +89,16 @@ impl Books {
 
     pub fn area(self, memory: &[u8]) -> Area
         requires { ⌜ total self ≤ length (now memory) ⌝ }
-        ensures { λ r. ⌜ r .from + r .size + r .behind ≡ total self ⌝ }
+        ensures { λ r. ⌜ r .from + r .size + r .following ≡ total self ⌝ }
     {
         let sized = self.sized(memory, 0);
         sized.area
     }
 
-    // The memory is asked for only because it bounds the sums.
-    fn sized(self, memory: &[u8], n: usize) -> Sized
+    // The memory is a parameter only because its length bounds the sums.
+    fn sized(self, memory: &[u8], n: usize) -> SizedArea
         requires { ⌜ total self ≤ length (now memory) ⌝ }
-        ensures { λ r. ⌜ (r .area .from + r .area .size + r .area .behind ≡ total self) × (total (r .books) ≡ r .area .from + n + r .area .behind) ⌝ }
+        ensures { λ r. ⌜ (r .area .from + r .area .size + r .area .following ≡ total self) × (total (r .books) ≡ r .area .from + n + r .area .following) ⌝ }
     {
         let current = self.current;
         let a = self.a;
@@ -110,7 +114,7 @@ impl Books {
     }
 }
 
-// Moves n bytes towards the front. The first are moved first: those that they overwrite are already moved.
+// Moves n bytes towards the front, the first byte first: the bytes that it overwrites are already moved.
 pub fn move_down(memory: &mut [u8], from: usize, to: usize, n: usize)
     requires { ⌜ (from + n ≤ length (now memory)) × (to ≤ from) ⌝ }
 {
@@ -119,7 +123,7 @@ pub fn move_down(memory: &mut [u8], from: usize, to: usize, n: usize)
     }
 }
 
-// Moves n bytes towards the end, the last of them first.
+// Moves n bytes towards the end, the last byte first.
 fn move_up(memory: &mut [u8], from: usize, to: usize, n: usize)
     requires { ⌜ (to + n ≤ length (now memory)) × (from ≤ to) ⌝ }
 {
@@ -141,10 +145,10 @@ fn move_part(memory: &mut [u8], from: usize, to: usize, n: usize)
     }
 }
 
-fn allowances_at(script: &[u8], at: usize) -> Allowances
+fn allowances_at(script: &[u8], at: usize) -> AllowanceNumbers
     requires { ⌜ at + 40 ≤ length (now script) ⌝ }
 {
-    Allowances {
+    AllowanceNumbers {
         guids: script::long_at(script, at),
         groups: script::long_at(script, at + 8),
         fields: script::long_at(script, at + 16),
@@ -153,7 +157,7 @@ fn allowances_at(script: &[u8], at: usize) -> Allowances
     }
 }
 
-fn open_book(book: &mut [u8], w: Allowances) -> Acted {
+fn open_book(book: &mut [u8], w: AllowanceNumbers) -> Acted {
     vrf_schema::calls::open(book, w.guids, w.groups, w.fields, w.text, w.literals)
 }
 
@@ -166,44 +170,50 @@ fn opened(answer: Acted, out: &mut [u8], run: Run) -> Run
     }
 }
 
-// Opens the current book over n bytes, behind which the books behind it stand again. The old book is given up first: the door refuses no
-// opening over as many bytes as it asked for.
+// Opens the current book over n bytes, and moves the books after it to follow these bytes. The old book is overwritten: `open` is not
+// refused, because n is what `memory_needed` answered.
 fn open_sized(
-    w: Allowances,
+    w: AllowanceNumbers,
     n: usize,
     memory: &mut [u8],
     out: &mut [u8],
     run: Run,
     books: Books,
-) -> Turn
+) -> BookTurn
     requires { ⌜ total books ≤ length (now memory) ⌝ }
     ensures { λ r. ⌜ (r .run .to ≤ length (now (out .entry))) × (total (r .books) ≤ length (now (memory .entry))) ⌝ }
 {
     let sized = books.sized(memory, n);
     let area = sized.area;
     let from = area.from;
-    let behind = area.behind;
-    if memory.len() - from - behind < n {
-        return Turn {
+    let following = area.following;
+    if memory.len() - from - following < n {
+        return BookTurn {
             run: run.line(out, b"no memory"),
             books,
         };
     }
     let end = from + n;
-    move_part(memory, from + area.size, end, behind);
+    move_part(memory, from + area.size, end, following);
     let run = opened(open_book(&mut memory[from..end], w), out, run);
     let books = sized.books;
-    Turn { run, books }
+    BookTurn { run, books }
 }
 
-// An opening whose allowances need no bytes is a refused one: it is made over none, so that the old book stays.
-fn open_with(w: Allowances, memory: &mut [u8], out: &mut [u8], run: Run, books: Books) -> Turn
+// If `memory_needed` answers 0, `open` refuses the allowances. It is then called over no bytes, so that the old book stays.
+fn open_with(
+    w: AllowanceNumbers,
+    memory: &mut [u8],
+    out: &mut [u8],
+    run: Run,
+    books: Books,
+) -> BookTurn
     requires { ⌜ total books ≤ length (now memory) ⌝ }
     ensures { λ r. ⌜ (r .run .to ≤ length (now (out .entry))) × (total (r .books) ≤ length (now (memory .entry))) ⌝ }
 {
     let n = vrf_schema::calls::memory_needed(w.guids, w.groups, w.fields, w.text, w.literals);
     if n == 0 {
-        return Turn {
+        return BookTurn {
             run: opened(open_book(&mut memory[0..0], w), out, run),
             books,
         };
@@ -211,14 +221,14 @@ fn open_with(w: Allowances, memory: &mut [u8], out: &mut [u8], run: Run, books: 
     open_sized(w, n as usize, memory, out, run, books)
 }
 
-// The call `open`. The book becomes the current one whatever comes of it.
-pub fn open(script: &[u8], memory: &mut [u8], out: &mut [u8], run: Run, books: Books) -> Turn
+// The call `open`. The book becomes the current one, even if it is not opened.
+pub fn open(script: &[u8], memory: &mut [u8], out: &mut [u8], run: Run, books: Books) -> BookTurn
     requires { ⌜ total books ≤ length (now memory) ⌝ }
     ensures { λ r. ⌜ (r .run .to ≤ length (now (out .entry))) × (total (r .books) ≤ length (now (memory .entry))) ⌝ }
 {
     let at = run.at;
     if script::left(script, at) < 41 {
-        return Turn {
+        return BookTurn {
             run: run.cut(out),
             books,
         };
@@ -228,26 +238,26 @@ pub fn open(script: &[u8], memory: &mut [u8], out: &mut [u8], run: Run, books: B
         w,
         memory,
         out,
-        run.behind(at + 41),
+        run.following(at + 41),
         books.choosing(script[at]),
     )
 }
 
 // The call `use`.
-pub fn choose(script: &[u8], out: &mut [u8], run: Run, books: Books) -> Turn
+pub fn choose(script: &[u8], out: &mut [u8], run: Run, books: Books) -> BookTurn
     ensures { λ r. ⌜ (r .run .to ≤ length (now (out .entry))) × (total (r .books) ≡ total books) ⌝ }
 {
     let at = run.at;
     if script.len() <= at {
-        return Turn {
+        return BookTurn {
             run: run.cut(out),
             books,
         };
     }
     let number = script[at];
-    let behind = run.behind(at + 1);
-    Turn {
-        run: behind.line(out, b"using"),
+    let following = run.following(at + 1);
+    BookTurn {
+        run: following.line(out, b"using"),
         books: books.choosing(number),
     }
 }

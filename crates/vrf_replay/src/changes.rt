@@ -1,6 +1,7 @@
-// The calls that change a book, and those that read a window into it. Each function writes an answer into the buffer, and answers the place behind it.
+// The calls that change a book, and those that read a window into it. Each function writes an answer into the buffer, and answers the place
+// after it.
 use crate::answer;
-use crate::given::Call;
+use crate::given::ScriptCall;
 use crate::lookups;
 use vrf_model::Acted;
 use vrf_model::Added;
@@ -39,20 +40,20 @@ fn placed(answer: Placed, out: &mut [u8], to: usize) -> usize
     }
 }
 
-// What a run counted or which GUID an object has, after a word that says which, and the position after it.
+// The count of a run or the GUID of an object, after its label, and the position after what was read.
 fn ran(answer: Ran, what: &[u8], out: &mut [u8], to: usize) -> usize
     ensures { λ r. ⌜ r ≤ length (now (out .entry)) ⌝ }
 {
     match answer {
         Ran::Ended(n, position) => {
-            let said = answer::labelled(out, to, what, n as u64);
-            answer::labelled(out, said, b" at ", position as u64)
+            let after = answer::labelled(out, to, what, n as u64);
+            answer::labelled(out, after, b" at ", position as u64)
         }
         Ran::Refused(r) => answer::refusal(out, to, r),
     }
 }
 
-// The last three of a block's counts: how its paths were sent.
+// The last three counts of a block, which show how its paths were sent.
 fn path_counts(n: CheckpointTables, out: &mut [u8], to: usize) -> usize
     ensures { λ r. ⌜ r ≤ length (now (out .entry)) ⌝ }
 {
@@ -80,20 +81,20 @@ fn tables(answer: Tables, out: &mut [u8], to: usize) -> usize
     }
 }
 
-// A call that reads a window, or else a lookup.
-fn read(book: &mut [u8], call: Call, blob: &[u8], out: &mut [u8], to: usize) -> usize
+// A call that reads a window, or a lookup.
+fn read(book: &mut [u8], call: ScriptCall, blob: &[u8], out: &mut [u8], to: usize) -> usize
     ensures { λ r. ⌜ r ≤ length (now (out .entry)) ⌝ }
 {
     match call {
-        Call::FieldsRun(first, count) => {
+        ScriptCall::FieldsRun(first, count) => {
             let answer = vrf_schema::reading::read_net_field_exports(book, blob, first, count);
             ran(answer, b"count ", out, to)
         }
-        Call::GuidRun(first, count) => {
+        ScriptCall::GuidRun(first, count) => {
             let answer = vrf_schema::reading::read_export_guids(book, blob, first, count);
             ran(answer, b"count ", out, to)
         }
-        Call::Object(first, count, exporting, depth) => {
+        ScriptCall::Object(first, count, exporting, depth) => {
             let answer = vrf_schema::reading::load_object(
                 book,
                 blob,
@@ -104,7 +105,7 @@ fn read(book: &mut [u8], call: Call, blob: &[u8], out: &mut [u8], to: usize) -> 
             );
             ran(answer, b"guid ", out, to)
         }
-        Call::Block(first, count) => {
+        ScriptCall::Block(first, count) => {
             let answer = vrf_schema::reading::read_checkpoint_tables(book, blob, first, count);
             tables(answer, out, to)
         }
@@ -112,21 +113,21 @@ fn read(book: &mut [u8], call: Call, blob: &[u8], out: &mut [u8], to: usize) -> 
     }
 }
 
-// A call that is answered by one line. Its blob is the text of a change or a lookup, or the bytes of a window.
-pub fn say(book: &mut [u8], call: Call, blob: &[u8], out: &mut [u8], to: usize) -> usize
+// A call that has one line as its answer. Its blob is the caller's text, or the bytes of a window.
+pub fn say(book: &mut [u8], call: ScriptCall, blob: &[u8], out: &mut [u8], to: usize) -> usize
     ensures { λ r. ⌜ r ≤ length (now (out .entry)) ⌝ }
 {
     match call {
-        Call::Clear => acted(vrf_schema::calls::clear(book), b"cleared", out, to),
-        Call::AddGroup(index, slots) => {
+        ScriptCall::Clear => acted(vrf_schema::calls::clear(book), b"cleared", out, to),
+        ScriptCall::AddGroup(index, slots) => {
             let answer = vrf_schema::calls::add_export_group(book, blob, index, slots);
             added(answer, out, to)
         }
-        Call::SetField(index, handle, checksum) => {
+        ScriptCall::SetField(index, handle, checksum) => {
             let answer = vrf_schema::calls::set_field_on_group(book, index, handle, checksum, blob);
             placed(answer, out, to)
         }
-        Call::SetGuid(guid, outer) => {
+        ScriptCall::SetGuid(guid, outer) => {
             let answer = vrf_schema::calls::set_net_guid_path(book, guid, blob, outer);
             acted(answer, b"set", out, to)
         }

@@ -1,5 +1,5 @@
-// The call `dump`: a line for every place below its numbers, whether something stands there or not. No lookup says how many places there
-// are. Once the buffer is full nothing more can be seen of the lines, and the rest is passed over: three numbers may ask for billions.
+// The call `dump`: a line for every place below the given numbers, also for an empty place, because no lookup gives the number of places.
+// Once the buffer is full, no further line would be seen. The rest is then skipped, because the numbers may ask for billions of lines.
 use crate::answer;
 use crate::lookups;
 use crate::run::Run;
@@ -8,7 +8,7 @@ use vrf_model::Number;
 ghost use Prim.Native.Nat.{_≤_};
 ghost use lib.ListN.{length};
 
-// How many slots of a group are shown: no more than it has, and no more than are asked for.
+// The number of slots of a group that are shown: at most those that it has, and at most those asked for.
 fn shown(book: &[u8], place: u32, slots: u32) -> u32 {
     match vrf_schema::lookups::group_slots(book, place) {
         Number::Is(n) => if n < slots { n } else { slots },
@@ -19,14 +19,14 @@ fn shown(book: &[u8], place: u32, slots: u32) -> u32 {
 fn filled(book: &[u8], place: u32, slot: u32, checksum: u32, out: &mut [u8], to: usize) -> usize
     ensures { λ r. ⌜ r ≤ length (now (out .entry)) ⌝ }
 {
-    let said = answer::word(out, to, b" field ");
-    let slot_end = answer::number(out, said, slot as u64);
+    let after = answer::word(out, to, b" field ");
+    let slot_end = answer::number(out, after, slot as u64);
     let sum = answer::byte(out, slot_end, b' ');
     let sum_end = answer::number(out, sum, checksum as u64);
     lookups::name(b" ", book, place, slot, out, sum_end)
 }
 
-// A slot, where it is filled.
+// A slot, if it is filled.
 fn field(book: &[u8], place: u32, slot: u32, out: &mut [u8], to: usize) -> usize
     ensures { λ r. ⌜ r ≤ length (now (out .entry)) ⌝ }
 {
@@ -46,31 +46,31 @@ fn fields(book: &[u8], place: u32, slots: u32, out: &mut [u8], to: usize) -> usi
     to
 }
 
-// The line's beginning: which place it is.
+// The beginning of a line, with its place.
 fn begin(what: &[u8], place: u32, out: &mut [u8], run: Run) -> usize
     ensures { λ r. ⌜ r ≤ length (now (out .entry)) ⌝ }
 {
-    let begun = answer::begin(out, run.to, run.call);
-    let said = answer::word(out, begun, what);
-    let place_end = answer::number(out, said, place as u64);
+    let started = answer::begin(out, run.to, run.call);
+    let after = answer::word(out, started, what);
+    let place_end = answer::number(out, after, place as u64);
     answer::byte(out, place_end, b' ')
 }
 
 fn group(book: &[u8], place: u32, slots: u32, out: &mut [u8], run: Run) -> Run
     ensures { λ r. ⌜ r .to ≤ length (now (out .entry)) ⌝ }
 {
-    let begun = begin(b"group ", place, out, run);
-    let said = lookups::group(book, place, out, begun);
-    let listed = fields(book, place, shown(book, place, slots), out, said);
+    let started = begin(b"group ", place, out, run);
+    let after = lookups::group(book, place, out, started);
+    let listed = fields(book, place, shown(book, place, slots), out, after);
     run.ended(out, listed)
 }
 
 fn guid(book: &[u8], place: u32, out: &mut [u8], run: Run) -> Run
     ensures { λ r. ⌜ r .to ≤ length (now (out .entry)) ⌝ }
 {
-    let begun = begin(b"guid ", place, out, run);
-    let said = lookups::guid(book, place, out, begun);
-    run.ended(out, said)
+    let started = begin(b"guid ", place, out, run);
+    let after = lookups::guid(book, place, out, started);
+    run.ended(out, after)
 }
 
 fn groups(book: &[u8], n: u32, slots: u32, out: &mut [u8], mut run: Run) -> Run

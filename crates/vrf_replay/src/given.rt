@@ -1,13 +1,13 @@
-// What the book calls are given: numbers, and for some of them a blob before, behind or between those. It is a text, or the bytes of a
-// window.
+// Reads the arguments of the book calls: numbers, and for some calls a blob before, after or between the numbers. The blob is a text, or
+// the bytes of a window.
 use crate::script;
 use crate::script::Blob;
 ghost use Prim.Native.Nat.{_+_, _*_, _≤_};
 ghost use lib.ListN.{length};
-ghost use Rattle.vrf_replay.specs.Places.{BlobIn};
+ghost use Rattle.vrf_replay.specs.Inner.Places.{BlobIn};
 
-// A book call with its numbers. The blob of one that has a blob goes beside it; the first two numbers of a window stand here.
-pub enum Call {
+// A book call with its numbers, without its blob. A window's first bit and bit count are numbers of the call.
+pub enum ScriptCall {
     Clear,
     AddGroup(u32, u32),
     SetField(u32, u32, u32),
@@ -33,14 +33,14 @@ pub enum Call {
     Dump(u32, u32, u32),
 }
 
-// A call, its blob and the place behind it. A call that the script's end cuts off has no blob; one without a blob has an empty one.
-pub struct Given {
-    pub call: Call,
+// A call, its blob and the place after it. If the script ends within the call, the blob is `Cut`. A call without a blob has an empty one.
+pub struct ParsedCall {
+    pub call: ScriptCall,
     pub blob: Blob,
     pub next: usize,
 }
 
-// How many bytes of numbers stand before the blob, whether there is one, and how many bytes of numbers stand behind it.
+// The number of argument bytes before the blob, whether there is a blob, and the number of argument bytes after it.
 struct Shape(usize, bool, usize);
 
 fn shape_of(code: u8) -> Shape
@@ -60,45 +60,45 @@ fn shape_of(code: u8) -> Shape
     }
 }
 
-// The numbers in their order. A call takes no more of them than it has.
-fn call_of(code: u8, x: u32, y: u32, z: u32) -> Call {
+// The call with the given code, and its numbers in their order. A call with fewer numbers ignores the others.
+fn call_of(code: u8, x: u32, y: u32, z: u32) -> ScriptCall {
     match code {
-        0x03 => Call::Clear,
-        0x04 => Call::AddGroup(x, y),
-        0x05 => Call::SetField(x, y, z),
-        0x06 => Call::SetGuid(x, y),
-        0x20 => Call::GroupByIndex(x),
-        0x21 => Call::GroupByPath,
-        0x22 => Call::PathByGuid(x),
-        0x23 => Call::OuterGuid(x),
-        0x24 => Call::OuterPath(x),
-        0x25 => Call::TagName(x),
-        0x26 => Call::Field(x, y),
-        0x27 => Call::GroupAt(x),
-        0x28 => Call::NameAt(x, y),
-        0x29 => Call::GuidPathAt(x),
-        0x2A => Call::LeafMatch,
-        0x2B => Call::ResolveInstance,
-        0x2C => Call::ClassNetCacheKey,
-        0x2D => Call::Counters,
-        _ => Call::Dump(x, y, z),
+        0x03 => ScriptCall::Clear,
+        0x04 => ScriptCall::AddGroup(x, y),
+        0x05 => ScriptCall::SetField(x, y, z),
+        0x06 => ScriptCall::SetGuid(x, y),
+        0x20 => ScriptCall::GroupByIndex(x),
+        0x21 => ScriptCall::GroupByPath,
+        0x22 => ScriptCall::PathByGuid(x),
+        0x23 => ScriptCall::OuterGuid(x),
+        0x24 => ScriptCall::OuterPath(x),
+        0x25 => ScriptCall::TagName(x),
+        0x26 => ScriptCall::Field(x, y),
+        0x27 => ScriptCall::GroupAt(x),
+        0x28 => ScriptCall::NameAt(x, y),
+        0x29 => ScriptCall::GuidPathAt(x),
+        0x2A => ScriptCall::LeafMatch,
+        0x2B => ScriptCall::ResolveInstance,
+        0x2C => ScriptCall::ClassNetCacheKey,
+        0x2D => ScriptCall::Counters,
+        _ => ScriptCall::Dump(x, y, z),
     }
 }
 
-// A call with a window, whose numbers stand at a place. An object is exported where its byte is not 0.
-fn windowed(s: &[u8], code: u8, at: usize) -> Call
+// A call with a window, whose numbers are at place `at`. `load_object` is exporting if its byte is not 0.
+fn windowed(s: &[u8], code: u8, at: usize) -> ScriptCall
     requires { ⌜ at ≤ length (now s) ⌝ }
 {
     let first = script::long_at(s, at);
     let count = script::long_at(s, at + 8);
     match code {
-        0x10 => Call::FieldsRun(first, count),
-        0x11 => Call::GuidRun(first, count),
+        0x10 => ScriptCall::FieldsRun(first, count),
+        0x11 => ScriptCall::GuidRun(first, count),
         0x12 => {
             let exporting = script::word_at(s, at + 16) % 256 != 0;
-            Call::Object(first, count, exporting, script::word_at(s, at + 17))
+            ScriptCall::Object(first, count, exporting, script::word_at(s, at + 17))
         }
-        _ => Call::Block(first, count),
+        _ => ScriptCall::Block(first, count),
     }
 }
 
@@ -112,39 +112,39 @@ fn take_blob(s: &[u8], there: bool, at: usize) -> Blob
     Blob::Here(at, at)
 }
 
-// The nth of the numbers, of which some bytes stand at one place and the others at another.
-fn nth(s: &[u8], at: usize, before: usize, behind: usize, n: usize) -> u32
-    requires { ⌜ (at ≤ length (now s)) × (behind ≤ length (now s)) × (n ≤ 2) ⌝ }
+// Number n of the call. The first `before` bytes of the numbers are at place `at`, before the blob. The others follow the blob.
+fn nth(s: &[u8], at: usize, before: usize, following: usize, n: usize) -> u32
+    requires { ⌜ (at ≤ length (now s)) × (following ≤ length (now s)) × (n ≤ 2) ⌝ }
 {
     if 4 * n < before {
         return script::word_at(s, at + 4 * n);
     }
-    script::word_at(s, behind + (4 * n - before))
+    script::word_at(s, following + (4 * n - before))
 }
 
-fn call_at(s: &[u8], code: u8, at: usize, before: usize, behind: usize) -> Call
-    requires { ⌜ (at ≤ length (now s)) × (behind ≤ length (now s)) ⌝ }
+fn call_at(s: &[u8], code: u8, at: usize, before: usize, following: usize) -> ScriptCall
+    requires { ⌜ (at ≤ length (now s)) × (following ≤ length (now s)) ⌝ }
 {
     if 0x10 <= code && code <= 0x13 {
-        return windowed(s, code, behind);
+        return windowed(s, code, following);
     }
-    let x = nth(s, at, before, behind, 0);
-    let y = nth(s, at, before, behind, 1);
-    let z = nth(s, at, before, behind, 2);
+    let x = nth(s, at, before, following, 0);
+    let y = nth(s, at, before, following, 1);
+    let z = nth(s, at, before, following, 2);
     call_of(code, x, y, z)
 }
 
-fn cut(code: u8, at: usize) -> Given
+fn cut(code: u8, at: usize) -> ParsedCall
     ensures { λ r. ⌜ BlobIn at (r .blob) ⌝ }
 {
-    Given {
+    ParsedCall {
         call: call_of(code, 0, 0, 0),
         blob: Blob::Cut,
         next: at,
     }
 }
 
-pub fn take(s: &[u8], code: u8, at: usize) -> Given
+pub fn take(s: &[u8], code: u8, at: usize) -> ParsedCall
     requires { ⌜ at ≤ length (now s) ⌝ }
     ensures { λ r. ⌜ BlobIn (length (now (s .entry))) (r .blob) ⌝ }
 {
@@ -154,14 +154,14 @@ pub fn take(s: &[u8], code: u8, at: usize) -> Given
         return cut(code, s.len());
     }
     let blob = take_blob(s, shape.1, at + before);
-    let behind = script::behind(s, blob);
+    let following = script::following(s, blob);
     let after = shape.2;
-    if script::left(s, behind) < after {
+    if script::left(s, following) < after {
         return cut(code, s.len());
     }
-    Given {
-        call: call_at(s, code, at, before, behind),
+    ParsedCall {
+        call: call_at(s, code, at, before, following),
         blob,
-        next: behind + after,
+        next: following + after,
     }
 }

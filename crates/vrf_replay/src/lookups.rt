@@ -1,15 +1,15 @@
-// The calls that ask a book and change nothing.
+// The lookups, which do not change a book.
 use crate::answer;
-use crate::given::Call;
+use crate::given::ScriptCall;
 use vrf_bitio::Refusal;
 use vrf_model::Found;
 use vrf_model::Number;
-use vrf_schema::Counted;
-use vrf_store::counters::Counters;
+use vrf_schema::CountersRead;
+use vrf_store::counters::BookCounters;
 ghost use Prim.Native.Nat.{_≤_};
 ghost use lib.ListN.{length};
 
-// What is found, after a word that says what it is.
+// What was found, after its label.
 fn found(answer: Found, what: &[u8], out: &mut [u8], to: usize) -> usize
     ensures { λ r. ⌜ r ≤ length (now (out .entry)) ⌝ }
 {
@@ -29,7 +29,7 @@ fn number(what: &[u8], answer: Number, out: &mut [u8], to: usize) -> usize
     }
 }
 
-// A text of the book, or the refusal that stands beside it: its details are zeros.
+// A text of the book after its label, or the refusal if its number is not 0. The details of such a refusal are zeros.
 fn titled(what: &[u8], text: &[u8], refused: u32, out: &mut [u8], to: usize) -> usize
     ensures { λ r. ⌜ r ≤ length (now (out .entry)) ⌝ }
 {
@@ -41,8 +41,8 @@ fn titled(what: &[u8], text: &[u8], refused: u32, out: &mut [u8], to: usize) -> 
         };
         return answer::refusal(out, to, r);
     }
-    let said = answer::word(out, to, what);
-    answer::quoted(out, said, text)
+    let after = answer::word(out, to, what);
+    answer::quoted(out, after, text)
 }
 
 pub fn group(book: &[u8], place: u32, out: &mut [u8], to: usize) -> usize
@@ -50,12 +50,12 @@ pub fn group(book: &[u8], place: u32, out: &mut [u8], to: usize) -> usize
 {
     let mut refused: u32 = 0;
     let path = vrf_schema::lookups::group_path(book, place, &mut refused);
-    let said = titled(b"path ", path, refused, out, to);
+    let after = titled(b"path ", path, refused, out, to);
     let indexed = number(
         b" index ",
         vrf_schema::lookups::group_index(book, place),
         out,
-        said,
+        after,
     );
     number(
         b" slots ",
@@ -81,7 +81,7 @@ pub fn guid(book: &[u8], place: u32, out: &mut [u8], to: usize) -> usize
     titled(b"path ", path, refused, out, to)
 }
 
-fn all(n: Counters, out: &mut [u8], to: usize) -> usize
+fn all(n: BookCounters, out: &mut [u8], to: usize) -> usize
     ensures { λ r. ⌜ r ≤ length (now (out .entry)) ⌝ }
 {
     let schema = answer::labelled(out, to, b"counters schema ", n.schema);
@@ -91,48 +91,51 @@ fn all(n: Counters, out: &mut [u8], to: usize) -> usize
     answer::labelled(out, replaced, b" renamed ", n.renamed)
 }
 
-fn counters(answer: Counted, out: &mut [u8], to: usize) -> usize
+fn counters(answer: CountersRead, out: &mut [u8], to: usize) -> usize
     ensures { λ r. ⌜ r ≤ length (now (out .entry)) ⌝ }
 {
     match answer {
-        Counted::Are(n) => all(n, out, to),
-        Counted::Refused(r) => answer::refusal(out, to, r),
+        CountersRead::Are(n) => all(n, out, to),
+        CountersRead::Refused(r) => answer::refusal(out, to, r),
     }
 }
 
 // The lookups that answer a place.
-fn place(book: &[u8], call: Call, text: &[u8]) -> Found {
+fn place(book: &[u8], call: ScriptCall, text: &[u8]) -> Found {
     match call {
-        Call::GroupByIndex(index) => vrf_schema::lookups::get_group_by_index(book, index),
-        Call::GroupByPath => vrf_schema::lookups::get_group_by_path(book, text),
-        Call::PathByGuid(guid) => vrf_schema::lookups::get_path_by_guid(book, guid),
-        Call::OuterPath(guid) => vrf_schema::lookups::get_outer_path(book, guid),
-        Call::TagName(tag) => vrf_schema::lookups::get_gameplay_tag_name(book, tag),
-        Call::LeafMatch => vrf_schema::lookups::unique_leaf_match(book, text),
-        Call::ResolveInstance => vrf_schema::lookups::resolve_cnc_for_instance_name(book, text),
-        Call::ClassNetCacheKey => vrf_schema::lookups::find_class_net_cache_key(book, text),
+        ScriptCall::GroupByIndex(index) => vrf_schema::lookups::get_group_by_index(book, index),
+        ScriptCall::GroupByPath => vrf_schema::lookups::get_group_by_path(book, text),
+        ScriptCall::PathByGuid(guid) => vrf_schema::lookups::get_path_by_guid(book, guid),
+        ScriptCall::OuterPath(guid) => vrf_schema::lookups::get_outer_path(book, guid),
+        ScriptCall::TagName(tag) => vrf_schema::lookups::get_gameplay_tag_name(book, tag),
+        ScriptCall::LeafMatch => vrf_schema::lookups::unique_leaf_match(book, text),
+        ScriptCall::ResolveInstance => vrf_schema::lookups::resolve_cnc_for_instance_name(
+            book,
+            text,
+        ),
+        ScriptCall::ClassNetCacheKey => vrf_schema::lookups::find_class_net_cache_key(book, text),
         _ => Found::Absent,
     }
 }
 
-pub fn say(book: &[u8], call: Call, text: &[u8], out: &mut [u8], to: usize) -> usize
+pub fn say(book: &[u8], call: ScriptCall, text: &[u8], out: &mut [u8], to: usize) -> usize
     ensures { λ r. ⌜ r ≤ length (now (out .entry)) ⌝ }
 {
     match call {
-        Call::OuterGuid(guid) => found(
+        ScriptCall::OuterGuid(guid) => found(
             vrf_schema::lookups::get_outer_guid(book, guid),
             b"guid ",
             out,
             to,
         ),
-        Call::Field(place, slot) => {
+        ScriptCall::Field(place, slot) => {
             let answer = vrf_schema::lookups::get_field(book, place, slot);
             found(answer, b"checksum ", out, to)
         }
-        Call::GroupAt(place) => group(book, place, out, to),
-        Call::NameAt(place, slot) => name(b"name ", book, place, slot, out, to),
-        Call::GuidPathAt(place) => guid(book, place, out, to),
-        Call::Counters => counters(vrf_schema::lookups::get_counters(book), out, to),
+        ScriptCall::GroupAt(place) => group(book, place, out, to),
+        ScriptCall::NameAt(place, slot) => name(b"name ", book, place, slot, out, to),
+        ScriptCall::GuidPathAt(place) => guid(book, place, out, to),
+        ScriptCall::Counters => counters(vrf_schema::lookups::get_counters(book), out, to),
         _ => found(place(book, call, text), b"place ", out, to),
     }
 }

@@ -1,11 +1,11 @@
-// A run of a script.
+// The state of a script's run, and the lines that calls write.
 use crate::answer;
 use vrf_bitio::Refusal;
 ghost use mathlib.Core.Path.{_≡_};
 ghost use Prim.Native.Nat.{_≤_};
 ghost use lib.ListN.{length};
 
-// Where a run stands: the number of the call, the place in the script, the place in the answers, and whether the run has ended.
+// The number of the call, the place in the script, the place in the answers, and whether the run has ended.
 pub struct Run {
     pub call: u64,
     pub at: usize,
@@ -14,8 +14,8 @@ pub struct Run {
 }
 
 impl Run {
-    // Goes on at another place of the script.
-    pub fn behind(self, at: usize) -> Run
+    // Continues at the place `at` of the script.
+    pub fn following(self, at: usize) -> Run
         ensures { λ r. ⌜ (r .at ≡ at) × (r .to ≡ self .to) ⌝ }
     {
         Run {
@@ -26,7 +26,7 @@ impl Run {
         }
     }
 
-    // Ends the line that was written up to a place.
+    // Ends the line that was written up to place `to`.
     pub fn ended(self, out: &mut [u8], to: usize) -> Run
         ensures { λ r. ⌜ r .to ≤ length (now (out .entry)) ⌝ }
     {
@@ -42,12 +42,12 @@ impl Run {
     pub fn line(self, out: &mut [u8], text: &[u8]) -> Run
         ensures { λ r. ⌜ r .to ≤ length (now (out .entry)) ⌝ }
     {
-        let begun = answer::begin(out, self.to, self.call);
-        let said = answer::word(out, begun, text);
+        let started = answer::begin(out, self.to, self.call);
+        let after = answer::word(out, started, text);
         Run {
             call: self.call,
             at: self.at,
-            to: answer::end(out, said),
+            to: answer::end(out, after),
             over: self.over,
         }
     }
@@ -56,12 +56,12 @@ impl Run {
     pub fn refused(self, out: &mut [u8], r: Refusal) -> Run
         ensures { λ r. ⌜ r .to ≤ length (now (out .entry)) ⌝ }
     {
-        let begun = answer::begin(out, self.to, self.call);
-        let said = answer::refusal(out, begun, r);
+        let started = answer::begin(out, self.to, self.call);
+        let after = answer::refusal(out, started, r);
         Run {
             call: self.call,
             at: self.at,
-            to: answer::end(out, said),
+            to: answer::end(out, after),
             over: self.over,
         }
     }
@@ -79,14 +79,14 @@ impl Run {
         }
     }
 
-    // The bytes are no script, or it ends within a call.
+    // The bytes are not a script, or the script ends within a call.
     pub fn cut(self, out: &mut [u8]) -> Run
         ensures { λ r. ⌜ r .to ≤ length (now (out .entry)) ⌝ }
     {
         self.last(out, b"no script")
     }
 
-    // There is no room for what the call asks.
+    // The player does not have enough space for the call.
     pub fn too_large(self, out: &mut [u8]) -> Run
         ensures { λ r. ⌜ r .to ≤ length (now (out .entry)) ⌝ }
     {

@@ -1,25 +1,25 @@
-// Taking things off a script. A place is never past the script's end, and a number that the end cuts off reads as if zeros followed:
-// whoever takes numbers asks first whether enough bytes are left.
+// Reads items from a script. A place is never past the script's end. A number that the end cuts off is read as if zeros followed, so
+// callers first check that enough bytes are left.
 use vrf_bitio::Cursor;
 use vrf_bitio::Opened;
 use vrf_bitreader::BitReader;
 ghost use mathlib.Core.Path.{_≡_};
 ghost use Prim.Native.Nat.{_+_, _-_, _≤_};
 ghost use lib.ListN.{length};
-ghost use Rattle.vrf_replay.specs.Places.{BlobIn, AskedIn};
+ghost use Rattle.vrf_replay.specs.Inner.Places.{BlobIn, AskedIn};
 
-// A blob's length from here on stands for one that is filled.
+// A blob length of at least this number means a filled blob.
 const FILLED: usize = 0x8000_0000;
 
-// The bytes of a blob. They stand in the script from the first place up to the second; or only the first of them do, and the byte
-// behind those fills the blob up to its length.
+// The bytes of a blob. `Here`: they are in the script from the first place up to the second. `Filled`: only the first bytes of the blob are
+// in the script; the byte after them fills the blob up to its length, the third number. `Cut`: the script ends within the blob.
 pub enum Blob {
     Here(usize, usize),
     Filled(usize, usize, usize),
     Cut,
 }
 
-// A reading of the call `bits`, with what it is given.
+// A reading of the call `bits`, with its arguments.
 pub enum Reading {
     Bit,
     Bits(u32),
@@ -35,8 +35,8 @@ pub enum Reading {
     Unknown,
 }
 
-// A reading and the place behind it.
-pub enum Asked {
+// A reading and the place after it.
+pub enum NextReading {
     Reading(Reading, usize),
     Cut,
 }
@@ -77,7 +77,7 @@ pub fn take_blob(s: &[u8], at: usize) -> Blob
     Blob::Here(from, from + n)
 }
 
-// A filled blob of n bytes. Where it is said to begin with more than those it is no blob.
+// A filled blob of n bytes. If its first bytes would be more than n, it is refused as `Cut`.
 fn take_filled(s: &[u8], at: usize, n: usize) -> Blob
     ensures { λ r. ⌜ BlobIn (length (now (s .entry))) r ⌝ }
 {
@@ -95,8 +95,8 @@ fn take_filled(s: &[u8], at: usize, n: usize) -> Blob
     Blob::Filled(from, from + head, n)
 }
 
-// The place behind a blob: behind the byte that fills it, where there is one.
-pub fn behind(s: &[u8], blob: Blob) -> usize
+// The place after a blob, and after the byte that fills it if there is one.
+pub fn following(s: &[u8], blob: Blob) -> usize
     requires { ⌜ BlobIn (length (now s)) blob ⌝ }
     ensures { λ r. ⌜ r ≤ length (now (s .entry)) ⌝ }
 {
@@ -115,14 +115,14 @@ fn copy_in(dst: &mut [u8], src: &[u8])
     }
 }
 
-// Every byte from a place on.
+// Sets every byte from a place on.
 pub fn fill_from(dst: &mut [u8], from: usize, b: u8) {
     for k in from..dst.len() {
         dst[k] = b;
     }
 }
 
-// Lays a filled blob out: its head, and then its last byte up to the end.
+// Lays out a filled blob: its first bytes, and then the fill byte up to the end.
 pub fn lay_out(dst: &mut [u8], head: &[u8], fill: u8)
     requires { ⌜ length (now head) ≤ length (now dst) ⌝ }
 {
@@ -130,8 +130,8 @@ pub fn lay_out(dst: &mut [u8], head: &[u8], fill: u8)
     fill_from(dst, head.len(), fill);
 }
 
-// A window's two numbers stand behind its blob, whose bytes are s. Both ways of opening one are played: a window that starts at bit 0 is
-// opened by its bit count alone.
+// The window over s, the bytes of its blob, with the first bit and the bit count that follow the blob in the script. A window from bit 0 is
+// opened with `with_bit_len`, so that both functions that open a window are run.
 pub fn window(s: &[u8], script: &[u8], at: usize) -> Opened
     requires { ⌜ at + 16 ≤ length (now script) ⌝ }
 {
@@ -144,7 +144,7 @@ pub fn window(s: &[u8], script: &[u8], at: usize) -> Opened
     }
 }
 
-// How many bytes of arguments follow the byte of a reading.
+// The number of argument bytes after the byte of a reading.
 fn arguments(kind: u8) -> usize
     ensures { λ r. ⌜ r ≤ 12 ⌝ }
 {
@@ -175,17 +175,17 @@ fn reading_of(s: &[u8], kind: u8, at: usize) -> Reading
     }
 }
 
-pub fn take_reading(s: &[u8], at: usize) -> Asked
+pub fn take_reading(s: &[u8], at: usize) -> NextReading
     ensures { λ r. ⌜ AskedIn (length (now (s .entry))) r ⌝ }
 {
     if s.len() <= at {
-        return Asked::Cut;
+        return NextReading::Cut;
     }
     let kind = s[at];
     let from = at + 1;
     let n = arguments(kind);
     if left(s, from) < n {
-        return Asked::Cut;
+        return NextReading::Cut;
     }
-    Asked::Reading(reading_of(s, kind, from), from + n)
+    NextReading::Reading(reading_of(s, kind, from), from + n)
 }

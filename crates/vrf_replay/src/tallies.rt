@@ -1,4 +1,4 @@
-// The call `tally`: what the tool prints for a blob, its lines joined by single spaces.
+// The call `tally`: the lines that the tool prints for a blob, joined by single spaces.
 use crate::answer;
 use crate::run::Run;
 use crate::script;
@@ -6,7 +6,7 @@ use crate::script::Blob;
 ghost use Prim.Native.Nat.{_+_, _≤_, _<_};
 ghost use lib.ListN.{length};
 
-// A space in place of a line's end.
+// A space instead of a line end.
 fn spaced(b: u8) -> u8 {
     if b == b'\n' { b' ' } else { b }
 }
@@ -21,18 +21,18 @@ fn joined(out: &mut [u8], to: usize, lines: &[u8]) -> usize
     to
 }
 
-// The last line's end is left out.
+// The last line end is left out.
 fn say(lines: &[u8], out: &mut [u8], run: Run) -> Run
     ensures { λ r. ⌜ r .to ≤ length (now (out .entry)) ⌝ }
 {
-    let begun = answer::begin(out, run.to, run.call);
-    let named = answer::word(out, begun, b"tally ");
+    let started = answer::begin(out, run.to, run.call);
+    let named = answer::word(out, started, b"tally ");
     let n = lines.len();
     if n == 0 {
         return run.ended(out, named);
     }
-    let said = joined(out, named, &lines[0..n - 1]);
-    run.ended(out, said)
+    let after = joined(out, named, &lines[0..n - 1]);
+    run.ended(out, after)
 }
 
 fn tell(input: &[u8], lines: &mut [u8; 512], out: &mut [u8], run: Run) -> Run
@@ -50,40 +50,40 @@ fn over(input: &[u8], out: &mut [u8], run: Run) -> Run
     tell(input, &mut lines, out, run)
 }
 
-// The call with a blob that stands in the script.
+// The call with a blob that is in the script.
 fn over_part(script: &[u8], a: usize, e: usize, out: &mut [u8], run: Run) -> Run
     requires { ⌜ (a ≤ e) × (e ≤ length (now script)) ⌝ }
     ensures { λ r. ⌜ r .to ≤ length (now (out .entry)) ⌝ }
 {
-    over(&script[a..e], out, run.behind(e))
+    over(&script[a..e], out, run.following(e))
 }
 
-// The call with a filled blob of n bytes, which is laid out in the room.
-fn over_room(
+// The call with a filled blob of n bytes, which is laid out in the scratch buffer.
+fn over_scratch(
     script: &[u8],
     a: usize,
     e: usize,
     n: usize,
-    room: &mut [u8],
+    scratch: &mut [u8],
     out: &mut [u8],
     run: Run,
 ) -> Run
     requires { ⌜ (a ≤ e) × (e < length (now script)) × (e ≤ a + n) ⌝ }
     ensures { λ r. ⌜ r .to ≤ length (now (out .entry)) ⌝ }
 {
-    if room.len() < n {
+    if scratch.len() < n {
         return run.too_large(out);
     }
-    script::lay_out(&mut room[0..n], &script[a..e], script[e]);
-    over(&room[0..n], out, run.behind(e + 1))
+    script::lay_out(&mut scratch[0..n], &script[a..e], script[e]);
+    over(&scratch[0..n], out, run.following(e + 1))
 }
 
-pub fn play(script: &[u8], room: &mut [u8], out: &mut [u8], run: Run) -> Run
+pub fn play(script: &[u8], scratch: &mut [u8], out: &mut [u8], run: Run) -> Run
     ensures { λ r. ⌜ r .to ≤ length (now (out .entry)) ⌝ }
 {
     match script::take_blob(script, run.at) {
         Blob::Cut => run.cut(out),
         Blob::Here(a, e) => over_part(script, a, e, out, run),
-        Blob::Filled(a, e, n) => over_room(script, a, e, n, room, out, run),
+        Blob::Filled(a, e, n) => over_scratch(script, a, e, n, scratch, out, run),
     }
 }

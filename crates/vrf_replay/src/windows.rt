@@ -1,11 +1,11 @@
-// Windows inside windows.
+// The stack of windows inside windows for the call `bits`.
 use vrf_bitio::Cursor;
 ghost use Prim.Native.Nat.{_≤_, _<_};
 
-// How many windows may stand around one.
+// The maximum number of windows around the current one.
 pub const DEEPEST: usize = 16;
 
-// The cursor of the window in which the readings are made, and those of the windows around it, innermost last.
+// The cursor of the current window, in which the readings are made, and the cursors of the windows around it, innermost last.
 pub struct Windows {
     pub current: Cursor,
     pub around: [Cursor; 16],
@@ -23,7 +23,7 @@ impl Windows {
         }
     }
 
-    // The current cursor goes on.
+    // Moves the current cursor.
     pub fn moved(self, c: Cursor) -> Windows
         requires { ⌜ self .deep ≤ 16 ⌝ }
         ensures { λ r. ⌜ r .deep ≤ 16 ⌝ }
@@ -36,14 +36,14 @@ impl Windows {
         }
     }
 
-    // Goes into an inner window; the current one is left at the cursor behind it.
-    pub fn inside(self, inner: Cursor, behind: Cursor) -> Windows
+    // Makes the inner window the current one. The cursor of the outer window is left after the inner window.
+    pub fn inside(self, inner: Cursor, following: Cursor) -> Windows
         requires { ⌜ self .deep < 16 ⌝ }
         ensures { λ r. ⌜ r .deep ≤ 16 ⌝ }
     {
         let mut around = self.around;
         let deep = self.deep;
-        around[deep] = behind;
+        around[deep] = following;
         Windows {
             current: inner,
             around,
@@ -51,7 +51,7 @@ impl Windows {
         }
     }
 
-    // Goes back to the window around the current one; the outermost is not left.
+    // Makes the window around the current one the current one. The outermost window stays.
     pub fn outside(self) -> Windows
         requires { ⌜ self .deep ≤ 16 ⌝ }
         ensures { λ r. ⌜ r .deep ≤ 16 ⌝ }

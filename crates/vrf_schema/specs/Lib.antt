@@ -1,13 +1,13 @@
--- The door: what every exported call promises.
-pub mod Called
-pub mod Door
-pub mod Reading
-pub mod Told
-pub mod Begun
-pub mod Writes
--- demand 3
+-- The contracts of the exported functions, and demands 1 and 3 stated over them. Read `CallContract` first, then `OpenContract`,
+-- `WriteContract` and `CountersContract`, then `Demand1` and `Demand3`. `Checked` defines what the checks before a call answer.
+pub mod CallContract
+pub mod OpenContract
+pub mod WriteContract
+pub mod CountersContract
+pub mod Checked
 pub mod Demand1
-pub mod Demand
-pub mod Exists
--- no wrong program passes
-pub mod Determined
+pub mod Demand3
+-- contracts of private functions
+pub mod Inner
+-- laws
+pub mod Laws

@@ -1,15 +1,16 @@
-// The door: every exported call, the check first (lib.rs). A memory that fails the check is refused with 2 and stays as it was.
+// The exported functions on a book: book calls, readers, lookups and the writer. All but `open` and `memory_needed` check the lent memory
+// first. A memory that fails the check is refused with 2 and stays as it was.
 pub mod calls;
-pub mod door;
+pub mod checked;
 pub mod lookups;
 pub mod reading;
 pub mod writing;
 
 use vrf_bitio::Refusal;
-use vrf_store::counters::Counters;
+use vrf_store::counters::BookCounters;
 
-// The counters of a book.
-pub enum Counted {
-    Are(Counters),
+// The answer of `get_counters`.
+pub enum CountersRead {
+    Are(BookCounters),
     Refused(Refusal),
 }

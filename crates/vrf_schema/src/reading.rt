@@ -1,5 +1,5 @@
-// The calls that read a window into a book: both export runs, an object, a checkpoint block.
-use crate::door::meet;
+// The calls that read a window into a book: both export readers, `load_object` and the block reader.
+use crate::checked::check_book;
 use vrf_bitio::Cursor;
 use vrf_bitio::Opened;
 use vrf_bitio::Word;
@@ -14,20 +14,20 @@ ghost use mathlib.Core.Path.{_≡_};
 ghost use Prim.Native.Nat.{_-_};
 ghost use Rattle.vrf_model.specs.Calls.{read-net-field-exports, read-export-guids, load-object, read-checkpoint-tables};
 ghost use Rattle.vrf_model.specs.Answers.{ranOf, tablesOf};
-ghost use Rattle.vrf_schema.specs.Called.{Called};
-ghost use Rattle.vrf_schema.specs.Reading.{MetWindow, ranBy};
+ghost use Rattle.vrf_schema.specs.CallContract.{CallContract};
+ghost use Rattle.vrf_schema.specs.Inner.Reading.{CheckedWindow, ranBy};
 
-// What a call with a window meets: the check of the book, then the window's own.
-fn meet_window(book: &[u8], window: &[u8], first: u64, count: u64) -> Opened
-    ensures { λ r. ⌜ MetWindow (now (book .entry)) (now (window .entry)) first count r ⌝ }
+// The checks before a call with a window: first the check of the book, then those of the window.
+fn check_book_window(book: &[u8], window: &[u8], first: u64, count: u64) -> Opened
+    ensures { λ r. ⌜ CheckedWindow (now (book .entry)) (now (window .entry)) first count r ⌝ }
 {
-    match meet(book) {
+    match check_book(book) {
         Caller::Refused(r) => Opened::Refused(r),
         Caller::Accepted => Cursor::window(window, first, count),
     }
 }
 
-// The position after what was read, in place of the cursor.
+// The call's answer, which holds the position after what was read instead of the cursor.
 fn ended(w: Word) -> Ran
     ensures { λ r. ⌜ r ≡ ranBy w ⌝ }
 {
@@ -37,7 +37,7 @@ fn ended(w: Word) -> Ran
     }
 }
 
-// Sixteen minus a depth.
+// The depth left: an object at depth 16 or more is refused.
 fn depth_left(depth: u32) -> u32
     ensures { λ r. ⌜ r ≡ 16 - depth ⌝ }
 {
@@ -46,31 +46,31 @@ fn depth_left(depth: u32) -> u32
 
 // Reads a fields run.
 pub fn read_net_field_exports(book: &mut [u8], window: &[u8], first: u64, count: u64) -> Ran
-    ensures { λ r. ⌜ Called (read-net-field-exports (record { bytes = now (window .entry); first = first; count = count })) (now (book .entry)) (now (book .exit)) (ranOf r) ⌝ }
+    ensures { λ r. ⌜ CallContract (read-net-field-exports (record { bytes = now (window .entry); first = first; count = count })) (now (book .entry)) (now (book .exit)) (ranOf r) ⌝ }
 {
-    match meet_window(book, window, first, count) {
+    match check_book_window(book, window, first, count) {
         Opened::Refused(r) => Ran::Refused(r),
         Opened::Window(c) => {
-            let mut room = [0u8; 4096];
-            ended(fields::read_net_field_exports(window, c, book, &mut room))
+            let mut scratch = [0u8; 4096];
+            ended(fields::read_net_field_exports(window, c, book, &mut scratch))
         }
     }
 }
 
 // Reads a GUID run.
 pub fn read_export_guids(book: &mut [u8], window: &[u8], first: u64, count: u64) -> Ran
-    ensures { λ r. ⌜ Called (read-export-guids (record { bytes = now (window .entry); first = first; count = count })) (now (book .entry)) (now (book .exit)) (ranOf r) ⌝ }
+    ensures { λ r. ⌜ CallContract (read-export-guids (record { bytes = now (window .entry); first = first; count = count })) (now (book .entry)) (now (book .exit)) (ranOf r) ⌝ }
 {
-    match meet_window(book, window, first, count) {
+    match check_book_window(book, window, first, count) {
         Opened::Refused(r) => Ran::Refused(r),
         Opened::Window(c) => {
-            let mut room = [0u8; 4096];
-            ended(guids::read_export_guids(window, c, book, &mut room))
+            let mut scratch = [0u8; 4096];
+            ended(guids::read_export_guids(window, c, book, &mut scratch))
         }
     }
 }
 
-// Reads an object, from a depth on.
+// Reads an object at the given starting depth.
 pub fn load_object(
     book: &mut [u8],
     window: &[u8],
@@ -79,27 +79,26 @@ pub fn load_object(
     exporting: bool,
     depth: u32,
 ) -> Ran
-    ensures { λ r. ⌜ Called (load-object (record { bytes = now (window .entry); first = first; count = count }) exporting depth) (now (book .entry)) (now (book .exit)) (ranOf r) ⌝ }
+    ensures { λ r. ⌜ CallContract (load-object (record { bytes = now (window .entry); first = first; count = count }) exporting depth) (now (book .entry)) (now (book .exit)) (ranOf r) ⌝ }
 {
-    match meet_window(book, window, first, count) {
+    match check_book_window(book, window, first, count) {
         Opened::Refused(r) => Ran::Refused(r),
         Opened::Window(c) => {
-            let mut room = [0u8; 4096];
+            let mut scratch = [0u8; 4096];
             let left = depth_left(depth);
-            ended(objects::load_object(window, c, book, &mut room, exporting, left))
+            ended(objects::load_object(window, c, book, &mut scratch, exporting, left))
         }
     }
 }
 
-// Reads a checkpoint block.
 pub fn read_checkpoint_tables(book: &mut [u8], window: &[u8], first: u64, count: u64) -> Tables
-    ensures { λ r. ⌜ Called (read-checkpoint-tables (record { bytes = now (window .entry); first = first; count = count })) (now (book .entry)) (now (book .exit)) (tablesOf r) ⌝ }
+    ensures { λ r. ⌜ CallContract (read-checkpoint-tables (record { bytes = now (window .entry); first = first; count = count })) (now (book .entry)) (now (book .exit)) (tablesOf r) ⌝ }
 {
-    match meet_window(book, window, first, count) {
+    match check_book_window(book, window, first, count) {
         Opened::Refused(r) => Tables::Refused(r),
         Opened::Window(c) => {
-            let mut room = [0u8; 4096];
-            block::read_checkpoint_tables(window, c, book, &mut room)
+            let mut scratch = [0u8; 4096];
+            block::read_checkpoint_tables(window, c, book, &mut scratch)
         }
     }
 }

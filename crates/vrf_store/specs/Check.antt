@@ -1,5 +1,5 @@
--- The check of a lent book (refusal 2), as docs/LAYOUT.md puts it into words: its numbers are in bounds, each text is one, and each
--- entry is found where it should be.
+-- The check of a lent book (document 01, refusal 2; docs/LAYOUT.md, The check). It accepts a memory if its numbers are in bounds, its texts
+-- are UTF-8, and each record is found by its keys.
 use mathlib.Core.Bool.{Bool, true, false, _&&_}
 use mathlib.Core.List.{List}
 use mathlib.Core.Option.{Option, none, some}
@@ -11,7 +11,7 @@ use Rattle.vrf_path.specs.Leaf.{leaf}
 use Rattle.vrf_model.specs.Book.{Allowances}
 use Rattle.vrf_model.specs.Lookup.{Claim, absent, ambiguous, claimed}
 use Rattle.vrf_table.specs.Table.{key, at, len, info, text, findKey}
-use Rattle.vrf_table.specs.TextIndex.{numbered, findPath, claimOf}
+use Rattle.vrf_table.specs.TextIndex.{keyNumbered, findPath, claimOf}
 use Rattle.vrf_store.specs.UpTo.{allBelow, sumBelow}
 use Rattle.vrf_store.specs.Layout
 use Rattle.vrf_store.specs.Store.{Header, Store, headerOf, storeBy}
@@ -27,7 +27,7 @@ headerOk h = leb (h .guids) (h .allowed .guids) && (leb (h .groups) (h .allowed 
 
 -- ---- rows
 
--- the text of a row lies in what is used, and is one
+-- the text of row e is inside the bytes used, has at most 4096 bytes and is UTF-8
 unfoldable pub textOk : ℕ → List ℕ → List ℕ → ℕ → Bool
 textOk used x r e = leb (at r e + len r e) used && (leb (len r e) 4096 && utf8 (text r x e))
 
@@ -35,11 +35,10 @@ unfoldable pub isPlace : ℕ → Option ℕ → Bool
 isPlace e none = false
 isPlace e (some i) = eqb i e
 
--- its key finds the row itself: so no other row has it
+-- the key of row e finds row e. If this holds of all rows, no two have the same key
 unfoldable pub foundOk : List ℕ → List ℕ → ℕ → ℕ → ℕ → Bool
 foundOk r heads b n e = isPlace e (findKey r heads b n (key r e))
 
--- a number of 32 bits
 unfoldable pub is32 : ℕ → Bool
 is32 n = ltb n (2 ^ 32)
 
@@ -50,20 +49,20 @@ guidOk s e =
 
 -- ---- groups
 
--- a walk found entry e or a later one
+-- the walk found entry e or a later one
 unfoldable pub notBefore : ℕ → Option ℕ → Bool
 notBefore e none = false
 notBefore e (some i) = leb e i
 
--- a key of a group, if there is one, finds its entry or a later one
+-- if the group has this key, the key finds entry e or a later one
 unfoldable pub reachOk : (List ℕ → Option ℕ) → ℕ → Option (List ℕ) → Bool
 reachOk find e none = true
 reachOk find e (some k) = notBefore e (find k)
 
 unfoldable pub keyOk : Store → ℕ → Bool
-keyOk s e = reachOk (findPath (s .groupRows) (s .texts) (s .pathLinks) (s .pathHeads) (Layout.pathBuckets (s .header .allowed)) (s .header .groups)) e (numbered (text (s .groupRows) (s .texts) (e / 3)) (e % 3))
+keyOk s e = reachOk (findPath (s .groupRows) (s .texts) (s .pathLinks) (s .pathHeads) (Layout.pathBuckets (s .header .allowed)) (s .header .groups)) e (keyNumbered (text (s .groupRows) (s .texts) (e / 3)) (e % 3))
 
--- a leaf is claimed by its group, or ambiguous
+-- the leaf is claimed by group e, or ambiguous
 unfoldable pub isSettled : ℕ → Claim → Bool
 isSettled e absent = false
 isSettled e ambiguous = true
@@ -84,7 +83,7 @@ groupOk s e =
 
 -- ---- fields
 
--- the key of a field is a slot of a group
+-- k is the key of a slot that a group has
 unfoldable pub slotOk : Store → ℕ → Bool
 slotOk s k = ltb (k / 65536) (s .header .groups) && ltb (k % 65536) (info (s .groupRows) (k / 65536))
 
@@ -93,18 +92,18 @@ fieldOk s e =
     textOk (s .header .used) (s .texts) (s .fieldRows) e && (slotOk s (key (s .fieldRows) e) && (is32 (info (s .fieldRows) e)
     && foundOk (s .fieldRows) (s .fieldHeads) (Layout.fieldBuckets (s .header .allowed)) (s .header .fields) e))
 
--- ---- all of it
+-- ---- the whole check
 
--- the bytes of all texts, row by row
+-- the sum of the lengths of all texts
 unfoldable pub textSum : Store → ℕ
 textSum s = sumBelow (len (s .guidRows)) (s .header .guids) + sumBelow (len (s .groupRows)) (s .header .groups) + sumBelow (len (s .fieldRows)) (s .header .fields)
 
 unfoldable pub storeOk : Store → Bool
 storeOk s = allBelow (guidOk s) (s .header .guids) && (allBelow (groupOk s) (s .header .groups) && (allBelow (fieldOk s) (s .header .fields) && eqb (textSum s) (s .header .held)))
 
--- the allowances of a memory are in bounds, and it has what they need
-unfoldable pub laidOk : Header → ℕ → Bool
-laidOk h n = leb 128 n && (topsOk (h .allowed) && (leb (Layout.need (h .allowed)) n && headerOk h))
+-- a memory of n bytes has a whole header, allowances within their tops and the bytes they need, and its counts are in bounds
+unfoldable pub boundsOk : Header → ℕ → Bool
+boundsOk h n = leb 128 n && (topsOk (h .allowed) && (leb (Layout.need (h .allowed)) n && headerOk h))
 
 unfoldable pub check : List ℕ → Bool
-check m = laidOk (headerOf m) (length m) && storeOk (storeBy (headerOf m) m)
+check m = boundsOk (headerOf m) (length m) && storeOk (storeBy (headerOf m) m)

@@ -1,9 +1,9 @@
--- Where everything stands in a lent memory, as docs/LAYOUT.md draws it: word numbers, but for the texts, which are at a byte.
+-- Where each part of a lent memory begins (docs/LAYOUT.md): a word number, except for the texts, which begin at a byte number.
 use Prim.Native.Nat.{ℕ, _+_, _*_}
 use Rattle.vrf_model.specs.Book.{Allowances}
 
--- how many heads each index has: some for each record allowed, so that most buckets have one entry or none, and one more, so that there
--- is always a bucket. A group's share is what 64 bytes leave: its path has up to three entries, its leaf and its index one
+-- the number of heads of each index. There is at least one for each record allowed, so that most buckets have one entry or none, and one
+-- more, so that there is always a bucket. A group takes 64 bytes in all. Its path has up to three entries, its leaf and its index one each
 abbrev pub guidBuckets : Allowances → ℕ
 guidBuckets a = 4 * a .guids + 1
 
@@ -53,10 +53,10 @@ fieldHeadsAt a = 36 + 10 * a .guids + 16 * a .groups + 6 * a .fields
 abbrev pub literalsAt : Allowances → ℕ
 literalsAt a = 37 + 10 * a .guids + 16 * a .groups + 10 * a .fields
 
--- the first byte of the texts: two halves, each as long as the text allowance
+-- the first byte of the texts. They have two halves, each as long as the text allowance
 abbrev pub textsAt : Allowances → ℕ
 textsAt a = 4 * (37 + 10 * a .guids + 16 * a .groups + 10 * a .fields + a .literals)
 
--- how many bytes the allowances need
+-- the number of bytes that the allowances need
 abbrev pub need : Allowances → ℕ
 need a = textsAt a + 2 * a .text

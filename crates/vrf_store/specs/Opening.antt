@@ -1,4 +1,5 @@
--- Opening a book in lent memory (document 01): 1 an allowance above its top, lowest first; 3 memory shorter than the need.
+-- Opening a book (document 01, The book and the table of refusals): refusal 1 for an allowance above its top, refusal 3 for memory that is
+-- too short; and how many bytes to lend.
 use mathlib.Core.Bool.{cond}
 use mathlib.Core.Option.{Option, none, some}
 use Prim.Native.Nat.{ℕ}
@@ -27,11 +28,11 @@ unfoldable pub unlessAbove : Option ℕ → Opening → Opening
 unlessAbove none o = o
 unlessAbove (some which) o = notOpened 1 which 0
 
--- a memory of n bytes
+-- opening a memory of n bytes
 unfoldable pub opening : Allowances → ℕ → Opening
 opening a n = unlessAbove (aboveTop a) (unlessShort (Layout.need a) n)
 
--- what to lend before opening: the need, or 0 where an allowance is above its top
+-- how many bytes to lend for these allowances: 0 if one is above its top
 unfoldable pub zeroAbove : Option ℕ → ℕ → ℕ
 zeroAbove none needed = needed
 zeroAbove (some which) needed = 0

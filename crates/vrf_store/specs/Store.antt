@@ -1,11 +1,13 @@
--- A lent memory taken apart: its header's numbers, and the memory of each table, of each index and of the texts.
+-- What a lent memory holds (docs/LAYOUT.md): the numbers of its header, the bytes of each table, of each index and of the texts, and the
+-- book
+-- (document 01, The book) that these represent.
 use mathlib.Core.Bool.{cond}
 use mathlib.Core.List.{List}
 use mathlib.Core.Option.{Option, none, some}
 use Prim.Native.Nat.{ℕ, _+_, _*_, _^_}
 use lib.Dec.{eqb}
 use Rattle.vrf_words.specs.Words.{word, part}
-use Rattle.vrf_model.specs.Book.{Guid, Slot, empty, filled, Group, Allowances, Content, Tally, Book}
+use Rattle.vrf_model.specs.Book.{Guid, Slot, empty, filled, Group, Allowances, Content, Counters, Book}
 use Rattle.vrf_table.specs.Chain.{lastBelow}
 use Rattle.vrf_table.specs.Table.{key, info, text, keyHit}
 use Rattle.vrf_store.specs.UpTo.{upTo}
@@ -16,14 +18,14 @@ use Rattle.vrf_store.specs.Layout
 abbrev pub allowancesOf : List ℕ → Allowances
 allowancesOf m = record { guids = word m 0; groups = word m 1; fields = word m 2; text = word m 3; literals = word m 4 }
 
--- a number of two words
+-- the 64-bit number in the words i and i + 1
 unfoldable pub long : List ℕ → ℕ → ℕ
 long m i = word m i + 2 ^ 32 * word m (i + 1)
 
-unfoldable pub countersOf : List ℕ → Tally
+unfoldable pub countersOf : List ℕ → Counters
 countersOf m = record { schema = long m 11; guid = long m 13; dropped = long m 15; replaced = long m 17; renamed = long m 19 }
 
--- counts and totals: how many GUID records, groups and fields are held; the bytes of all texts held; the bytes used in the half of the
+-- counts and totals: the numbers of GUID records, groups and fields held; the bytes of all texts held; the bytes used in the half of the
 -- texts that is in use, and which half that is
 pub record Header : Type 0 where
   pub allowed : Allowances
@@ -37,7 +39,7 @@ pub record Header : Type 0 where
 abbrev pub headerOf : List ℕ → Header
 headerOf m = record { allowed = allowancesOf m; guids = word m 5; groups = word m 6; fields = word m 7; held = word m 8; used = word m 9; half = word m 10 }
 
--- ---- the rest
+-- ---- the parts after the header
 
 -- the first byte of a half of the texts
 unfoldable pub halfAt : Allowances → ℕ → ℕ
@@ -55,7 +57,7 @@ pub record Store : Type 0 where
   pub leafHeads : List ℕ
   pub fieldRows : List ℕ
   pub fieldHeads : List ℕ
-  -- where the literals of a block stand while it is read; no part of the book
+  -- where the literals of a block are while the block is read; not part of the book
   pub literals : List ℕ
   pub texts : List ℕ
 
@@ -83,7 +85,7 @@ storeBy h m = record {
 abbrev pub storeOf : List ℕ → Store
 storeOf m = storeBy (headerOf m) m
 
--- ---- the book that it holds
+-- ---- the book that a store holds
 
 unfoldable pub guidAt : Store → ℕ → Guid
 guidAt s e = record { guid = key (s .guidRows) e; path = text (s .guidRows) (s .texts) e; outer = info (s .guidRows) e }
@@ -95,11 +97,11 @@ unfoldable pub orEmpty : (ℕ → Slot) → Option ℕ → Slot
 orEmpty f none = empty
 orEmpty f (some e) = f e
 
--- the number of a group's slot, the key of a field
+-- the key of the field in a slot of a group
 unfoldable pub slotKey : ℕ → ℕ → ℕ
 slotKey place slot = 65536 * place + slot
 
--- a slot is what the first n fields have for it
+-- a slot as the first n fields fill it
 unfoldable pub slotBy : Store → ℕ → ℕ → ℕ → Slot
 slotBy s n place slot = orEmpty (fieldAt s) (lastBelow (keyHit (s .fieldRows) (slotKey place slot)) n)
 

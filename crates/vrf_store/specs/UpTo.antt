@@ -1,4 +1,4 @@
--- Lists, tests and sums over the numbers below n.
+-- Lists, tests and sums over the numbers below n. The other files use them for the rows of a table.
 use mathlib.Core.Bool.{Bool, true, _&&_}
 use mathlib.Core.List.{List, [], _∷_, _++_}
 use Prim.Native.Nat.{ℕ, zero, suc, _+_}

@@ -1,4 +1,4 @@
-// Groups, and the three indexes by which they are found: by index, by a key of the path and by leaf.
+// Changes of the groups, and the three indexes that find a group: by path-name index, by a key of its path and by its leaf.
 use crate::parts::group_rows;
 use crate::parts::groups;
 use crate::parts::groups_allowed;
@@ -31,34 +31,31 @@ ghost use mathlib.Core.List.{[], _∷_, _++_};
 ghost use Prim.Native.Nat.{_+_, _-_, _*_, _^_, _<_, _≤_};
 ghost use lib.ListN.{length, set};
 ghost use Rattle.vrf_bitio.specs.Pasted.{pasted};
+ghost use Rattle.vrf_path.specs.Leaf.{leaf};
 ghost use Rattle.vrf_path.specs.Answers.{spelled, keyBytes};
-ghost use Rattle.vrf_path.specs.Leaf.{leaf, Dotless};
+ghost use Rattle.vrf_path.specs.Inner.Leaf.{Dotless};
 ghost use Rattle.vrf_words.specs.Words.{part};
 ghost use Rattle.vrf_model.specs.Setting.{withGroups, newGroup, mergedGroup};
 ghost use Rattle.vrf_table.specs.Table.{info, text};
-ghost use Rattle.vrf_table.specs.TextIndex.{textBucket, leafBucket, claimOf};
-ghost use Rattle.vrf_table.specs.Answers.{Texts};
+ghost use Rattle.vrf_table.specs.TextIndex.{textBucket, claimOf};
+ghost use Rattle.vrf_table.specs.Inner.TextIndex.{leafBucket};
+ghost use Rattle.vrf_table.specs.Inner.Answers.{RowTexts};
 ghost use Rattle.vrf_store.specs.Store.{allowancesOf, headerOf, storeOf, words};
-ghost use Rattle.vrf_store.specs.Good.{Enough, Good};
-ghost use Rattle.vrf_store.specs.CheckSteps.{Walked};
-ghost use Rattle.vrf_store.specs.Stepped.{Stepped, held};
-ghost use Rattle.vrf_store.specs.Written.{Written};
-ghost use Rattle.vrf_store.specs.TableMoves.{pushRow};
-ghost use Rattle.vrf_store.specs.TextMoves.{bucketOf, unlessShared, joinedBy, linked, headed, Below};
-ghost use Rattle.vrf_store.specs.GroupIndex.{pushKey, pushPath, pushLeaf, leafOf, Unindexed, Indexable, Pushable, Joined};
-ghost use Rattle.vrf_store.specs.GroupBuckets.{bucketed, BucketsOf};
-ghost use Rattle.vrf_store.specs.FieldMoves.{withGroup};
-ghost use Rattle.vrf_store.specs.GroupMoves.{putGroup, NewGroup};
-ghost use Rattle.vrf_store.specs.GroupSets.{grownGroup};
-ghost use Rattle.vrf_store.specs.GroupResets.{OldGroup, Handles, groupOf, Emptied};
+ghost use Rattle.vrf_store.specs.Inner.WellFormed.{Enough, WellFormed};
+ghost use Rattle.vrf_store.specs.Inner.Check.{Walked};
+ghost use Rattle.vrf_store.specs.Inner.Memory.{WrittenStore, pushRow};
+ghost use Rattle.vrf_store.specs.Inner.Stepped.{Stepped, held};
+ghost use Rattle.vrf_store.specs.Inner.Fields.{withGroup};
+ghost use Rattle.vrf_store.specs.Inner.Groups.{bucketOf, unlessShared, joinedBy, linked, headed, BucketBelow, pushKey, pushPath, pushLeaf, leafOf, Unindexed, Indexable, Pushable, MoreIndexed};
+ghost use Rattle.vrf_store.specs.Inner.Groups.{bucketed, BucketsOf, putGroup, NewGroup, grownGroup, OldGroup, Handles, groupOf, Emptied};
 
-// The bucket of a text, if there is one.
+// The bucket that an entry joins, if it joins one.
 enum Bucket {
     Of(u32),
     Absent,
 }
 
-// The buckets of a group: of its index, of the three keys of its path, and of its leaf.
+// The buckets of a group: for its index, for the three keys of its path, and for its leaf.
 struct Buckets {
     key: Bucket,
     own: Bucket,
@@ -67,7 +64,7 @@ struct Buckets {
     leaf: Bucket,
 }
 
-// The bucket of a path's key among b. The key is spelled out first, on the stack: a path has at most 4096 bytes, and a key 23 more.
+// The bucket of a path's key, out of b buckets. The key is first written out on the stack. A path has at most 4096 bytes, a key 23 more.
 fn spelled_bucket(path: &[u8], key: Key, b: u32) -> u32
     requires { ⌜ length (now path) ≤ 4096 ⌝ }
     ensures { λ r. ⌜ r ≡ textBucket b (keyBytes (now (path .entry)) key) ⌝ }
@@ -77,7 +74,7 @@ fn spelled_bucket(path: &[u8], key: Key, b: u32) -> u32
     text_bucket(&t[..n], b)
 }
 
-// The bucket of a key that a path may have, among b.
+// The bucket of an alias, out of b buckets, if the path has that alias.
 fn alias_bucket(path: &[u8], key: Key, b: u32) -> Bucket
     requires { ⌜ length (now path) ≤ 4096 ⌝ }
     ensures { λ r. ⌜ bucketed r ≡ bucketOf (textBucket b) (spelled (now (path .entry)) key) ⌝ }
@@ -88,8 +85,9 @@ fn alias_bucket(path: &[u8], key: Key, b: u32) -> Bucket
     Bucket::Of(spelled_bucket(path, key, b))
 }
 
-// The bucket that a leaf joins among b, unless two of n groups have it already: it is ambiguous then, and stays so. So a chain has each
-// leaf twice at most, and no walk goes by many groups with another leaf of the same base.
+// The bucket that leaf l joins, out of b buckets. If two of the n groups have the leaf already, it joins none: it is ambiguous and stays
+// so.
+// So a chain holds each leaf at most twice, and a walk does not pass many groups that have another leaf with the same base.
 fn joined_bucket(
     rows: &[u8],
     x: &[u8],
@@ -99,7 +97,7 @@ fn joined_bucket(
     n: u32,
     l: &[u8],
 ) -> Bucket
-    requires { ⌜ Dotless (now l) × (24 * n ≤ length (now rows)) × (4 * n ≤ length (now links)) × (4 * b ≤ length (now heads)) × (0 < b) × (n ≤ 100000) × Texts (now rows) (now x) n × (length (now l) < 2 ^ 31) ⌝ }
+    requires { ⌜ Dotless (now l) × (24 * n ≤ length (now rows)) × (4 * n ≤ length (now links)) × (4 * b ≤ length (now heads)) × (0 < b) × (n ≤ 100000) × RowTexts (now rows) (now x) n × (length (now l) < 2 ^ 31) ⌝ }
     ensures { λ r. ⌜ bucketed r ≡ unlessShared (claimOf (now (rows .entry)) (now (x .entry)) (now (links .entry)) (now (heads .entry)) b n (now (l .entry))) (leafBucket b (now (l .entry))) ⌝ }
 {
     let found = leaf_claim(rows, x, links, heads, b, n, l);
@@ -109,7 +107,7 @@ fn joined_bucket(
     Bucket::Of(found.bucket)
 }
 
-// The bucket that the leaf of group g joins among b, if it has a leaf.
+// The bucket that group g's leaf joins, out of b buckets, if the group has a leaf.
 fn leaf_bucket_of(rows: &[u8], x: &[u8], links: &[u8], heads: &[u8], b: u32, g: u32) -> Bucket
     requires { ⌜ Walked (now rows) (now x) (now links) (now heads) 4 b (g + 1) ⌝ }
     ensures { λ r. ⌜ bucketed r ≡ joinedBy (claimOf (now (rows .entry)) (now (x .entry)) (now (links .entry)) (now (heads .entry)) b g) (leafBucket b) (leaf (text (now (rows .entry)) (now (x .entry)) g)) ⌝ }
@@ -121,7 +119,7 @@ fn leaf_bucket_of(rows: &[u8], x: &[u8], links: &[u8], heads: &[u8], b: u32, g: 
     }
 }
 
-// The same of a memory.
+// The bucket that group g's leaf joins, read from the memory.
 fn leaf_bucket_in(m: &[u8], g: u32) -> Bucket
     requires { ⌜ Indexable (now m) g ⌝ }
     ensures { λ r. ⌜ bucketed r ≡ leafOf (storeOf (now (m .entry))) g ⌝ }
@@ -130,10 +128,11 @@ fn leaf_bucket_in(m: &[u8], g: u32) -> Bucket
     leaf_bucket_of(group_rows(m), texts(m), leaf_links(m), leaf_heads(m), b, g)
 }
 
-// Puts an entry at the front of the chain of a bucket, if it has one. From word `at` on stand n words, of which word i is its link,
-// and k heads behind them; p points to it.
+// Puts an entry at the front of the chain of its bucket, if it has one. From word `at` on there are n words of links, then k heads. Word i
+// of
+// the links is the link of the entry. p is the pointer to the entry.
 fn push_entry(m: &mut [u8], at: usize, n: usize, k: usize, i: usize, b: Bucket, p: u32)
-    requires { ⌜ (4 * at + 4 * n + 4 * k ≤ length (now m)) × (i < n) × Below k (bucketed b) ⌝ }
+    requires { ⌜ (4 * at + 4 * n + 4 * k ≤ length (now m)) × (i < n) × BucketBelow k (bucketed b) ⌝ }
     ensures { λ _. ⌜ now (m .exit) ≡ pasted (now (m .entry)) (4 * at) (linked (words (now (m .entry)) at n) (words (now (m .entry)) (at + n) k) i (bucketed b) ++ headed (words (now (m .entry)) (at + n) k) p (bucketed b)) ⌝ }
 {
     if let Bucket::Of(h) = b {
@@ -144,10 +143,10 @@ fn push_entry(m: &mut [u8], at: usize, n: usize, k: usize, i: usize, b: Bucket, 
     }
 }
 
-// The entries of group e in the three indexes, each put at the front of a chain.
+// These three put one entry of a group at the front of a chain: in the index by path-name index, by path key and by leaf.
 fn push_key(m: &mut [u8], e: u32, b: Bucket)
     requires { ⌜ Pushable (now m) 1 (allowancesOf (now m) .groups + 1) e (bucketed b) ⌝ }
-    ensures { λ _. ⌜ Written (now (m .entry)) (now (m .exit)) (pushKey (storeOf (now (m .entry))) e (bucketed b)) ⌝ }
+    ensures { λ _. ⌜ WrittenStore (now (m .entry)) (now (m .exit)) (pushKey (storeOf (now (m .entry))) e (bucketed b)) ⌝ }
 {
     let g = guids_allowed(m);
     let r = groups_allowed(m);
@@ -157,7 +156,7 @@ fn push_key(m: &mut [u8], e: u32, b: Bucket)
 
 fn push_path(m: &mut [u8], e: u32, b: Bucket)
     requires { ⌜ Pushable (now m) 3 (3 * allowancesOf (now m) .groups + 1) e (bucketed b) ⌝ }
-    ensures { λ _. ⌜ Written (now (m .entry)) (now (m .exit)) (pushPath (storeOf (now (m .entry))) e (bucketed b)) ⌝ }
+    ensures { λ _. ⌜ WrittenStore (now (m .entry)) (now (m .exit)) (pushPath (storeOf (now (m .entry))) e (bucketed b)) ⌝ }
 {
     let g = guids_allowed(m);
     let r = groups_allowed(m);
@@ -174,14 +173,14 @@ fn push_path(m: &mut [u8], e: u32, b: Bucket)
 
 fn push_leaf(m: &mut [u8], e: u32, b: Bucket)
     requires { ⌜ Pushable (now m) 1 (2 * allowancesOf (now m) .groups + 1) e (bucketed b) ⌝ }
-    ensures { λ _. ⌜ Written (now (m .entry)) (now (m .exit)) (pushLeaf (storeOf (now (m .entry))) e (bucketed b)) ⌝ }
+    ensures { λ _. ⌜ WrittenStore (now (m .entry)) (now (m .exit)) (pushLeaf (storeOf (now (m .entry))) e (bucketed b)) ⌝ }
 {
     let g = guids_allowed(m);
     let r = groups_allowed(m);
     push_entry(m, 35 + 10 * g + 13 * r, r, 2 * r + 1, e as usize, b, e + 1);
 }
 
-// The buckets of group g.
+// The buckets of group g in the three indexes.
 fn buckets_of(m: &[u8], g: u32) -> Buckets
     requires { ⌜ Indexable (now m) g ⌝ }
     ensures { λ r. ⌜ BucketsOf (storeOf (now (m .entry))) g r ⌝ }
@@ -200,10 +199,10 @@ fn buckets_of(m: &[u8], g: u32) -> Buckets
     }
 }
 
-// Group g joins the three indexes, in which the groups before it are.
+// Adds group g to the three indexes. The groups before it must be in them.
 fn index_group(m: &mut [u8], g: u32)
     requires { ⌜ Indexable (now m) g ⌝ }
-    ensures { λ _. ⌜ Joined (now (m .entry)) (now (m .exit)) g (g + 1) ⌝ }
+    ensures { λ _. ⌜ MoreIndexed (now (m .entry)) (now (m .exit)) g (g + 1) ⌝ }
 {
     let b = buckets_of(m, g);
     let key = b.key;
@@ -218,7 +217,7 @@ fn index_group(m: &mut [u8], g: u32)
     push_leaf(m, g, leaf);
 }
 
-// Writes row e of a table. Its link is set as the row joins the index.
+// Writes row e of a table. The link is set later, when the row joins the index.
 fn put_row(t: &mut [u8], e: u32, k: u64, at: u32, len: u32, info: u32)
     requires { ⌜ 24 * e + 24 ≤ length (now t) ⌝ }
     ensures { λ _. ⌜ now (t .exit) ≡ pushRow (now (t .entry)) e k 0 at len info ⌝ }
@@ -227,10 +226,9 @@ fn put_row(t: &mut [u8], e: u32, k: u64, at: u32, len: u32, info: u32)
     put_key(t, e, k, 0);
 }
 
-// Writes the row of group e.
 fn put_group(m: &mut [u8], e: u32, index: u32, at: u32, len: u32, slots: u32)
     requires { ⌜ Enough (now m) × (e < allowancesOf (now m) .groups) ⌝ }
-    ensures { λ _. ⌜ Written (now (m .entry)) (now (m .exit)) (putGroup (storeOf (now (m .entry))) e index at len slots) ⌝ }
+    ensures { λ _. ⌜ WrittenStore (now (m .entry)) (now (m .exit)) (putGroup (storeOf (now (m .entry))) e index at len slots) ⌝ }
 {
     let cap = groups_allowed(m);
     let from = 4 * (33 + 10 * guids_allowed(m));
@@ -238,7 +236,7 @@ fn put_group(m: &mut [u8], e: u32, index: u32, at: u32, len: u32, slots: u32)
     put_row(&mut m[from..to], e, index as u64, at, len, slots);
 }
 
-// A group more, its path a text that stands in the half in use.
+// Adds a group. Its path is a text in the half in use.
 pub fn push_group(m: &mut [u8], index: u32, at: u32, len: u32, slots: u32)
     requires { ⌜ NewGroup (now m) index at len slots ⌝ }
     ensures { λ _. ⌜ Stepped (now (m .entry)) (now (m .exit)) (withGroups (held (now (m .entry))) (held (now (m .entry)) .groups ++ (newGroup (part (storeOf (now (m .entry)) .texts) at len) index slots ∷ []))) ⌝ }
@@ -251,9 +249,9 @@ pub fn push_group(m: &mut [u8], index: u32, at: u32, len: u32, slots: u32)
     index_group(m, n);
 }
 
-// Group e has at least so many slots then; it never loses one. No index says how many there are, so none is made again.
+// Gives group e at least `slots` slots; it never loses one. No index depends on the slot count, so none is rebuilt.
 pub fn grow_group(m: &mut [u8], e: u32, slots: u32)
-    requires { ⌜ Good (now m) × (e < headerOf (now m) .groups) × (slots ≤ 65536) ⌝ }
+    requires { ⌜ WellFormed (now m) × (e < headerOf (now m) .groups) × (slots ≤ 65536) ⌝ }
     ensures { λ _. ⌜ Stepped (now (m .entry)) (now (m .exit)) (withGroup (held (now (m .entry))) e (grownGroup slots)) ⌝ }
 {
     let word = 33 + 10 * guids_allowed(m) + (6 * (e as usize) + 5);
@@ -262,10 +260,10 @@ pub fn grow_group(m: &mut [u8], e: u32, slots: u32)
     }
 }
 
-// Clears the heads of the three indexes. What stands there would do no harm, but the new chains would go on into the old ones.
+// Clears the heads of the three indexes. Old heads would not make a search wrong, but the new chains would continue into the old ones.
 fn clear_heads(m: &mut [u8])
     requires { ⌜ Enough (now m) ⌝ }
-    ensures { λ _. ⌜ Joined (now (m .entry)) (now (m .exit)) 0 0 ⌝ }
+    ensures { λ _. ⌜ MoreIndexed (now (m .entry)) (now (m .exit)) 0 0 ⌝ }
 {
     let g = guids_allowed(m);
     let r = groups_allowed(m);
@@ -274,7 +272,7 @@ fn clear_heads(m: &mut [u8])
     zero_words(m, 35 + 10 * g + 14 * r, 2 * r + 1);
 }
 
-// Makes the three indexes again.
+// Builds the three indexes again from the group rows.
 pub fn rebuild_group_indexes(m: &mut [u8])
     requires { ⌜ Enough (now m) × Unindexed (storeOf (now m)) ⌝ }
     ensures { λ _. ⌜ Stepped (now (m .entry)) (now (m .exit)) (held (now (m .entry))) ⌝ }
@@ -288,7 +286,7 @@ pub fn rebuild_group_indexes(m: &mut [u8])
     }
 }
 
-// Row e takes another index, path and slot count, and the indexes are made again.
+// Gives row e a new index, path and slot count, and rebuilds the indexes.
 fn set_row(m: &mut [u8], e: u32, index: u32, at: u32, len: u32, slots: u32)
     requires { ⌜ OldGroup (now m) e index at len slots × Handles (storeOf (now m)) e slots ⌝ }
     ensures { λ _. ⌜ Stepped (now (m .entry)) (now (m .exit)) (withGroup (held (now (m .entry))) e (λ _. groupOf (storeOf (now (m .entry))) e index at len slots)) ⌝ }
@@ -299,7 +297,6 @@ fn set_row(m: &mut [u8], e: u32, index: u32, at: u32, len: u32, slots: u32)
     rebuild_group_indexes(m);
 }
 
-// How many slots a group has.
 fn slot_count(rows: &[u8], e: u32) -> u32
     requires { ⌜ 24 * e + 24 ≤ length (now rows) ⌝ }
     ensures { λ r. ⌜ r ≡ info (now (rows .entry)) e ⌝ }
@@ -307,14 +304,13 @@ fn slot_count(rows: &[u8], e: u32) -> u32
     get32(rows, 6 * (e as usize) + 5)
 }
 
-// The larger of two numbers.
 fn larger(a: u32, b: u32) -> u32
     ensures { λ r. ⌜ r ≡ a + (b - a) ⌝ }
 {
     if a < b { b } else { a }
 }
 
-// Group e takes another index and path, and grows.
+// Gives group e a new index and path, and at least `slots` slots.
 pub fn set_group(m: &mut [u8], e: u32, index: u32, at: u32, len: u32, slots: u32)
     requires { ⌜ OldGroup (now m) e index at len slots ⌝ }
     ensures { λ _. ⌜ Stepped (now (m .entry)) (now (m .exit)) (withGroup (held (now (m .entry))) e (mergedGroup (part (storeOf (now (m .entry)) .texts) at len) index slots)) ⌝ }
@@ -323,7 +319,7 @@ pub fn set_group(m: &mut [u8], e: u32, index: u32, at: u32, len: u32, slots: u32
     set_row(m, e, index, at, len, most);
 }
 
-// Group e, which has no fields, is replaced: it may then have fewer slots.
+// Replaces group e, which must have no fields. It can then have fewer slots than before.
 pub fn replace_group(m: &mut [u8], e: u32, index: u32, at: u32, len: u32, slots: u32)
     requires { ⌜ OldGroup (now m) e index at len slots × Emptied (held (now m)) e ⌝ }
     ensures { λ _. ⌜ Stepped (now (m .entry)) (now (m .exit)) (withGroups (held (now (m .entry))) (set (held (now (m .entry)) .groups) e (newGroup (part (storeOf (now (m .entry)) .texts) at len) index slots))) ⌝ }

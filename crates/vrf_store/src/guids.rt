@@ -1,4 +1,4 @@
-// The GUID records of a lent memory.
+// Changes of the GUID records: adding one and changing one.
 use crate::parts::guid_rows;
 use crate::parts::guids;
 use crate::parts::guids_allowed;
@@ -12,10 +12,10 @@ ghost use lib.ListN.{set};
 ghost use Rattle.vrf_model.specs.Setting.{withGuids};
 ghost use Rattle.vrf_table.specs.Table.{key};
 ghost use Rattle.vrf_store.specs.Store.{storeOf};
-ghost use Rattle.vrf_store.specs.Stepped.{Stepped, held};
-ghost use Rattle.vrf_store.specs.GuidMoves.{NewGuid, OldGuid, guidOf};
+ghost use Rattle.vrf_store.specs.Inner.Stepped.{Stepped, held};
+ghost use Rattle.vrf_store.specs.Inner.Guids.{NewGuid, OldGuid, guidOf};
 
-// A record more, its path a text that stands in the half in use.
+// Adds a GUID record. Its path is a text in the half in use.
 pub fn push_guid(m: &mut [u8], guid: u32, at: u32, len: u32, outer: u32)
     requires { ⌜ NewGuid (now m) guid at len ⌝ }
     ensures { λ _. ⌜ Stepped (now (m .entry)) (now (m .exit)) (withGuids (held (now (m .entry))) (held (now (m .entry)) .guids ++ (guidOf (storeOf (now (m .entry))) guid at len outer ∷ []))) ⌝ }
@@ -31,7 +31,7 @@ pub fn push_guid(m: &mut [u8], guid: u32, at: u32, len: u32, outer: u32)
     put32(m, 8, total);
 }
 
-// Another path and outer of record e.
+// Gives record e a new path and outer.
 pub fn set_guid(m: &mut [u8], e: u32, at: u32, len: u32, outer: u32)
     requires { ⌜ OldGuid (now m) e at len ⌝ }
     ensures { λ _. ⌜ Stepped (now (m .entry)) (now (m .exit)) (withGuids (held (now (m .entry))) (set (held (now (m .entry)) .guids) e (guidOf (storeOf (now (m .entry))) (key (storeOf (now (m .entry)) .guidRows) e) at len outer))) ⌝ }

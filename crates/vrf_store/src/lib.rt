@@ -1,4 +1,4 @@
-// The lent memory: where its parts stand, the rows of its tables, its texts (docs/LAYOUT.md), the lookups in it and its changes.
+// The lent memory of a book (docs/LAYOUT.md): its parts, the rows of its tables, its texts, the lookups in it and its changes.
 pub mod counters;
 pub mod fields;
 pub mod groups;
@@ -10,8 +10,7 @@ pub mod parts;
 pub mod rows;
 pub mod texts;
 
-// A number, if there is one.
-pub enum Found {
+pub enum MaybeNumber {
     Is(u32),
     Nothing,
 }

@@ -1,4 +1,4 @@
-// The literal words of a lent memory: while a block is read they say where its literals stand.
+// The literal words of a lent memory. While a block is read, word i holds the position of its literal i.
 use crate::parts::literals;
 use crate::parts::literals_at;
 use vrf_words::get32;
@@ -7,20 +7,20 @@ ghost use mathlib.Core.Path.{_≡_};
 ghost use Prim.Native.Nat.{_<_};
 ghost use Rattle.vrf_words.specs.Words.{word};
 ghost use Rattle.vrf_store.specs.Store.{allowancesOf, storeOf};
-ghost use Rattle.vrf_store.specs.Good.{Good};
-ghost use Rattle.vrf_store.specs.Literals.{LiteralPut};
+ghost use Rattle.vrf_store.specs.Inner.WellFormed.{WellFormed};
+ghost use Rattle.vrf_store.specs.Inner.Literals.{LiteralPut};
 
-// Where literal i stands.
+// The position of literal i.
 pub fn literal_at(m: &[u8], i: u32) -> u32
-    requires { ⌜ Good (now m) × (i < allowancesOf (now m) .literals) ⌝ }
+    requires { ⌜ WellFormed (now m) × (i < allowancesOf (now m) .literals) ⌝ }
     ensures { λ r. ⌜ r ≡ word (storeOf (now (m .entry)) .literals) i ⌝ }
 {
     get32(literals(m), i as usize)
 }
 
-// Literal i stands at a position.
+// Records the position of literal i.
 pub fn put_literal(m: &mut [u8], i: u32, position: u32)
-    requires { ⌜ Good (now m) × (i < allowancesOf (now m) .literals) ⌝ }
+    requires { ⌜ WellFormed (now m) × (i < allowancesOf (now m) .literals) ⌝ }
     ensures { λ _. ⌜ LiteralPut (now (m .entry)) (now (m .exit)) i position ⌝ }
 {
     let at = literals_at(m);

@@ -1,5 +1,5 @@
-// Lookups in a good memory: each answers what the book's definitions say of the book that it holds.
-use crate::Found;
+// Lookups in well-formed memory. Each gives the answer that document 01 defines for the book in that memory.
+use crate::MaybeNumber;
 use crate::parts::field_heads;
 use crate::parts::field_rows;
 use crate::parts::fields;
@@ -37,51 +37,50 @@ ghost use Rattle.vrf_model.specs.Book.{Guid, Group};
 ghost use Rattle.vrf_model.specs.Lookup.{placeOr, pathPlace, indexPlace, guidPlace, slotChecksum, slotName, slotAt, leafClaim, outerGuid, outerPath, ifFilled, gameplayTag};
 ghost use Rattle.vrf_table.specs.Table.{key, info};
 ghost use Rattle.vrf_table.specs.TextIndex.{textStart};
-ghost use Rattle.vrf_table.specs.Index.{orLater};
-ghost use Rattle.vrf_table.specs.Answers.{entry, claim};
+ghost use Rattle.vrf_table.specs.Inner.Index.{claimOrLater};
+ghost use Rattle.vrf_table.specs.Inner.Answers.{entry, claim};
 ghost use Rattle.vrf_store.specs.Layout;
 ghost use Rattle.vrf_store.specs.Store.{allowancesOf, storeOf, slotKey, contentOf};
-ghost use Rattle.vrf_store.specs.Good.{Good};
-ghost use Rattle.vrf_store.specs.SlotRow.{fieldFound, slotRow};
-ghost use Rattle.vrf_store.specs.Answers.{found, Leaves};
+ghost use Rattle.vrf_store.specs.Inner.WellFormed.{WellFormed};
+ghost use Rattle.vrf_store.specs.Inner.Lookups.{numberFound, NameLeaves};
+ghost use Rattle.vrf_store.specs.Inner.Fields.{fieldFound, slotRow};
 
-// How many buckets each index has.
+// The number of buckets of each index.
 pub fn guid_buckets(m: &[u8]) -> u32
-    requires { ⌜ Good (now m) ⌝ }
+    requires { ⌜ WellFormed (now m) ⌝ }
     ensures { λ r. ⌜ r ≡ Layout.guidBuckets (allowancesOf (now (m .entry))) ⌝ }
 {
     (4 * guids_allowed(m) + 1) as u32
 }
 
 pub fn group_buckets(m: &[u8]) -> u32
-    requires { ⌜ Good (now m) ⌝ }
+    requires { ⌜ WellFormed (now m) ⌝ }
     ensures { λ r. ⌜ r ≡ Layout.groupBuckets (allowancesOf (now (m .entry))) ⌝ }
 {
     (groups_allowed(m) + 1) as u32
 }
 
 pub fn path_buckets(m: &[u8]) -> u32
-    requires { ⌜ Good (now m) ⌝ }
+    requires { ⌜ WellFormed (now m) ⌝ }
     ensures { λ r. ⌜ r ≡ Layout.pathBuckets (allowancesOf (now (m .entry))) ⌝ }
 {
     (3 * groups_allowed(m) + 1) as u32
 }
 
 pub fn leaf_buckets(m: &[u8]) -> u32
-    requires { ⌜ Good (now m) ⌝ }
+    requires { ⌜ WellFormed (now m) ⌝ }
     ensures { λ r. ⌜ r ≡ Layout.leafBuckets (allowancesOf (now (m .entry))) ⌝ }
 {
     (2 * groups_allowed(m) + 1) as u32
 }
 
 pub fn field_buckets(m: &[u8]) -> u32
-    requires { ⌜ Good (now m) ⌝ }
+    requires { ⌜ WellFormed (now m) ⌝ }
     ensures { λ r. ⌜ r ≡ Layout.fieldBuckets (allowancesOf (now (m .entry))) ⌝ }
 {
     (4 * fields_allowed(m) + 1) as u32
 }
 
-// The key of row e.
 pub fn row_key(rows: &[u8], e: u32) -> u64
     requires { ⌜ 24 * e + 24 ≤ length (now rows) ⌝ }
     ensures { λ r. ⌜ r ≡ key (now (rows .entry)) e ⌝ }
@@ -89,7 +88,7 @@ pub fn row_key(rows: &[u8], e: u32) -> u64
     get64(rows, 6 * (e as usize))
 }
 
-// The number of row e.
+// The number in row e: an outer, a slot count or a checksum.
 pub fn row_info(rows: &[u8], e: u32) -> u32
     requires { ⌜ 24 * e + 24 ≤ length (now rows) ⌝ }
     ensures { λ r. ⌜ r ≡ info (now (rows .entry)) e ⌝ }
@@ -97,9 +96,9 @@ pub fn row_info(rows: &[u8], e: u32) -> u32
     get32(rows, 6 * (e as usize) + 5)
 }
 
-// The place of a GUID's record.
+// The place of the record with this GUID.
 pub fn find_guid(m: &[u8], guid: u32) -> Entry
-    requires { ⌜ Good (now m) ⌝ }
+    requires { ⌜ WellFormed (now m) ⌝ }
     ensures { λ r. ⌜ entry r ≡ guidPlace guid (contentOf (storeOf (now (m .entry))) .guids) ⌝ }
 {
     find_key(
@@ -111,9 +110,9 @@ pub fn find_guid(m: &[u8], guid: u32) -> Entry
     )
 }
 
-// The place of the group with a path-name index.
+// The place of the group with this path-name index.
 pub fn find_index(m: &[u8], index: u32) -> Entry
-    requires { ⌜ Good (now m) ⌝ }
+    requires { ⌜ WellFormed (now m) ⌝ }
     ensures { λ r. ⌜ entry r ≡ indexPlace index (contentOf (storeOf (now (m .entry))) .groups) ⌝ }
 {
     find_key(
@@ -125,9 +124,9 @@ pub fn find_index(m: &[u8], index: u32) -> Entry
     )
 }
 
-// The place of the last group with a key.
+// The place of the last group with the key k.
 pub fn find_path_place(m: &[u8], k: &[u8]) -> Entry
-    requires { ⌜ Good (now m) × (length (now k) < 2 ^ 31) ⌝ }
+    requires { ⌜ WellFormed (now m) × (length (now k) < 2 ^ 31) ⌝ }
     ensures { λ r. ⌜ entry r ≡ pathPlace (now (k .entry)) (contentOf (storeOf (now (m .entry))) .groups) ⌝ }
 {
     let b = path_buckets(m);
@@ -146,18 +145,18 @@ pub fn find_path_place(m: &[u8], k: &[u8]) -> Entry
     }
 }
 
-// Where the chain of the leaves with a base starts.
+// The pointer at which the chain of the leaves with this base starts.
 fn leaf_start(m: &[u8], base: &[u8]) -> u32
-    requires { ⌜ Good (now m) × (length (now base) < 2 ^ 31) ⌝ }
+    requires { ⌜ WellFormed (now m) × (length (now base) < 2 ^ 31) ⌝ }
     ensures { λ r. ⌜ r ≡ textStart (storeOf (now (m .entry)) .leafHeads) (Layout.leafBuckets (allowancesOf (now (m .entry)))) (now (base .entry)) ⌝ }
 {
     let b = leaf_buckets(m);
     get32(leaf_heads(m), text_bucket(&base[..], b) as usize)
 }
 
-// The same for the first n bytes of a name, whose own chain starts at q: mostly they are all.
+// The pointer at which the chain for the first n bytes of a name starts. q is the pointer for the whole name. Mostly n is the whole length.
 fn front_start(m: &[u8], name: &[u8], n: usize, q: u32) -> u32
-    requires { ⌜ Good (now m) × (length (now name) < 2 ^ 31) × (n ≤ length (now name)) × (q ≡ textStart (storeOf (now m) .leafHeads) (Layout.leafBuckets (allowancesOf (now m))) (now name)) ⌝ }
+    requires { ⌜ WellFormed (now m) × (length (now name) < 2 ^ 31) × (n ≤ length (now name)) × (q ≡ textStart (storeOf (now m) .leafHeads) (Layout.leafBuckets (allowancesOf (now m))) (now name)) ⌝ }
     ensures { λ r. ⌜ r ≡ textStart (storeOf (now (m .entry)) .leafHeads) (Layout.leafBuckets (allowancesOf (now (m .entry)))) (take n (now (name .entry))) ⌝ }
 {
     if n == name.len() {
@@ -166,11 +165,12 @@ fn front_start(m: &[u8], name: &[u8], n: usize, q: u32) -> u32
     leaf_start(m, &name[..n])
 }
 
-// The first claim among the leaves that a name makes with three suffixes. The name is the base of the last two, and its first n bytes
-// that of the first.
+// The first claim that is not absent, among the name with the suffixes s, t and u. The name is the base of the last two leaves, and its
+// first
+// n bytes are the base of the first leaf.
 pub fn claim_of(m: &[u8], name: &[u8], n: usize, s: &[u8], t: &[u8], u: &[u8]) -> Claim
-    requires { ⌜ Good (now m) × Leaves (now name) n (now s) (now t) (now u) ⌝ }
-    ensures { λ r. ⌜ claim r ≡ orLater (leafClaim (now (name .entry) ++ now (s .entry)) (contentOf (storeOf (now (m .entry))) .groups)) (orLater (leafClaim (now (name .entry) ++ now (t .entry)) (contentOf (storeOf (now (m .entry))) .groups)) (leafClaim (now (name .entry) ++ now (u .entry)) (contentOf (storeOf (now (m .entry))) .groups))) ⌝ }
+    requires { ⌜ WellFormed (now m) × NameLeaves (now name) n (now s) (now t) (now u) ⌝ }
+    ensures { λ r. ⌜ claim r ≡ claimOrLater (leafClaim (now (name .entry) ++ now (s .entry)) (contentOf (storeOf (now (m .entry))) .groups)) (claimOrLater (leafClaim (now (name .entry) ++ now (t .entry)) (contentOf (storeOf (now (m .entry))) .groups)) (leafClaim (now (name .entry) ++ now (u .entry)) (contentOf (storeOf (now (m .entry))) .groups))) ⌝ }
 {
     let q = leaf_start(m, name);
     let p = front_start(m, name, n, q);
@@ -179,9 +179,9 @@ pub fn claim_of(m: &[u8], name: &[u8], n: usize, s: &[u8], t: &[u8], u: &[u8]) -
     first_claim(rows, x, leaf_links(m), groups(m), p, q, name, s, t, u)
 }
 
-// The row of the field whose key is that of a group's slot, of any two numbers.
+// The row of the field with the key of this place and slot. Both can be any numbers.
 pub fn find_field(m: &[u8], place: u32, slot: u32) -> Entry
-    requires { ⌜ Good (now m) ⌝ }
+    requires { ⌜ WellFormed (now m) ⌝ }
     ensures { λ r. ⌜ entry r ≡ fieldFound (storeOf (now (m .entry))) (slotKey place slot) ⌝ }
 {
     let k = 65536 * (place as u64) + (slot as u64);
@@ -194,9 +194,9 @@ pub fn find_field(m: &[u8], place: u32, slot: u32) -> Entry
     )
 }
 
-// The path of the GUID record at a place, empty past the records.
+// The path of the GUID record at place i; empty past the records.
 pub fn guid_path(m: &[u8], i: u32) -> &[u8]
-    requires { ⌜ Good (now m) ⌝ }
+    requires { ⌜ WellFormed (now m) ⌝ }
     ensures { λ r. ⌜ now r ≡ placeOr (λ (g : Guid). g .path) [] (contentOf (storeOf (now (m .entry))) .guids) i ⌝ }
 {
     if i < guids(m) {
@@ -205,9 +205,9 @@ pub fn guid_path(m: &[u8], i: u32) -> &[u8]
     &m[0..0]
 }
 
-// The outer of the GUID record at a place, 0 past the records.
+// The outer of the GUID record at place i; 0 past the records.
 pub fn guid_outer(m: &[u8], i: u32) -> u32
-    requires { ⌜ Good (now m) ⌝ }
+    requires { ⌜ WellFormed (now m) ⌝ }
     ensures { λ r. ⌜ r ≡ placeOr (λ (g : Guid). g .outer) 0 (contentOf (storeOf (now (m .entry))) .guids) i ⌝ }
 {
     if i < guids(m) {
@@ -216,9 +216,9 @@ pub fn guid_outer(m: &[u8], i: u32) -> u32
     0
 }
 
-// The path of the group at a place, empty past the groups.
+// The path of the group at place i; empty past the groups.
 pub fn group_path(m: &[u8], i: u32) -> &[u8]
-    requires { ⌜ Good (now m) ⌝ }
+    requires { ⌜ WellFormed (now m) ⌝ }
     ensures { λ r. ⌜ now r ≡ placeOr (λ (g : Group). g .path) [] (contentOf (storeOf (now (m .entry))) .groups) i ⌝ }
 {
     if i < groups(m) {
@@ -227,9 +227,9 @@ pub fn group_path(m: &[u8], i: u32) -> &[u8]
     &m[0..0]
 }
 
-// The path-name index of the group at a place, 0 past the groups.
+// The path-name index of the group at place i; 0 past the groups.
 pub fn group_index(m: &[u8], i: u32) -> u32
-    requires { ⌜ Good (now m) ⌝ }
+    requires { ⌜ WellFormed (now m) ⌝ }
     ensures { λ r. ⌜ r ≡ placeOr (λ (g : Group). g .index) 0 (contentOf (storeOf (now (m .entry))) .groups) i ⌝ }
 {
     if i < groups(m) {
@@ -238,9 +238,9 @@ pub fn group_index(m: &[u8], i: u32) -> u32
     0
 }
 
-// How many slots the group at a place has, 0 past the groups.
+// The slot count of the group at place i; 0 past the groups.
 pub fn group_slots(m: &[u8], i: u32) -> u32
-    requires { ⌜ Good (now m) ⌝ }
+    requires { ⌜ WellFormed (now m) ⌝ }
     ensures { λ r. ⌜ r ≡ placeOr (λ (g : Group). length (g .slots)) 0 (contentOf (storeOf (now (m .entry))) .groups) i ⌝ }
 {
     if i < groups(m) {
@@ -249,9 +249,9 @@ pub fn group_slots(m: &[u8], i: u32) -> u32
     0
 }
 
-// The row of the field in a group's slot. A slot of 65536 or more has none, and its key would be that of another group's slot.
+// The row of the field in a group's slot. No group has a slot 65536 or above: its key would be the key of another group's slot.
 pub fn slot_row(m: &[u8], place: u32, slot: u32) -> Entry
-    requires { ⌜ Good (now m) ⌝ }
+    requires { ⌜ WellFormed (now m) ⌝ }
     ensures { λ r. ⌜ entry r ≡ slotRow (storeOf (now (m .entry))) place slot ⌝ }
 {
     if slot < 65536 {
@@ -260,20 +260,20 @@ pub fn slot_row(m: &[u8], place: u32, slot: u32) -> Entry
     Entry::Nowhere
 }
 
-// The checksum of the field in a group's slot.
-pub fn field_checksum(m: &[u8], place: u32, slot: u32) -> Found
-    requires { ⌜ Good (now m) ⌝ }
-    ensures { λ r. ⌜ found r ≡ slotChecksum (slotAt (contentOf (storeOf (now (m .entry))) .groups) place slot) ⌝ }
+// The checksum of the field in a group's slot, if the slot is filled.
+pub fn field_checksum(m: &[u8], place: u32, slot: u32) -> MaybeNumber
+    requires { ⌜ WellFormed (now m) ⌝ }
+    ensures { λ r. ⌜ numberFound r ≡ slotChecksum (slotAt (contentOf (storeOf (now (m .entry))) .groups) place slot) ⌝ }
 {
     match slot_row(m, place, slot) {
-        Entry::At(e) => Found::Is(row_info(field_rows(m), e)),
-        Entry::Nowhere => Found::Nothing,
+        Entry::At(e) => MaybeNumber::Is(row_info(field_rows(m), e)),
+        Entry::Nowhere => MaybeNumber::Nothing,
     }
 }
 
-// The name of the field in a group's slot, empty where there is none.
+// The name of the field in a group's slot; empty if the slot is empty.
 pub fn field_name(m: &[u8], place: u32, slot: u32) -> &[u8]
-    requires { ⌜ Good (now m) ⌝ }
+    requires { ⌜ WellFormed (now m) ⌝ }
     ensures { λ r. ⌜ now r ≡ slotName (slotAt (contentOf (storeOf (now (m .entry))) .groups) place slot) ⌝ }
 {
     match slot_row(m, place, slot) {
@@ -282,41 +282,40 @@ pub fn field_name(m: &[u8], place: u32, slot: u32) -> &[u8]
     }
 }
 
-// A GUID, unless it is 0, which is none.
-fn unless_zero(guid: u32) -> Found
-    ensures { λ r. ⌜ found r ≡ cond (eqb guid 0) none (some guid) ⌝ }
+// An outer GUID, where 0 means none.
+fn unless_zero(guid: u32) -> MaybeNumber
+    ensures { λ r. ⌜ numberFound r ≡ cond (eqb guid 0) none (some guid) ⌝ }
 {
     if guid == 0 {
-        return Found::Nothing;
+        return MaybeNumber::Nothing;
     }
-    Found::Is(guid)
+    MaybeNumber::Is(guid)
 }
 
-// The outer GUID of a GUID.
-pub fn get_outer_guid(m: &[u8], guid: u32) -> Found
-    requires { ⌜ Good (now m) ⌝ }
-    ensures { λ r. ⌜ found r ≡ outerGuid guid (contentOf (storeOf (now (m .entry))) .guids) ⌝ }
+pub fn get_outer_guid(m: &[u8], guid: u32) -> MaybeNumber
+    requires { ⌜ WellFormed (now m) ⌝ }
+    ensures { λ r. ⌜ numberFound r ≡ outerGuid guid (contentOf (storeOf (now (m .entry))) .guids) ⌝ }
 {
     match find_guid(m, guid) {
         Entry::At(i) => unless_zero(guid_outer(m, i)),
-        Entry::Nowhere => Found::Nothing,
+        Entry::Nowhere => MaybeNumber::Nothing,
     }
 }
 
-// The place of the record of a GUID's outer, whose path is the outer path.
+// The place of the record of a GUID's outer. The path of that record is the outer path.
 pub fn get_outer_path(m: &[u8], guid: u32) -> Entry
-    requires { ⌜ Good (now m) ⌝ }
+    requires { ⌜ WellFormed (now m) ⌝ }
     ensures { λ r. ⌜ entry r ≡ outerPath guid (contentOf (storeOf (now (m .entry))) .guids) ⌝ }
 {
     match get_outer_guid(m, guid) {
-        Found::Is(outer) => find_guid(m, outer),
-        Found::Nothing => Entry::Nowhere,
+        MaybeNumber::Is(outer) => find_guid(m, outer),
+        MaybeNumber::Nothing => Entry::Nowhere,
     }
 }
 
-// A group's place, if its slot is filled.
+// The place of a group, if this slot of it is filled.
 fn if_filled(m: &[u8], place: u32, slot: u32) -> Entry
-    requires { ⌜ Good (now m) ⌝ }
+    requires { ⌜ WellFormed (now m) ⌝ }
     ensures { λ r. ⌜ entry r ≡ ifFilled place (slotAt (contentOf (storeOf (now (m .entry))) .groups) place slot) ⌝ }
 {
     match slot_row(m, place, slot) {
@@ -325,9 +324,9 @@ fn if_filled(m: &[u8], place: u32, slot: u32) -> Entry
     }
 }
 
-// The place of the group of gameplay tags, if its slot of this number is filled: the tag's name is the field's.
+// The place of the group of gameplay tags, if its slot `tag` is filled. The tag's name is the name of that field.
 pub fn get_gameplay_tag_name(m: &[u8], tag: u32) -> Entry
-    requires { ⌜ Good (now m) ⌝ }
+    requires { ⌜ WellFormed (now m) ⌝ }
     ensures { λ r. ⌜ entry r ≡ gameplayTag tag (contentOf (storeOf (now (m .entry))) .groups) ⌝ }
 {
     match find_path_place(m, b"NetworkGameplayTagNodeIndex") {

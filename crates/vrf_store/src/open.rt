@@ -1,4 +1,4 @@
-// Opening a book in lent memory, and clearing one.
+// Opening a book in lent memory, and removing all its records.
 use crate::parts::fields_allowed;
 use crate::parts::groups_allowed;
 use crate::parts::guids_allowed;
@@ -15,13 +15,12 @@ ghost use Rattle.vrf_model.specs.Book.{none-counted, fresh};
 ghost use Rattle.vrf_model.specs.Lawful.{Allowed};
 ghost use Rattle.vrf_store.specs.Layout;
 ghost use Rattle.vrf_store.specs.Store.{headerOf, countersOf};
-ghost use Rattle.vrf_store.specs.Good.{Enough, Good};
-ghost use Rattle.vrf_store.specs.EmptyLaws.{emptyHeader};
 ghost use Rattle.vrf_store.specs.Opening.{aboveTop, memoryNeeded};
-ghost use Rattle.vrf_store.specs.Opened.{Opened, Kept, orZero};
-ghost use Rattle.vrf_store.specs.Stepped.{Stepped, held};
+ghost use Rattle.vrf_store.specs.Inner.WellFormed.{Enough, WellFormed};
+ghost use Rattle.vrf_store.specs.Inner.Stepped.{Stepped, held};
+ghost use Rattle.vrf_store.specs.Inner.Opening.{emptyHeader, OpenedMemory, BetweenWritten, orZero};
 
-// The lowest allowance above its top, 0 for none.
+// The lowest allowance above its top, or 0 if none is.
 fn above_top(guids: u64, groups: u64, fields: u64, text: u64, literals: u64) -> u64
     ensures { λ r. ⌜ r ≡ orZero (aboveTop (record { guids = guids; groups = groups; fields = fields; text = text; literals = literals })) ⌝ }
 {
@@ -43,7 +42,7 @@ fn above_top(guids: u64, groups: u64, fields: u64, text: u64, literals: u64) -> 
     0
 }
 
-// How many bytes allowances within their tops need.
+// The number of bytes that the allowances need. They must not be above their tops.
 fn needed(guids: u64, groups: u64, fields: u64, text: u64, literals: u64) -> u64
     requires { ⌜ Allowed (record { guids = guids; groups = groups; fields = fields; text = text; literals = literals }) ⌝ }
     ensures { λ r. ⌜ r ≡ Layout.need (record { guids = guids; groups = groups; fields = fields; text = text; literals = literals }) ⌝ }
@@ -51,7 +50,7 @@ fn needed(guids: u64, groups: u64, fields: u64, text: u64, literals: u64) -> u64
     4 * (37 + 10 * guids + 16 * groups + 10 * fields + literals) + 2 * text
 }
 
-// How many bytes to lend to `open`, 0 where it refuses the allowances.
+// The number of bytes to lend to `open`, or 0 if it refuses the allowances.
 pub fn memory_needed(guids: u64, groups: u64, fields: u64, text: u64, literals: u64) -> u64
     ensures { λ r. ⌜ r ≡ memoryNeeded (record { guids = guids; groups = groups; fields = fields; text = text; literals = literals }) ⌝ }
 {
@@ -61,7 +60,7 @@ pub fn memory_needed(guids: u64, groups: u64, fields: u64, text: u64, literals: 
     needed(guids, groups, fields, text, literals)
 }
 
-// The header of a book that holds nothing.
+// Writes the header of a book that holds nothing, with all counters at 0.
 fn write_header(m: &mut [u8], guids: u32, groups: u32, fields: u32, text: u32, literals: u32)
     requires { ⌜ 128 ≤ length (now m) ⌝ }
     ensures { λ _. ⌜ (headerOf (now (m .exit)) ≡ emptyHeader (record { guids = guids; groups = groups; fields = fields; text = text; literals = literals }) 0)
@@ -76,10 +75,10 @@ fn write_header(m: &mut [u8], guids: u32, groups: u32, fields: u32, text: u32, l
     zero_words(m, 5, 27);
 }
 
-// Clears every head, so that no chain starts at a row of a book that stood here before.
+// Clears every head, so that no chain starts at a row of an earlier book in this memory.
 pub fn zero_heads(m: &mut [u8])
     requires { ⌜ Enough (now m) ⌝ }
-    ensures { λ _. ⌜ Kept (now (m .entry)) (now (m .exit)) ⌝ }
+    ensures { λ _. ⌜ BetweenWritten (now (m .entry)) (now (m .exit)) ⌝ }
 {
     let g = guids_allowed(m);
     let r = groups_allowed(m);
@@ -91,9 +90,8 @@ pub fn zero_heads(m: &mut [u8])
     zero_words(m, 36 + 10 * g + 16 * r + 6 * f, 4 * f + 1);
 }
 
-// Opens a book with five allowances.
 pub fn open(m: &mut [u8], guids: u64, groups: u64, fields: u64, text: u64, literals: u64) -> Acted
-    ensures { λ r. ⌜ Opened (record { guids = guids; groups = groups; fields = fields; text = text; literals = literals }) (now (m .entry)) (now (m .exit)) r ⌝ }
+    ensures { λ r. ⌜ OpenedMemory (record { guids = guids; groups = groups; fields = fields; text = text; literals = literals }) (now (m .entry)) (now (m .exit)) r ⌝ }
 {
     let which = above_top(guids, groups, fields, text, literals);
     if 0 < which {
@@ -123,9 +121,9 @@ pub fn open(m: &mut [u8], guids: u64, groups: u64, fields: u64, text: u64, liter
     Acted::Done
 }
 
-// Clears a book; which half of the texts is in use stays as it was.
+// Removes all records of a book. The counters, and the half of the texts that is in use, stay.
 pub fn clear_book(m: &mut [u8])
-    requires { ⌜ Good (now m) ⌝ }
+    requires { ⌜ WellFormed (now m) ⌝ }
     ensures { λ _. ⌜ Stepped (now (m .entry)) (now (m .exit)) (fresh (held (now (m .entry)) .allowed)) ⌝ }
 {
     zero_words(m, 5, 5);

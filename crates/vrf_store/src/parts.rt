@@ -1,14 +1,14 @@
-// The header's numbers and the parts of a lent memory.
+// The numbers of the header, and the parts of a lent memory.
 use vrf_words::get32;
 ghost use mathlib.Core.Path.{_≡_};
 ghost use Prim.Native.Nat.{_+_, _*_, _<_, _≤_, _^_};
 ghost use lib.ListN.{length};
 ghost use Rattle.vrf_table.specs.Table.{at, len, text};
-ghost use Rattle.vrf_store.specs.Good.{Enough};
 ghost use Rattle.vrf_store.specs.Layout;
 ghost use Rattle.vrf_store.specs.Store.{allowancesOf, headerOf, storeOf, words, halfAt};
+ghost use Rattle.vrf_store.specs.Inner.WellFormed.{Enough};
 
-// The allowances.
+// The five allowances: words 0 to 4 of the header.
 pub fn guids_allowed(m: &[u8]) -> usize
     requires { ⌜ 128 ≤ length (now m) ⌝ }
     ensures { λ r. ⌜ (r ≡ allowancesOf (now (m .entry)) .guids) × (r < 2 ^ 32) ⌝ }
@@ -44,7 +44,7 @@ pub fn literals_allowed(m: &[u8]) -> usize
     get32(m, 4) as usize
 }
 
-// Counts and totals.
+// Counts and totals: words 5 to 10 of the header.
 pub fn guids(m: &[u8]) -> u32
     requires { ⌜ 128 ≤ length (now m) ⌝ }
     ensures { λ r. ⌜ r ≡ headerOf (now (m .entry)) .guids ⌝ }
@@ -187,7 +187,7 @@ pub fn field_heads(m: &[u8]) -> &[u8]
     words(m, 36 + 10 * g + 16 * r + 6 * f, 4 * f + 1)
 }
 
-// The word at which the literals begin.
+// The first word of the literals.
 pub fn literals_at(m: &[u8]) -> usize
     requires { ⌜ Enough (now m) ⌝ }
     ensures { λ r. ⌜ r ≡ Layout.literalsAt (allowancesOf (now (m .entry))) ⌝ }
@@ -206,7 +206,7 @@ pub fn literals(m: &[u8]) -> &[u8]
     words(m, at, literals_allowed(m))
 }
 
-// The byte at which the texts begin, two halves.
+// The first byte of the texts, which have two halves.
 fn texts_at(m: &[u8]) -> usize
     requires { ⌜ Enough (now m) ⌝ }
     ensures { λ r. ⌜ r ≡ Layout.textsAt (allowancesOf (now (m .entry))) ⌝ }
@@ -215,7 +215,7 @@ fn texts_at(m: &[u8]) -> usize
     4 * (at + literals_allowed(m))
 }
 
-// The byte at which the half in use begins.
+// The first byte of the half in use.
 pub fn half_at(m: &[u8]) -> usize
     requires { ⌜ Enough (now m) ⌝ }
     ensures { λ r. ⌜ r ≡ halfAt (allowancesOf (now (m .entry))) (headerOf (now (m .entry)) .half) ⌝ }
@@ -237,7 +237,7 @@ pub fn texts(m: &[u8]) -> &[u8]
     &m[from..to]
 }
 
-// The text of row e of a table, in the texts x.
+// The text of row e of a table, where x is the memory of the texts.
 pub fn row_text<'a>(rows: &[u8], x: &'a [u8], e: u32) -> &'a [u8]
     requires { ⌜ (24 * e + 24 ≤ length (now rows)) × (at (now rows) e + len (now rows) e ≤ length (now x)) ⌝ }
     ensures { λ r. ⌜ now r ≡ text (now (rows .entry)) (now (x .entry)) e ⌝ }

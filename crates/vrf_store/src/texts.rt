@@ -1,4 +1,4 @@
-// The texts of a lent memory: a text more, and the live texts moved to the other half where one is full.
+// Texts in lent memory: appending a text, and moving the texts in use to the other half when one half is full.
 use crate::parts::fields;
 use crate::parts::groups;
 use crate::parts::groups_allowed;
@@ -16,16 +16,13 @@ ghost use mathlib.Core.Path.{_≡_};
 ghost use Prim.Native.Nat.{_+_, _-_, _≤_};
 ghost use lib.ListN.{length};
 ghost use Rattle.vrf_words.specs.Words.{word};
-ghost use Rattle.vrf_store.specs.Appended.{Appended};
-ghost use Rattle.vrf_store.specs.Compacted.{Compacted};
-ghost use Rattle.vrf_store.specs.Good.{Enough, Good};
-ghost use Rattle.vrf_store.specs.Moved.{Roomed, moveText, Movable, Moved};
-ghost use Rattle.vrf_store.specs.Room.{Room};
 ghost use Rattle.vrf_store.specs.Store.{allowancesOf, headerOf, halfAt};
+ghost use Rattle.vrf_store.specs.Inner.WellFormed.{Enough, WellFormed};
+ghost use Rattle.vrf_store.specs.Inner.Texts.{Appended, Compacted, TextMovable, moveText, Movable, TextsMoved, SpaceMade};
 
-// Writes t behind what is used, where no row's text lies, and answers where it stands.
+// Writes t after the bytes used so far, where no row has its text. The answer is its place in the half.
 pub fn append_text(m: &mut [u8], t: &[u8]) -> u32
-    requires { ⌜ Good (now m) × (headerOf (now m) .used + length (now t) ≤ allowancesOf (now m) .text) ⌝ }
+    requires { ⌜ WellFormed (now m) × (headerOf (now m) .used + length (now t) ≤ allowancesOf (now m) .text) ⌝ }
     ensures { λ a. ⌜ Appended (now (m .entry)) (now (t .entry)) (now (m .exit)) a ⌝ }
 {
     let a = used(m);
@@ -35,9 +32,9 @@ pub fn append_text(m: &mut [u8], t: &[u8]) -> u32
     a
 }
 
-// Moves the text of one row from the old half into the new one, behind what is used of it. Answers what is used then.
+// Moves the text of one row from the old half to the new one, after the first `used` bytes. The answer is the number of bytes used then.
 fn move_text(m: &mut [u8], row: usize, from: usize, to: usize, used: u32) -> u32
-    requires { ⌜ Roomed (now m) row from to used ⌝ }
+    requires { ⌜ TextMovable (now m) row from to used ⌝ }
     ensures { λ r. ⌜ (now (m .exit) ≡ moveText (now (m .entry)) row from to used) × (r ≡ used + word (now (m .entry)) (row + 4)) ⌝ }
 {
     let at = get32(m, row + 3) as usize;
@@ -47,10 +44,10 @@ fn move_text(m: &mut [u8], row: usize, from: usize, to: usize, used: u32) -> u32
     used + len
 }
 
-// Moves the texts of the n rows from word `rows` on, row by row.
+// Moves the texts of n rows, which begin at word `rows`.
 fn move_texts(m: &mut [u8], rows: usize, n: usize, from: usize, to: usize, used: u32) -> u32
     requires { ⌜ Movable (now m) rows n from to used (allowancesOf (now m) .text) ⌝ }
-    ensures { λ r. ⌜ Moved (now (m .entry)) (now (m .exit)) rows n from to used r ⌝ }
+    ensures { λ r. ⌜ TextsMoved (now (m .entry)) (now (m .exit)) rows n from to used r ⌝ }
 {
     let mut end = used;
     let mut e = 0;
@@ -61,7 +58,7 @@ fn move_texts(m: &mut [u8], rows: usize, n: usize, from: usize, to: usize, used:
     end
 }
 
-// The byte at which the half that is not in use begins.
+// The first byte of the half that is not in use.
 fn other_half_at(m: &[u8]) -> usize
     requires { ⌜ Enough (now m) × (headerOf (now m) .half ≤ 1) ⌝ }
     ensures { λ r. ⌜ r ≡ halfAt (allowancesOf (now (m .entry))) (1 - headerOf (now (m .entry)) .half) ⌝ }
@@ -73,9 +70,10 @@ fn other_half_at(m: &[u8]) -> usize
     at - text_allowed(m)
 }
 
-// Moves the live texts to the other half, in the order of the records, so that what no row says any more takes no room.
+// Moves the texts that rows point to into the other half, in the order of the records. Texts that no row points to are left out, and their
+// space is free again.
 fn compact(m: &mut [u8])
-    requires { ⌜ Good (now m) ⌝ }
+    requires { ⌜ WellFormed (now m) ⌝ }
     ensures { λ _. ⌜ Compacted (now (m .entry)) (now (m .exit)) ⌝ }
 {
     let from = half_at(m);
@@ -93,13 +91,13 @@ fn compact(m: &mut [u8])
     put32(m, 9, end);
 }
 
-// Sees to it that n bytes more fit behind what is used.
-pub fn make_room(m: &mut [u8], n: u32)
-    requires { ⌜ Good (now m) × (headerOf (now m) .held + n ≤ allowancesOf (now m) .text) ⌝ }
-    ensures { λ _. ⌜ Room (now (m .entry)) (now (m .exit)) n ⌝ }
+// Makes space for n more bytes after the bytes used.
+pub fn make_space(m: &mut [u8], n: u32)
+    requires { ⌜ WellFormed (now m) × (headerOf (now m) .held + n ≤ allowancesOf (now m) .text) ⌝ }
+    ensures { λ _. ⌜ SpaceMade (now (m .entry)) (now (m .exit)) n ⌝ }
 {
-    let room = text_allowed(m) as u32 - used(m);
-    if n <= room {
+    let space = text_allowed(m) as u32 - used(m);
+    if n <= space {
         return;
     }
     compact(m);

@@ -1,4 +1,4 @@
--- What the hashes need: sums and products that fit 64 bits, and one word of a text after another.
+-- Laws for the hash functions: sums and products fit 64 bits, and a text is hashed word by word.
 use mathlib.Core.Path.{_≡_, ap, _∙_}
 use mathlib.Core.List.{List}
 use Prim.Native.Nat.{ℕ, suc, _+_, _-_, _*_, _/_, _%_, _^_, _<_, _≤_}
@@ -8,8 +8,8 @@ use lib.ListN.{length, getD, take, drop}
 use lib.Seq.{getD-drop}
 use Rattle.vrf_path.specs.Text.{four, eight}
 use Rattle.vrf_words.specs.Words.{word}
-use Rattle.vrf_table.specs.Rooms.{part-behind}
 use Rattle.vrf_table.specs.TextIndex.{turn, fourTurns, hashUpTo, lastTurns, textHash}
+use Rattle.vrf_table.specs.Laws.Spelled.{part-following}
 
 pub mixed-fits : (a b : ℕ) → a < 2 ^ 32 → b < 2 ^ 32 → a * 2654435761 + b * 40503 < 2 ^ 64
 mixed-fits a b h k = omega arith
@@ -17,7 +17,7 @@ mixed-fits a b h k = omega arith
 pub product-fits : (a b : ℕ) → a < 2 ^ 32 → b < 2 ^ 32 → a * b < 2 ^ 64
 product-fits a b h k = omega (arith, mul-le-mul-right {m = a} {n = 2 ^ 32} b (omega arith))
 
--- eight bytes of a text from place i on are the first two words of the rest
+-- the eight bytes from place i on are the first two words of the rest
 eight-words : (t : List ℕ) (i : ℕ) → word (drop i t) 0 + 2 ^ 32 * word (drop i t) (0 + 1) ≡ eight t i
 unfolding word four eight
 eight-words t i =
@@ -35,9 +35,9 @@ eight-words t i =
 
 pub eight-from : (t : List ℕ) (i : ℕ) → i ≤ length t → {r : ℕ}
     → r ≡ word (take (length t - i) (drop i t)) 0 + 2 ^ 32 * word (take (length t - i) (drop i t)) (0 + 1) → r ≡ eight t i
-eight-from t i h e = e ∙ ap (λ (s : List ℕ). word s 0 + 2 ^ 32 * word s (0 + 1)) (part-behind t i i (omega arith)) ∙ eight-words t i
+eight-from t i h e = e ∙ ap (λ (s : List ℕ). word s 0 + 2 ^ 32 * word s (0 + 1)) (part-following t i i (omega arith)) ∙ eight-words t i
 
--- the hash of a short text is four turns by one word, from its length
+-- the hash of a short text: four turns with the same word, starting from the length
 pub hash-short : (t : List ℕ) (a b h i j k : ℕ) → length t < 8 → a ≡ four t 0 → b ≡ four t 4 → h ≡ turn (length t) (a + 4294967296 * b) → i ≡ turn h (a + 4294967296 * b) → j ≡ turn i (a + 4294967296 * b) → k ≡ turn j (a + 4294967296 * b) → k ≡ textHash t
 unfolding textHash lastTurns fourTurns hashUpTo eight
 hash-short t a b h i j k short ea eb eh ei ej ek =
@@ -49,7 +49,7 @@ hash-short t a b h i j k short ea eb eh ei ej ek =
     let whole : length t % 2 ^ 32 ≡ length t = omega arith in
     rw (none, e32, e24, e16, e8, whole, ← ea, ← eb) cc
 
--- the hash of a long one: where i bytes are done, i / 32 turns are
+-- the hash of a long text: after i bytes, i / 32 turns are done
 module _ (t : List ℕ) where
   pub hash-start : length t < 2 ^ 32 → length t ≡ hashUpTo t 0
   unfolding hashUpTo

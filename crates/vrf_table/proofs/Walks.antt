@@ -1,4 +1,4 @@
--- What the walks need: a turn of a loop over a chain, at the entry to which the pointer p points; and claims, by two walks.
+-- Laws for the search loops: one turn at the entry that pointer p points to, and claims as two walks.
 use mathlib.Core.Path.{_≡_, sym, ap, _∙_}
 use mathlib.Core.Bool.{Bool, true, false, cond}
 use mathlib.Core.Option.{none, some}
@@ -6,9 +6,9 @@ use Prim.Native.Nat.{ℕ, suc, _-_, _<_, _≤_}
 use native.Mathlib.Omega.{arith}
 use Rattle.vrf_model.specs.Lookup.{absent, ambiguous, claimed}
 use Rattle.vrf_table.specs.Chain.{walk}
-use Rattle.vrf_table.specs.ChainLaws.{walk-at, walk-past, walk-skip, walk-nil, walk-passes}
-use Rattle.vrf_table.specs.Index.{unlessAgain, claimFrom, claimWalk}
-use Rattle.vrf_table.specs.Answers.{entry}
+use Rattle.vrf_table.specs.Index.{claimUnlessSecond, claimFrom, claimWalk}
+use Rattle.vrf_table.specs.Inner.Answers.{entry}
+use Rattle.vrf_table.specs.Laws.Chain.{walk-at, walk-past, walk-skip, walk-nil, walk-passes}
 use Rattle.vrf_table.specs.declared.Entry.{Entry}
 use Rattle.vrf_table.specs.declared.Entry.the-variants.{At, Nowhere}
 
@@ -30,7 +30,7 @@ module _ (hit : ℕ → Bool) (link : ℕ → ℕ) (limit p : ℕ) where
       pub walk-on : {b : Bool} → b ≡ hit (p - 1) → b ≡ false → {q : ℕ} → q ≡ link (p - 1) → walk hit link limit p ≡ walk hit link (p - 1) q
       walk-on e t eq = meets ∙ rw (sym e ∙ t, eq)
 
--- r is what was found from the pointer p on, at which the chain starts
+-- r is what the walk found from pointer p on, where the chain starts
 module _ (hit : ℕ → Bool) (link : ℕ → ℕ) (n : ℕ) {p s : ℕ} (ep : p ≡ s) {r : Entry} (er : entry r ≡ walk hit link n p) where
   pub found-below : {e : ℕ} → r ≡ At e → e < n
   found-below e = (rw (sym er ∙ ap entry e) at (walk-passes hit link n p)) .0
@@ -39,12 +39,12 @@ module _ (hit : ℕ → Bool) (link : ℕ → ℕ) (n : ℕ) {p s : ℕ} (ep : p
   unfolding claimWalk claimFrom
   claim-absent e = rw (← ep, sym er ∙ ap entry e)
 
-  -- and r′ what was found behind it
+  -- r′ is what the walk found after it
   module _ {e : ℕ} (ee : r ≡ At e) {p′ : ℕ} (ep′ : p′ ≡ link e) {r′ : Entry} (er′ : entry r′ ≡ walk hit link e p′) where
     pub claim-one : r′ ≡ Nowhere → claimed e ≡ claimWalk hit link n s
-    unfolding claimWalk claimFrom unlessAgain
+    unfolding claimWalk claimFrom claimUnlessSecond
     claim-one e′ = rw (← ep, sym er ∙ ap entry ee, ← ep′, sym er′ ∙ ap entry e′)
 
     pub claim-several : {i : ℕ} → r′ ≡ At i → ambiguous ≡ claimWalk hit link n s
-    unfolding claimWalk claimFrom unlessAgain
+    unfolding claimWalk claimFrom claimUnlessSecond
     claim-several e′ = rw (← ep, sym er ∙ ap entry ee, ← ep′, sym er′ ∙ ap entry e′)

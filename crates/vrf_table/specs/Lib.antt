@@ -1,10 +1,10 @@
--- Tables in lent memory, and the indexes over them. Read the definitions in this order.
+-- How a book finds a record in lent memory: chained hashing, claims, tables of rows, and the indexes of groups by path and by leaf.
+-- Read the definitions in this order.
 pub mod Chain
 pub mod Index
 pub mod Table
 pub mod TextIndex
-pub mod Answers
-pub mod Rooms
-pub mod ChainLaws
-pub mod IndexLaws
-pub mod TableLaws
+-- names used in contracts
+pub mod Inner
+-- laws about these definitions
+pub mod Laws

@@ -1,14 +1,14 @@
--- A table in lent memory: rows of six words, which are two of the key, the link, where the text stands and how long it is, and one
--- number more; and a head for each bucket. GUID records, groups and fields are three such tables.
+-- A table in lent memory (docs/LAYOUT.md, Rows). A row has six words: two for the key, the link, the place and the length of its text, and
+-- one number. Each bucket has a head. GUID records, groups and fields are three such tables.
 use mathlib.Core.Bool.{Bool, cond}
 use mathlib.Core.List.{List}
 use mathlib.Core.Option.{Option}
 use Prim.Native.Nat.{ℕ, _+_, _-_, _*_, _/_, _%_, _^_}
 use lib.Dec.{eqb, ltb}
-use Rattle.vrf_words.specs.Words.{word, setWord, part}
+use Rattle.vrf_words.specs.Words.{word, part}
 use Rattle.vrf_table.specs.Chain.{walk}
 
--- ---- rows: r is the memory of a table's rows
+-- ---- the words of row e, where r is the memory of the rows
 
 unfoldable pub key : List ℕ → ℕ → ℕ
 key r e = word r (6 * e) + 2 ^ 32 * word r (6 * e + 1)
@@ -25,29 +25,21 @@ len r e = word r (6 * e + 4)
 unfoldable pub info : List ℕ → ℕ → ℕ
 info r e = word r (6 * e + 5)
 
--- the text of a row, of the memory x of the texts
+-- the text of row e, where x is the memory of the texts
 unfoldable pub text : List ℕ → List ℕ → ℕ → List ℕ
 text r x e = part x (at r e) (len r e)
 
--- another text and number for row e
-unfoldable pub setText : List ℕ → ℕ → ℕ → ℕ → ℕ → List ℕ
-setText r e a n i = setWord (setWord (setWord r (6 * e + 3) a) (6 * e + 4) n) (6 * e + 5) i
-
--- another key and link for row e
-unfoldable pub setKey : List ℕ → ℕ → ℕ → ℕ → List ℕ
-setKey r e k l = setWord (setWord (setWord r (6 * e) (k % 2 ^ 32)) (6 * e + 1) (k / 2 ^ 32)) (6 * e + 2) l
-
 -- ---- buckets
 
--- the bucket of a hash among b
+-- the bucket of a hash, out of b buckets
 unfoldable pub bucket : ℕ → ℕ → ℕ
 bucket b hash = hash * b / 2 ^ 32
 
 unfoldable pub keyHash : ℕ → ℕ
 keyHash k = (k % 2 ^ 32 * 2654435761 + k / 2 ^ 32 % 2 ^ 32 * 40503) % 2 ^ 32
 
--- 64 keys in a row have buckets in a row, so that setting rising GUIDs goes along the memory; where such a run starts goes by its
--- number's hash. Few buckets are near each other anyway: there each key has a hash of its own
+-- Out of many buckets, 64 consecutive keys get consecutive buckets, so that setting rising GUIDs writes the memory in order. The hash of
+-- k / 64 gives the first of the 64. Fewer than 4096 buckets are close together anyway: there each key is hashed on its own
 unfoldable pub keyBucket : ℕ → ℕ → ℕ
 keyBucket b k = cond (ltb b 4096) (bucket b (keyHash k)) (bucket (b - 63) (keyHash (k / 64)) + k % 64)
 

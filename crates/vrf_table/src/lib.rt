@@ -1,4 +1,4 @@
-// Finding rows of a table by number, and groups by a key of their path and by their leaf.
+// Finds a row of a table by its key, and a group by a key of its path or by its leaf.
 pub mod spell;
 
 use vrf_path::core_alias;
@@ -15,45 +15,33 @@ ghost use mathlib.Core.Path.{_≡_};
 ghost use mathlib.Core.List.{_++_};
 ghost use Prim.Native.Nat.{_+_, _*_, _/_, _^_, _<_, _≤_};
 ghost use lib.ListN.{length, getD, drop};
-ghost use Rattle.vrf_path.specs.Keys.{isThe};
-ghost use Rattle.vrf_path.specs.Leaf.{leaf, Dotless};
 ghost use Rattle.vrf_path.specs.Text.{four, eight, same};
+ghost use Rattle.vrf_path.specs.Keys.{keyIs};
+ghost use Rattle.vrf_path.specs.Leaf.{leaf};
+ghost use Rattle.vrf_path.specs.Inner.Leaf.{Dotless};
 ghost use Rattle.vrf_words.specs.Words.{word};
 ghost use Rattle.vrf_table.specs.Chain.{walk};
-ghost use Rattle.vrf_table.specs.Table.{at, len, bucket, keyHash, keyBucket, findKey, setKey, setText};
-ghost use Rattle.vrf_table.specs.TextIndex.{
-  turn,
-  fourTurns,
-  lastTurns,
-  textHash,
-  mixed,
-  textBucket,
-  numbered,
-  pathHit,
-  findPath,
-  leafHit,
-  leafBucket,
-  claimAt,
-  claimOf,
-  firstAt,
-};
-ghost use Rattle.vrf_table.specs.Answers.{entry, claim, Suffixed, Texts};
+ghost use Rattle.vrf_table.specs.Table.{at, len, bucket, keyHash, keyBucket, findKey};
+ghost use Rattle.vrf_table.specs.TextIndex.{turn, fourTurns, lastTurns, textHash, mixed, textBucket, keyNumbered, pathHit, findPath, leafHit, claimAt, claimOf};
+ghost use Rattle.vrf_table.specs.Inner.Table.{setKey, setText};
+ghost use Rattle.vrf_table.specs.Inner.TextIndex.{leafBucket, firstAt};
+ghost use Rattle.vrf_table.specs.Inner.Answers.{entry, claim, Suffixed, RowTexts};
 
-// An entry of a table.
+// The answer of a search.
 pub enum Entry {
     At(u32),
     Nowhere,
 }
 
-// Which entry of a table is the only one with a key, as a number: 0 if none has it, 1 if several do, and otherwise two more than the entry.
-// A number is handed on in a register, where an enum would go through memory.
+// Which entry is the only one with a key, as a number: 0 if no entry has it, 1 if several have it, otherwise the entry's number plus 2.
+// A number is passed in a register; an enum would be passed in memory.
 pub type Claim = u32;
 
 pub const ABSENT: Claim = 0;
 
 pub const AMBIGUOUS: Claim = 1;
 
-// The bucket of a hash among b.
+// The bucket of a hash, out of b buckets.
 fn bucket_of(hash: u64, b: u32) -> u32
     requires { ⌜ hash < 2 ^ 32 ⌝ }
     ensures { λ r. ⌜ r ≡ bucket b hash ⌝ }
@@ -61,7 +49,6 @@ fn bucket_of(hash: u64, b: u32) -> u32
     (hash * (b as u64) / 0x1_0000_0000) as u32
 }
 
-// The hash of a key.
 fn key_hash(k: u64) -> u64
     ensures { λ r. ⌜ (r ≡ keyHash k) × (r < 2 ^ 32) ⌝ }
 {
@@ -70,7 +57,7 @@ fn key_hash(k: u64) -> u64
     (low * 2654435761 + high * 40503) % 0x1_0000_0000
 }
 
-// The bucket of a key among b.
+// The bucket of a key, out of b buckets.
 pub fn key_bucket(k: u64, b: u32) -> u32
     ensures { λ r. ⌜ r ≡ keyBucket b k ⌝ }
 {
@@ -80,7 +67,7 @@ pub fn key_bucket(k: u64, b: u32) -> u32
     bucket_of(key_hash(k / 64), b - 63) + (k % 64) as u32
 }
 
-// The newest row with the key k.
+// The newest row with the key k, out of n rows.
 pub fn find_key(rows: &[u8], heads: &[u8], b: u32, n: u32, k: u64) -> Entry
     requires { ⌜ (24 * n ≤ length (now rows)) × (4 * b ≤ length (now heads)) × (0 < b) ⌝ }
     ensures { λ r. ⌜ entry r ≡ findKey (now (rows .entry)) (now (heads .entry)) b n k ⌝ }
@@ -112,7 +99,7 @@ pub fn put_key(rows: &mut [u8], e: u32, k: u64, link: u32)
     put32(rows, row + 2, link);
 }
 
-// Writes where the text of row e stands, how long it is, and its number.
+// Writes where the text of row e is, its length, and the row's number.
 pub fn put_text(rows: &mut [u8], e: u32, at: u32, len: u32, info: u32)
     requires { ⌜ 24 * e + 24 ≤ length (now rows) ⌝ }
     ensures { λ _. ⌜ now (rows .exit) ≡ setText (now (rows .entry)) e at len info ⌝ }
@@ -123,7 +110,7 @@ pub fn put_text(rows: &mut [u8], e: u32, at: u32, len: u32, info: u32)
     put32(rows, row + 5, info);
 }
 
-// The byte at i as a number, 0 past the end.
+// Byte i as a number, 0 past the end.
 fn byte_at(t: &[u8], i: usize) -> u64
     ensures { λ r. ⌜ (r ≡ getD (now (t .entry)) i 0) × (r < 256) ⌝ }
 {
@@ -133,7 +120,7 @@ fn byte_at(t: &[u8], i: usize) -> u64
     0
 }
 
-// Four bytes of a text from i on as one number, zeros past the end.
+// The four bytes from i on as one number. A byte past the end counts as 0.
 fn four_or_zeros(t: &[u8], i: usize) -> u64
     requires { ⌜ i ≤ 4 ⌝ }
     ensures { λ r. ⌜ (r ≡ four (now (t .entry)) i) × (r < 2 ^ 32) ⌝ }
@@ -144,7 +131,7 @@ fn four_or_zeros(t: &[u8], i: usize) -> u64
         + 0x100_0000 * byte_at(t, i + 3)
 }
 
-// Eight bytes of a text from i on as one number: one load.
+// The eight bytes from i on as one number. The compiler makes this one load.
 fn eight(t: &[u8], i: usize) -> u64
     requires { ⌜ i + 8 ≤ length (now t) ⌝ }
     ensures { λ r. ⌜ r ≡ eight (now (t .entry)) i ⌝ }
@@ -152,7 +139,7 @@ fn eight(t: &[u8], i: usize) -> u64
     get64(&t[i..], 0)
 }
 
-// Eight more bytes of a text go into its hash.
+// Adds eight bytes of a text, as the number w, to its hash h.
 fn turn(h: u64, w: u64) -> u64
     ensures { λ r. ⌜ r ≡ turn h w ⌝ }
 {
@@ -170,7 +157,7 @@ fn short_hash(t: &[u8]) -> u64
     turn(turn(turn(turn(t.len() as u64, w), w), w), w)
 }
 
-// 32 bytes more, from i on.
+// Adds the 32 bytes from i on to the hash h.
 fn four_turns(h: u64, t: &[u8], i: usize) -> u64
     requires { ⌜ i + 32 ≤ length (now t) ⌝ }
     ensures { λ r. ⌜ r ≡ fourTurns h (now (t .entry)) i (i + 8) (i + 16) (i + 24) ⌝ }
@@ -181,7 +168,7 @@ fn four_turns(h: u64, t: &[u8], i: usize) -> u64
     turn(third, eight(t, i + 24))
 }
 
-// The last 32 bytes, of a text of eight or more: where there are fewer than 32, words overlap.
+// Adds the last 32 bytes of a text to the hash h. In a text of fewer than 32 bytes the four words overlap.
 fn last_turns(h: u64, t: &[u8]) -> u64
     requires { ⌜ 8 ≤ length (now t) ⌝ }
     ensures { λ r. ⌜ r ≡ lastTurns h (now (t .entry)) ⌝ }
@@ -193,7 +180,7 @@ fn last_turns(h: u64, t: &[u8]) -> u64
     turn(third, eight(t, n - 8))
 }
 
-// The hash of a text of eight bytes or more: 32 bytes a turn, and then the last 32.
+// The hash of a text of eight bytes or more: 32 bytes in each turn, and then the last 32 bytes.
 fn long_hash(t: &[u8]) -> u64
     requires { ⌜ (8 ≤ length (now t)) × (length (now t) < 2 ^ 32) ⌝ }
     ensures { λ r. ⌜ r ≡ textHash (now (t .entry)) ⌝ }
@@ -208,7 +195,6 @@ fn long_hash(t: &[u8]) -> u64
     last_turns(h, t)
 }
 
-// The hash of a text.
 fn text_hash(t: &[u8]) -> u64
     requires { ⌜ length (now t) < 2 ^ 32 ⌝ }
     ensures { λ r. ⌜ r ≡ textHash (now (t .entry)) ⌝ }
@@ -219,7 +205,7 @@ fn text_hash(t: &[u8]) -> u64
     long_hash(t)
 }
 
-// 32 bits of a hash, in which both its halves have a part.
+// 32 bits of a hash that depend on both its halves.
 fn mix(hash: u64) -> u64
     ensures { λ r. ⌜ (r ≡ mixed hash) × (r < 2 ^ 32) ⌝ }
 {
@@ -228,7 +214,7 @@ fn mix(hash: u64) -> u64
     (low + high) % 0x1_0000_0000
 }
 
-// The bucket of a text among b.
+// The bucket of a text, out of b buckets.
 pub fn text_bucket(t: &[u8], b: u32) -> u32
     requires { ⌜ length (now t) < 2 ^ 32 ⌝ }
     ensures { λ r. ⌜ r ≡ textBucket b (now (t .entry)) ⌝ }
@@ -236,9 +222,11 @@ pub fn text_bucket(t: &[u8], b: u32) -> u32
     bucket_of(mix(text_hash(t)), b)
 }
 
-// Whether a path's key of this number is k. The core alias is 6 bytes longer or shorter than the path, so most texts need no search for it.
+// Whether the path's key with this number is k. A core alias is 6 bytes longer or shorter than the path. Most texts have another length,
+// and
+// then the path is not searched.
 fn key_is(path: &[u8], number: u32, k: &[u8]) -> bool
-    ensures { λ r. ⌜ r ≡ isThe (numbered (now (path .entry)) number) (now (k .entry)) ⌝ }
+    ensures { λ r. ⌜ r ≡ keyIs (keyNumbered (now (path .entry)) number) (now (k .entry)) ⌝ }
 {
     if number == 0 {
         return same(path, k);
@@ -255,7 +243,7 @@ fn key_is(path: &[u8], number: u32, k: &[u8]) -> bool
     false
 }
 
-// Whether entry e is k: key e % 3 of group e / 3.
+// Whether entry e is the key k. Entry e is key e % 3 of group e / 3.
 fn path_hit(rows: &[u8], x: &[u8], e: u32, k: &[u8]) -> bool
     requires { ⌜ (24 * (e / 3) + 24 ≤ length (now rows)) × (at (now rows) (e / 3) + len (now rows) (e / 3) ≤ length (now x)) ⌝ }
     ensures { λ r. ⌜ r ≡ pathHit (now (rows .entry)) (now (x .entry)) (now (k .entry)) e ⌝ }
@@ -266,7 +254,7 @@ fn path_hit(rows: &[u8], x: &[u8], e: u32, k: &[u8]) -> bool
     key_is(&x[from..to], e % 3, k)
 }
 
-// The newest entry of n groups that is the key k.
+// The newest entry that is the key k, out of the entries of n groups.
 pub fn find_path(
     rows: &[u8],
     x: &[u8],
@@ -276,7 +264,7 @@ pub fn find_path(
     n: u32,
     k: &[u8],
 ) -> Entry
-    requires { ⌜ (24 * n ≤ length (now rows)) × (12 * n ≤ length (now links)) × (4 * b ≤ length (now heads)) × (0 < b) × (n ≤ 100000) × Texts (now rows) (now x) n × (length (now k) < 2 ^ 31) ⌝ }
+    requires { ⌜ (24 * n ≤ length (now rows)) × (12 * n ≤ length (now links)) × (4 * b ≤ length (now heads)) × (0 < b) × (n ≤ 100000) × RowTexts (now rows) (now x) n × (length (now k) < 2 ^ 31) ⌝ }
     ensures { λ r. ⌜ entry r ≡ findPath (now (rows .entry)) (now (x .entry)) (now (links .entry)) (now (heads .entry)) b n (now (k .entry)) ⌝ }
 {
     let mut p = get32(heads, text_bucket(&k[..], b) as usize);
@@ -295,7 +283,7 @@ pub fn find_path(
     Entry::Nowhere
 }
 
-// The bucket of a leaf among b: that of its base, so that the leaves that a name is tried as are found in one chain.
+// The bucket of a leaf, out of b buckets. It is the bucket of the leaf's base, so that all the leaves tried for a name are in one chain.
 pub fn leaf_bucket(l: &[u8], b: u32) -> u32
     requires { ⌜ length (now l) < 2 ^ 32 ⌝ }
     ensures { λ r. ⌜ r ≡ leafBucket b (now (l .entry)) ⌝ }
@@ -304,22 +292,23 @@ pub fn leaf_bucket(l: &[u8], b: u32) -> u32
     text_bucket(&l[..n], b)
 }
 
-// Whether a path ends with a name and a suffix, which start at place `from`.
-fn ends_so(path: &[u8], from: usize, name: &[u8], suffix: &[u8]) -> bool
+// Whether a path ends with the name and the suffix, which would start at place `from`.
+fn ends_with_name(path: &[u8], from: usize, name: &[u8], suffix: &[u8]) -> bool
     requires { ⌜ from + length (now name) + length (now suffix) ≡ length (now path) ⌝ }
     ensures { λ r. ⌜ r ≡ same (drop from (now (path .entry))) (now (name .entry) ++ now (suffix .entry)) ⌝ }
 {
-    let behind = from + name.len();
-    if same(&path[behind..], suffix) {
-        return same(&path[from..behind], name);
+    let following = from + name.len();
+    if same(&path[following..], suffix) {
+        return same(&path[from..following], name);
     }
     false
 }
 
-// Whether a path's leaf is a name and a suffix, which have no dot: so it is if they, and a dot before them, are the end of the path.
+// Whether a path's leaf is the name followed by the suffix. Neither has a dot, so this holds if the path ends with a dot, the name and the
+// suffix.
 fn leaf_is(path: &[u8], name: &[u8], suffix: &[u8]) -> bool
     requires { ⌜ Suffixed (now name) (now suffix) ⌝ }
-    ensures { λ r. ⌜ r ≡ isThe (leaf (now (path .entry))) (now (name .entry) ++ now (suffix .entry)) ⌝ }
+    ensures { λ r. ⌜ r ≡ keyIs (leaf (now (path .entry))) (now (name .entry) ++ now (suffix .entry)) ⌝ }
 {
     let n = name.len() + suffix.len();
     if n == 0 {
@@ -332,10 +321,10 @@ fn leaf_is(path: &[u8], name: &[u8], suffix: &[u8]) -> bool
     if path[from - 1] != b'.' {
         return false;
     }
-    ends_so(path, from, name, suffix)
+    ends_with_name(path, from, name, suffix)
 }
 
-// Whether the leaf of group e is a name and a suffix.
+// Whether the leaf of group e is the name followed by the suffix.
 fn leaf_hit(rows: &[u8], x: &[u8], e: u32, name: &[u8], suffix: &[u8]) -> bool
     requires { ⌜ Suffixed (now name) (now suffix) × (24 * e + 24 ≤ length (now rows)) × (at (now rows) e + len (now rows) e ≤ length (now x)) ⌝ }
     ensures { λ r. ⌜ r ≡ leafHit (now (rows .entry)) (now (x .entry)) (now (name .entry) ++ now (suffix .entry)) e ⌝ }
@@ -346,7 +335,7 @@ fn leaf_hit(rows: &[u8], x: &[u8], e: u32, name: &[u8], suffix: &[u8]) -> bool
     leaf_is(&x[from..to], name, suffix)
 }
 
-// The first group with that leaf from the pointer p on, of n.
+// The first group with that leaf, out of n, in the chain that starts at pointer p.
 fn find_leaf(
     rows: &[u8],
     x: &[u8],
@@ -356,7 +345,7 @@ fn find_leaf(
     name: &[u8],
     suffix: &[u8],
 ) -> Entry
-    requires { ⌜ Suffixed (now name) (now suffix) × (24 * n ≤ length (now rows)) × (4 * n ≤ length (now links)) × Texts (now rows) (now x) n ⌝ }
+    requires { ⌜ Suffixed (now name) (now suffix) × (24 * n ≤ length (now rows)) × (4 * n ≤ length (now links)) × RowTexts (now rows) (now x) n ⌝ }
     ensures { λ r. ⌜ entry r ≡ walk (leafHit (now (rows .entry)) (now (x .entry)) (now (name .entry) ++ now (suffix .entry))) (word (now (links .entry))) n p ⌝ }
 {
     let mut p = p;
@@ -375,7 +364,7 @@ fn find_leaf(
     Entry::Nowhere
 }
 
-// The only group of n with that leaf, by its chain, which starts at the pointer p.
+// The claim of that leaf among n groups, found in the chain that starts at pointer p.
 fn claim_from(
     rows: &[u8],
     x: &[u8],
@@ -385,7 +374,7 @@ fn claim_from(
     name: &[u8],
     suffix: &[u8],
 ) -> Claim
-    requires { ⌜ Suffixed (now name) (now suffix) × (24 * n ≤ length (now rows)) × (4 * n ≤ length (now links)) × (n ≤ 100000) × Texts (now rows) (now x) n ⌝ }
+    requires { ⌜ Suffixed (now name) (now suffix) × (24 * n ≤ length (now rows)) × (4 * n ≤ length (now links)) × (n ≤ 100000) × RowTexts (now rows) (now x) n ⌝ }
     ensures { λ r. ⌜ claim r ≡ claimAt (now (rows .entry)) (now (x .entry)) (now (links .entry)) n p (now (name .entry) ++ now (suffix .entry)) ⌝ }
 {
     match find_leaf(rows, x, links, n, p, name, suffix) {
@@ -397,13 +386,13 @@ fn claim_from(
     }
 }
 
-// A leaf's bucket, and the only group that has it.
+// A leaf's bucket and its claim.
 pub struct Claimed {
     pub bucket: u32,
     pub claim: Claim,
 }
 
-// The only group of n with the leaf l, and the bucket whose chain tells: who adds a group wants both.
+// The claim of leaf l among n groups, and the bucket in which it was looked up. The caller that adds a group needs both.
 pub fn leaf_claim(
     rows: &[u8],
     x: &[u8],
@@ -413,7 +402,7 @@ pub fn leaf_claim(
     n: u32,
     l: &[u8],
 ) -> Claimed
-    requires { ⌜ Dotless (now l) × (24 * n ≤ length (now rows)) × (4 * n ≤ length (now links)) × (4 * b ≤ length (now heads)) × (0 < b) × (n ≤ 100000) × Texts (now rows) (now x) n × (length (now l) < 2 ^ 31) ⌝ }
+    requires { ⌜ Dotless (now l) × (24 * n ≤ length (now rows)) × (4 * n ≤ length (now links)) × (4 * b ≤ length (now heads)) × (0 < b) × (n ≤ 100000) × RowTexts (now rows) (now x) n × (length (now l) < 2 ^ 31) ⌝ }
     ensures { λ r. ⌜ (r .bucket ≡ leafBucket b (now (l .entry))) × (claim (r .claim) ≡ claimOf (now (rows .entry)) (now (x .entry)) (now (links .entry)) (now (heads .entry)) b n (now (l .entry))) ⌝ }
 {
     let bucket = leaf_bucket(l, b);
@@ -424,7 +413,7 @@ pub fn leaf_claim(
     }
 }
 
-// The first claim among a name's leaves with three suffixes. The chain of the first leaf starts at p, that of the others at q.
+// The first claim that is not absent, for the name with three suffixes. The chain of the first leaf starts at p, that of the others at q.
 pub fn first_claim(
     rows: &[u8],
     x: &[u8],
@@ -437,7 +426,7 @@ pub fn first_claim(
     t: &[u8],
     u: &[u8],
 ) -> Claim
-    requires { ⌜ Suffixed (now name) (now s) × Suffixed (now name) (now t) × Suffixed (now name) (now u) × (24 * n ≤ length (now rows)) × (4 * n ≤ length (now links)) × (n ≤ 100000) × Texts (now rows) (now x) n ⌝ }
+    requires { ⌜ Suffixed (now name) (now s) × Suffixed (now name) (now t) × Suffixed (now name) (now u) × (24 * n ≤ length (now rows)) × (4 * n ≤ length (now links)) × (n ≤ 100000) × RowTexts (now rows) (now x) n ⌝ }
     ensures { λ r. ⌜ claim r ≡ firstAt (now (rows .entry)) (now (x .entry)) (now (links .entry)) n p q (now (name .entry) ++ now (s .entry)) (now (name .entry) ++ now (t .entry)) (now (name .entry) ++ now (u .entry)) ⌝ }
 {
     let first = claim_from(rows, x, links, n, p, name, s);

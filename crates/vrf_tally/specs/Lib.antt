@@ -1,5 +1,10 @@
--- Document 01, Blocks: the tool `tally`. Read the definitions in this order.
+-- The tool `tally` (document 01, Blocks). Read the definitions in this order: `Tally` defines the text that the tool prints, `Printed`
+-- defines where that text is in the output buffer.
 pub mod Tally
+pub mod Printed
+-- computed examples
 pub mod Examples
-pub mod Put
-pub mod Reading
+-- definitions for the private functions
+pub mod Inner
+-- laws
+pub mod Laws

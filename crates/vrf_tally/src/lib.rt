@@ -1,4 +1,4 @@
-// The tool `tally` of document 01: a block's seven counts, or its refusal, as lines of text.
+// The tool `tally` of document 01: prints a block's seven counts, or its refusal, as lines of text.
 use vrf_bitio::Refusal;
 use vrf_bitio::WINDOW_TOO_LARGE;
 use vrf_model::Acted;
@@ -14,12 +14,13 @@ ghost use Prim.Native.Nat.{_+_, _≤_};
 ghost use lib.ListN.{length};
 ghost use Rattle.vrf_model.specs.Answers.{countsOf, tablesOf};
 ghost use Rattle.vrf_tally.specs.Tally.{line, lines, countLines, refusalLines, answerLines, answered, tally};
-ghost use Rattle.vrf_tally.specs.Put.{Put, heldCounts, pathCounts};
+ghost use Rattle.vrf_tally.specs.Printed.{Printed};
+ghost use Rattle.vrf_tally.specs.Inner.Counts.{heldCounts, pathCounts};
 
-// A line, from a place on; it answers the place behind it. A name has at most eight bytes, so a line has at most thirty.
+// A line at place `at`. Answers the place after it. A name has at most eight bytes, so a line has at most thirty.
 fn put_line(out: &mut [u8], at: usize, name: &[u8], n: u64) -> usize
     requires { ⌜ (length (now name) ≤ 8) × (at + 30 ≤ length (now out)) ⌝ }
-    ensures { λ r. ⌜ (r ≤ at + 30) × Put (line (now (name .entry)) n) (now (out .entry)) at (now (out .exit)) r ⌝ }
+    ensures { λ r. ⌜ (r ≤ at + 30) × Printed (line (now (name .entry)) n) (now (out .entry)) at (now (out .exit)) r ⌝ }
 {
     put_part(out, at, name);
     let sign = at + name.len();
@@ -30,10 +31,10 @@ fn put_line(out: &mut [u8], at: usize, name: &[u8], n: u64) -> usize
     end + 1
 }
 
-// How many GUIDs, groups and filled slots a block has, and its end byte.
+// The first four counts: GUIDs, groups, filled slots and the end byte.
 fn put_held(out: &mut [u8], t: CheckpointTables) -> usize
     requires { ⌜ 120 ≤ length (now out) ⌝ }
-    ensures { λ r. ⌜ (r ≤ 120) × Put (lines (heldCounts (countsOf t))) (now (out .entry)) 0 (now (out .exit)) r ⌝ }
+    ensures { λ r. ⌜ (r ≤ 120) × Printed (lines (heldCounts (countsOf t))) (now (out .entry)) 0 (now (out .exit)) r ⌝ }
 {
     let guids = put_line(out, 0, b"guids", t.guid_count as u64);
     let groups = put_line(out, guids, b"groups", t.group_count as u64);
@@ -41,10 +42,10 @@ fn put_held(out: &mut [u8], t: CheckpointTables) -> usize
     put_line(out, fields, b"frame", t.frame_offset as u64)
 }
 
-// How its paths were sent, from a place on.
+// The last three counts, which show how the paths were sent, at place `at`.
 fn put_paths(out: &mut [u8], at: usize, t: CheckpointTables) -> usize
     requires { ⌜ at + 90 ≤ length (now out) ⌝ }
-    ensures { λ r. ⌜ Put (lines (pathCounts (countsOf t))) (now (out .entry)) at (now (out .exit)) r ⌝ }
+    ensures { λ r. ⌜ Printed (lines (pathCounts (countsOf t))) (now (out .entry)) at (now (out .exit)) r ⌝ }
 {
     let indexed = put_line(out, at, b"indexed", t.indexed_paths as u64);
     let literals = put_line(out, indexed, b"literals", t.literal_paths as u64);
@@ -54,7 +55,7 @@ fn put_paths(out: &mut [u8], at: usize, t: CheckpointTables) -> usize
 // The seven counts, at the front of a buffer.
 fn put_counts(out: &mut [u8], t: CheckpointTables) -> usize
     requires { ⌜ 512 ≤ length (now out) ⌝ }
-    ensures { λ r. ⌜ Put (countLines (countsOf t)) (now (out .entry)) 0 (now (out .exit)) r ⌝ }
+    ensures { λ r. ⌜ Printed (countLines (countsOf t)) (now (out .entry)) 0 (now (out .exit)) r ⌝ }
 {
     let held = put_held(out, t);
     put_paths(out, held, t)
@@ -63,7 +64,7 @@ fn put_counts(out: &mut [u8], t: CheckpointTables) -> usize
 // A refusal and its details, at the front of a buffer.
 fn put_refusal(out: &mut [u8], r: Refusal) -> usize
     requires { ⌜ 512 ≤ length (now out) ⌝ }
-    ensures { λ n. ⌜ Put (refusalLines (r .number) (r .a) (r .b)) (now (out .entry)) 0 (now (out .exit)) n ⌝ }
+    ensures { λ n. ⌜ Printed (refusalLines (r .number) (r .a) (r .b)) (now (out .entry)) 0 (now (out .exit)) n ⌝ }
 {
     let number = put_line(out, 0, b"refusal", r.number as u64);
     let a = put_line(out, number, b"a", r.a);
@@ -73,7 +74,7 @@ fn put_refusal(out: &mut [u8], r: Refusal) -> usize
 // What the block reader answered, at the front of a buffer.
 fn put_answer(out: &mut [u8], read: Tables) -> usize
     requires { ⌜ 512 ≤ length (now out) ⌝ }
-    ensures { λ r. ⌜ Put (answerLines (tablesOf read)) (now (out .entry)) 0 (now (out .exit)) r ⌝ }
+    ensures { λ r. ⌜ Printed (answerLines (tablesOf read)) (now (out .entry)) 0 (now (out .exit)) r ⌝ }
 {
     match read {
         Tables::Read(t) => put_counts(out, t),
@@ -81,7 +82,7 @@ fn put_answer(out: &mut [u8], read: Tables) -> usize
     }
 }
 
-// What the block reader answers on a book that is opened in lent memory, which has the bytes that the allowances need (docs/LAYOUT.md).
+// The block reader's answer on a book that is opened in the lent memory. The allowances need 29,332 bytes (docs/LAYOUT.md).
 fn read_into(book: &mut [u8], input: &[u8]) -> Tables
     requires { ⌜ (29332 ≤ length (now book)) × (length (now input) ≤ 65536) ⌝ }
     ensures { λ r. ⌜ tablesOf r ≡ answered (now (input .entry)) ⌝ }
@@ -92,7 +93,7 @@ fn read_into(book: &mut [u8], input: &[u8]) -> Tables
     }
 }
 
-// What the block reader answers on a book of its own.
+// The block reader's answer on a new book.
 fn read(input: &[u8]) -> Tables
     requires { ⌜ length (now input) ≤ 65536 ⌝ }
     ensures { λ r. ⌜ tablesOf r ≡ answered (now (input .entry)) ⌝ }
@@ -101,9 +102,9 @@ fn read(input: &[u8]) -> Tables
     read_into(&mut book, input)
 }
 
-// Writes what the tool prints for an input at the front of a buffer, and answers its length.
+// Writes the text that the tool prints for an input to the front of `out`, and answers its length.
 pub fn tally(input: &[u8], out: &mut [u8; 512]) -> usize
-    ensures { λ r. ⌜ (r ≤ 512) × Put (tally (now (input .entry))) (now (out .entry)) 0 (now (out .exit)) r ⌝ }
+    ensures { λ r. ⌜ (r ≤ 512) × Printed (tally (now (input .entry))) (now (out .entry)) 0 (now (out .exit)) r ⌝ }
 {
     if 65536 < input.len() {
         return put_refusal(

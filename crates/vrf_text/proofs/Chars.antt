@@ -1,4 +1,4 @@
--- One character of UTF-8, by the word that holds its bytes: 0 stands past the end of a text, and 0 is no tail byte.
+-- One character of UTF-8, by the word that holds its bytes. Past the end of a text the word has 0, which is not a tail byte.
 use mathlib.Core.Bool.{Bool, true, false, cond, _&&_}
 use mathlib.Core.List.{List, [], _∷_}
 use mathlib.Core.Path.{_≡_, refl, sym, ap, _∙_}
@@ -8,12 +8,12 @@ use lib.Dec.{eqb}
 use lib.ListN.{getD, drop}
 use lib.Seq.{getD-drop, drop-drop}
 use borrow.Author.Tests.{le-leb, lt-leb, ne-eqb}
-use Rattle.vrf_text.specs.Cases.{at-most, by-order, clash}
 use Rattle.vrf_text.specs.Utf8.{Lead, asks, bad, lead, within, utf8From, utf8}
-use Rattle.vrf_text.specs.Utf8Laws.{utf8-lead, utf8-bad, lead-1, lead-2}
-use Rattle.vrf_text.specs.Steps.{byteOf, Holds, Step}
+use Rattle.vrf_text.specs.Inner.Steps.{byteOf, WordHolds, Utf8Step}
+use Rattle.vrf_text.specs.Laws.Cases.{at-most, by-order, clash}
+use Rattle.vrf_text.specs.Laws.Utf8.{utf8-lead, utf8-bad, lead-1, lead-2}
 
--- ---- lead bytes and tail bytes, by what stands at the start of a list
+-- ---- lead bytes and tail bytes at the start of a list
 
 begins : (l : List ℕ) {n lo hi : ℕ} → lead (getD l 0 0) ≡ asks n lo hi → utf8 l ≡ utf8From n lo hi (drop 1 l)
 unfolding utf8 utf8From lead
@@ -51,7 +51,7 @@ module _ (a : ℕ) where
         lt-leb a 0xF4 h,
       )
 
-  -- the ranges of the second byte, with the lead bytes that narrow them
+  -- the range of the second byte, by the lead byte
   abbrev lo-3 : ℕ
   lo-3 = cond (eqb a 0xE0) 0xA0 0x80
 
@@ -91,7 +91,7 @@ module _ (a : ℕ) where
       at-most P a 0xF3 (λ q. rw (ne-eqb a 0xF0 (λ e. omega arith), ne-eqb a 0xF4 (λ e. omega arith))) λ p.
       at-most P a 0xF4 (λ q. let e : a ≡ 0xF4 = omega arith in rw e) λ q. absurd (omega arith)
 
--- a number that is picked is not 0 where neither choice is
+-- `pick` is not 0 if neither choice is
 pick-pos : (t : Bool) {x y : ℕ} → 0 < x → 0 < y → 0 < cond t x y
 pick-pos true h k = h
 pick-pos false h k = k
@@ -100,9 +100,9 @@ and-false : (t : Bool) → t && false ≡ false
 and-false true = refl
 and-false false = refl
 
--- ---- the character that begins a word
+-- ---- the character at the start of a word
 
-module _ (w : ℕ) (l : List ℕ) (h : Holds w l) where
+module _ (w : ℕ) (l : List ℕ) (h : WordHolds w l) where
   byte-0 : getD l 0 0 ≡ w % 256
   unfolding byteOf
   byte-0 = h 0 (omega arith)
@@ -132,33 +132,33 @@ module _ (w : ℕ) (l : List ℕ) (h : Holds w l) where
   unfolding utf8
   fourth = due 0 0x80 0xBF (drop 3 l) (omega arith) ∙ rw (byte-3, drop-drop 1 3 l)
 
--- the code's answers, by the tests that lead to each
+-- each answer of the code, from the tests before it
 module _ (w : ℕ) where
-  pub one : w % 256 < 0x80 → Step w 4 1
+  pub one : w % 256 < 0x80 → Utf8Step w 4 1
   unfolding utf8
   one h = record { few = omega arith; passed = λ l k. sym (led w l k (lead-1 (record { low = zero-le; high = omega arith }))) }
 
-  none : lead (w % 256) ≡ bad → Step w 4 0
+  none : lead (w % 256) ≡ bad → Utf8Step w 4 0
   none e = record { few = omega arith; passed = λ l k. no-lead l (ap lead (byte-0 w l k) ∙ e) }
 
-  pub too-low : 0x80 ≤ w % 256 → w % 256 < 0xC2 → Step w 4 0
+  pub too-low : 0x80 ≤ w % 256 → w % 256 < 0xC2 → Utf8Step w 4 0
   too-low h k = none (lead-low (w % 256) h k)
 
-  pub too-high : 0xF4 < w % 256 → Step w 4 0
+  pub too-high : 0xF4 < w % 256 → Utf8Step w 4 0
   too-high h = none (lead-high (w % 256) h)
 
   module _ (h : 0xC2 ≤ w % 256) (k : w % 256 < 0xE0) where
-    of-two : (l : List ℕ) → Holds w l → utf8 l ≡ within 0x80 0xBF (w / 256 % 256) && utf8 (drop 2 l)
+    of-two : (l : List ℕ) → WordHolds w l → utf8 l ≡ within 0x80 0xBF (w / 256 % 256) && utf8 (drop 2 l)
     unfolding utf8
     of-two l q = second w l q 0 (omega arith) (lead-2 (record { low = h; high = omega arith }))
 
-    pub two-pass : within 0x80 0xBF (w / 256 % 256) ≡ true → Step w 4 2
+    pub two-pass : within 0x80 0xBF (w / 256 % 256) ≡ true → Utf8Step w 4 2
     two-pass e = record { few = omega arith; passed = λ l q. sym (of-two l q ∙ rw e) }
 
-    pub two-fail : within 0x80 0xBF (w / 256 % 256) ≡ false → Step w 4 0
+    pub two-fail : within 0x80 0xBF (w / 256 % 256) ≡ false → Utf8Step w 4 0
     two-fail e = record { few = omega arith; passed = λ l q. of-two l q ∙ rw e }
 
-  -- what the bytes after the lead byte have to be
+  -- the tests of the bytes after the lead byte
   abbrev Second : ℕ → ℕ → Bool
   Second lo hi = within lo hi (w / 256 % 256)
 
@@ -169,7 +169,7 @@ module _ (w : ℕ) where
   Fourth = within 0x80 0xBF (w / 256 / 256 / 256 % 256)
 
   module _ (h : 0xE0 ≤ w % 256) (k : w % 256 < 0xF0) where
-    of-three : (l : List ℕ) → Holds w l → utf8 l ≡ Second (lo-3 (w % 256)) (hi-3 (w % 256)) && (Third && utf8 (drop 3 l))
+    of-three : (l : List ℕ) → WordHolds w l → utf8 l ≡ Second (lo-3 (w % 256)) (hi-3 (w % 256)) && (Third && utf8 (drop 3 l))
     unfolding utf8
     of-three l q = second w l q 1 (pick-pos (eqb (w % 256) 0xE0) (omega arith) (omega arith)) (lead-3 (w % 256) h k) ∙ rw (third w l q 0)
 
@@ -177,31 +177,31 @@ module _ (w : ℕ) where
       by-three : {t : Bool} → r ≡ t → Second (lo-3 (w % 256)) (hi-3 (w % 256)) ≡ t
       by-three f = rw (← el, ← eh) (sym e ∙ f)
 
-      pub three-pass : Third ≡ true → r ≡ true → Step w 4 3
+      pub three-pass : Third ≡ true → r ≡ true → Utf8Step w 4 3
       three-pass f g = record { few = omega arith; passed = λ l q. sym (of-three l q ∙ rw (by-three g, f)) }
 
-      pub three-fail : r ≡ false → Step w 4 0
+      pub three-fail : r ≡ false → Utf8Step w 4 0
       three-fail g = record { few = omega arith; passed = λ l q. of-three l q ∙ rw (by-three g) }
 
   module _ (h : 0xF0 ≤ w % 256) (k : w % 256 ≤ 0xF4) where
-    of-four : (l : List ℕ) → Holds w l → utf8 l ≡ Second (lo-4 (w % 256)) (hi-4 (w % 256)) && (Third && (Fourth && utf8 (drop 4 l)))
+    of-four : (l : List ℕ) → WordHolds w l → utf8 l ≡ Second (lo-4 (w % 256)) (hi-4 (w % 256)) && (Third && (Fourth && utf8 (drop 4 l)))
     of-four l q =
         second w l q 2 (pick-pos (eqb (w % 256) 0xF0) (omega arith) (omega arith)) (lead-4 (w % 256) h k) ∙ rw (third w l q 1, fourth w l q)
 
-    pub fourth-fail : Third ≡ true → Fourth ≡ false → Step w 4 0
+    pub fourth-fail : Third ≡ true → Fourth ≡ false → Utf8Step w 4 0
     fourth-fail f g = record { few = omega arith; passed = λ l q. of-four l q ∙ rw (f, g, and-false) }
 
     module _ {lo hi : ℕ} {r : Bool} (el : lo ≡ lo-4 (w % 256)) (eh : hi ≡ hi-4 (w % 256)) (e : r ≡ Second lo hi) where
       by-four : {t : Bool} → r ≡ t → Second (lo-4 (w % 256)) (hi-4 (w % 256)) ≡ t
       by-four f = rw (← el, ← eh) (sym e ∙ f)
 
-      pub four-pass : Third ≡ true → Fourth ≡ true → r ≡ true → Step w 4 4
+      pub four-pass : Third ≡ true → Fourth ≡ true → r ≡ true → Utf8Step w 4 4
       four-pass f f′ g = record { few = omega arith; passed = λ l q. sym (of-four l q ∙ rw (by-four g, f, f′)) }
 
-      pub four-fail : r ≡ false → Step w 4 0
+      pub four-fail : r ≡ false → Utf8Step w 4 0
       four-fail g = record { few = omega arith; passed = λ l q. of-four l q ∙ rw (by-four g) }
 
-  pub third-fail : 0xE0 ≤ w % 256 → Third ≡ false → Step w 4 0
+  pub third-fail : 0xE0 ≤ w % 256 → Third ≡ false → Utf8Step w 4 0
   third-fail h f = by-order (w % 256) 0xEF
       (λ p. record { few = omega arith; passed = λ l q. of-three h (omega arith) l q ∙ rw (f, and-false) })
       λ p. by-order (w % 256) 0xF4

@@ -1,9 +1,10 @@
+-- Lemmas that the proofs use, by subject.
 pub mod Runs
 pub mod Chars
 pub mod Ascii
 pub mod Walks
 pub mod Chars16
-pub mod Puts
+pub mod CharWrites
 pub mod Decoding
 pub mod Signs
 pub mod Texts

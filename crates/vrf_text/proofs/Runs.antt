@@ -1,5 +1,5 @@
--- Numbers of w bits that stand one behind another at a bit of a slice. Bytes are such a run, and so are units of UTF-16, so that
--- the laws of both are laws of runs. Then the words that hold the first of them.
+-- Runs: successive numbers of w bits at a bit of a slice. Bytes and units of UTF-16 are runs, so one set of laws serves both. Then the
+-- words that hold the first bytes or units of a run.
 use mathlib.Core.Bool.{Bool, true, false, cond}
 use mathlib.Core.List.{List, [], _∷_}
 use mathlib.Core.Path.{_≡_, refl, sym, ap, _∙_}
@@ -10,10 +10,10 @@ use lib.Dec.{eqb}
 use lib.ListN.{length, getD, take, drop, length-take, length-drop}
 use lib.Seq.{getD-take, getD-drop, ext-getD}
 use Rattle.vrf_bitio.specs.Bits.{bitsOf, bytesOf, packedBits}
-use Rattle.vrf_bitio.specs.BitsLaws.{bits-lt, bits-split, bits-low, bits-high, bits-byte}
+use Rattle.vrf_bitio.specs.Laws.Bits.{bits-lt, bits-split, bits-low, bits-high, bits-byte}
 use Rattle.vrf_text.specs.Utf16.{units}
 use Rattle.vrf_text.specs.Text.{dropZero}
-use Rattle.vrf_text.specs.Steps.{byteOf, Holds, Holds16, unitsOf}
+use Rattle.vrf_text.specs.Inner.Steps.{byteOf, WordHolds, WordHolds16, unitsOf}
 
 unfoldable pub runs : ℕ → List ℕ → ℕ → ℕ → List ℕ
 runs w s q zero = []
@@ -92,7 +92,7 @@ unfolding byteOf
 none zero = refl
 none (suc j) = none j
 
--- a byte of the number that bits make is a byte that stands there, and 0 past them
+-- byte j of the number made of 8 * k bits is the byte at that place, and 0 past the end
 byte-of-bits : (s : List ℕ) (q k j : ℕ) → byteOf (bitsOf s q (8 * k)) j ≡ getD (runs 8 s q k) j 0
 unfolding runs bitsOf byteOf
 byte-of-bits s q zero j = none j
@@ -104,11 +104,11 @@ byte-of-bits s q (suc k) (suc j) =
     rw (e, bits-high s q 8 (8 * k)) (byte-of-bits s (q + 8) k j)
 
 module _ (s : List ℕ) {w : ℕ} where
-  -- all the bytes at a bit, and the first eight of them
-  pub holds-all : (q n : ℕ) → w ≡ bitsOf s q (8 * n) → Holds w (bytesOf s q n)
+  -- a word of all the bytes at bit q, and a word of the first eight
+  pub holds-all : (q n : ℕ) → w ≡ bitsOf s q (8 * n) → WordHolds w (bytesOf s q n)
   holds-all q n e j h = rw (e, bytes-run s q n) (sym (byte-of-bits s q n j))
 
-  pub holds-first : (q n : ℕ) → 8 ≤ n → w ≡ bitsOf s q 64 → Holds w (bytesOf s q n)
+  pub holds-first : (q n : ℕ) → 8 ≤ n → w ≡ bitsOf s q 64 → WordHolds w (bytesOf s q n)
   holds-first q n k e j h =
       rw (e, bytes-run s q n) (sym (getD-take 8 (runs 8 s q n) j 0 h) ∙ rw (run-take 8 s q 8 n k) (sym (byte-of-bits s q 8 j)))
 
@@ -118,11 +118,11 @@ module _ (s : List ℕ) (b : (k : ℕ) → getD s k 0 < 256) where
       let p : 8 * i + 8 * j ≡ 8 * (i + j) = omega arith in
       run-at 8 s (8 * i) n j h ∙ rw p (bits-byte s (i + j) (b (i + j)))
 
-  -- eight bytes of the slice itself
-  pub holds-in : {w : ℕ} (i : ℕ) → w ≡ bitsOf s (8 * i) 64 → Holds w (drop i s)
+  -- a word of eight bytes of the slice itself
+  pub holds-in : {w : ℕ} (i : ℕ) → w ≡ bitsOf s (8 * i) 64 → WordHolds w (drop i s)
   holds-in i e j h = getD-drop i s j 0 ∙ sym (rw e (byte-of-bits s (8 * i) 8 j) ∙ byte-in i 8 j h)
 
-  -- bytes that begin where a byte of the slice does, and end inside it
+  -- bytes that begin at a byte of the slice and end inside the slice
   pub part : (p n : ℕ) → p % 8 ≡ 0 → p / 8 + n ≤ length s → take (p / 8 + n - p / 8) (drop (p / 8) s) ≡ bytesOf s p n
   part p n z h =
       let a : ℕ = p / 8 in
@@ -152,8 +152,8 @@ pub units-length : (s : List ℕ) (q n : ℕ) → length (unitsOf s q n) ≡ n
 units-length s q n = rw (units-run s q n) (run-length 16 s q n)
 
 module _ (s : List ℕ) (q : ℕ) {w : ℕ} where
-  -- the last unit, and the first two of several
-  pub holds-last : (n : ℕ) → n ≡ 1 → w ≡ bitsOf s q 16 → Holds16 w (unitsOf s q n)
+  -- a word of the last unit, and a word of the first two of several
+  pub holds-last : (n : ℕ) → n ≡ 1 → w ≡ bitsOf s q 16 → WordHolds16 w (unitsOf s q n)
   unfolding runs
   holds-last n one e = rw (one, e, units-run s q 1) record {
     any = omega arith;
@@ -161,7 +161,7 @@ module _ (s : List ℕ) (q : ℕ) {w : ℕ} where
     second = omega (arith, bits-lt s q 16);
   }
 
-  pub holds-two : (n : ℕ) → 2 ≤ n → w ≡ bitsOf s q 32 → Holds16 w (unitsOf s q n)
+  pub holds-two : (n : ℕ) → 2 ≤ n → w ≡ bitsOf s q 32 → WordHolds16 w (unitsOf s q n)
   holds-two n h e =
       let here : q + 16 * 0 ≡ q = omega arith in
       rw (e, units-run s q n) record {

@@ -1,19 +1,19 @@
--- Signed numbers of 32 bits: the length word of a text, negated where it is below 0.
+-- Signed numbers of 32 bits: the length word of a text, negated if it is below 0.
 use mathlib.Core.Bool.{Bool, true, false, false≢true}
 use mathlib.Core.Path.{_≡_, refl, sym, ap, _∙_, subst}
 use Prim.Native.Nat.{ℕ, suc, _+_, _-_, _<_}
 use native.Mathlib.Omega.{arith}
-use borrow.Author.Tests.{ltb-true, le-ltb}
 use lib.Dec.{T}
 use lib.IntN.{ℤ, pos, negsuc, natAbs, _-ℤ_}
 use lib.Signed.{ltZ, nonNeg}
+use borrow.Author.Tests.{ltb-true, le-ltb}
+use mir.Facts.{toZ-ofZ}
 use mir.Syntax.{w32}
 use mir.Val.{Fits, SFits, toZ, ofZ}
-use mir.Facts.{toZ-ofZ}
-use Rattle.vrf_text.specs.Steps.{LengthOf}
+use Rattle.vrf_text.specs.Inner.Steps.{LengthOf}
 use Rattle.vrf_text.specs.declared.Length.the-variants.{Bytes, Units}
 
--- a number below 0, and what the code makes of it
+-- a number below 0, and what the code computes from it
 pub record Negative (z : ℤ) : Type 0 where
   pub k : ℕ
   pub is : z ≡ negsuc k
@@ -54,7 +54,7 @@ module _ {z : ℤ} (n : Negative z) where
       let e : n .k + 1 - 1 ≡ n .k = omega arith in
       rw (n .flipped, e) (n .is, omega arith)
 
--- a number from 0 on
+-- a number that is 0 or more
 pub record Natural (z : ℤ) : Type 0 where
   pub n : ℕ
   pub is : z ≡ pos n

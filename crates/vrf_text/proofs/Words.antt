@@ -1,4 +1,4 @@
--- The length word of a text: read as a signed number, it is the word of the definition, and says what the rest is.
+-- The length word of a text: read as a signed number, it is the word of the definition, and decides how the rest is read.
 use mathlib.Core.List.{List, []}
 use mathlib.Core.Path.{_≡_, sym, _∙_, subst}
 use Prim.Native.Nat.{ℕ, suc, _+_, _-_, _^_, _≤_, _<_}
@@ -6,32 +6,32 @@ use native.Mathlib.Omega.{arith}
 use lib.Dec.{ltb}
 use lib.IntN.{ℤ, pos, negsuc}
 use lib.Signed.{mag}
+use borrow.Author.Tests.{le-ltb, ltb-true, ltb-false, eq-eqb, ne-eqb}
+use mir.Facts.{toZ-ofZ}
 use mir.Syntax.{w32}
 use mir.Val.{toZ, ofZ}
-use mir.Facts.{toZ-ofZ}
-use borrow.Author.Tests.{le-ltb, ltb-true, ltb-false, eq-eqb, ne-eqb}
 use Rattle.vrf_bitio.specs.Bits.{bitsOf, bytesOf}
-use Rattle.vrf_bitio.specs.BitsLaws.{bits-lt}
 use Rattle.vrf_bitio.specs.Reading.{Read, ok, refused, return}
-use Rattle.vrf_bitio.specs.ReadingLaws.{bind-ok, bind-refused}
 use Rattle.vrf_bitio.specs.Window.{rest}
-use Rattle.vrf_bitio.specs.WindowLaws.{word-found, word-lacks}
 use Rattle.vrf_bitio.specs.Number.{word32, int32, signed}
 use Rattle.vrf_bitio.specs.Answers.{restOf, readAt, Gave, Refuses}
-use Rattle.vrf_bitio.specs.AnswersLaws.{gave-return}
+use Rattle.vrf_bitio.specs.Laws.Bits.{bits-lt}
+use Rattle.vrf_bitio.specs.Laws.Reading.{bind-ok, bind-refused}
+use Rattle.vrf_bitio.specs.Laws.Window.{word-found, word-lacks}
+use Rattle.vrf_bitio.specs.Laws.Answers.{gave-return}
 use Rattle.vrf_bitio.specs.declared.Cursor.{Cursor}
 use Rattle.vrf_bitio.specs.declared.Refusal.{Refusal}
-use Rattle.vrf_text.specs.Cases.{by-cond, by-order, clash}
 use Rattle.vrf_text.specs.Text.{text8, text16, textOf, fstring}
-use Rattle.vrf_text.specs.TextLaws.{textOf-8, fstring-at}
-use Rattle.vrf_text.specs.Steps.{bitAt, LengthOf, FoundAnswer}
+use Rattle.vrf_text.specs.Inner.Steps.{bitAt, LengthOf, FoundAnswer}
+use Rattle.vrf_text.specs.Laws.Cases.{by-cond, by-order, clash}
+use Rattle.vrf_text.specs.Laws.Text.{textOf-8, fstring-at}
+use Rattle.vrf_text.specs.declared.FoundText.{FoundText}
+use Rattle.vrf_text.specs.declared.FoundText.the-variants.{Bytes, Units, Refused}
 use Rattle.vrf_text.specs.declared.Length.{Length}
-use Rattle.vrf_text.specs.declared.Found.{Found}
-use Rattle.vrf_text.specs.declared.Found.the-variants.{Bytes, Units, Refused}
 
--- what a call says of a signed number that was passed to it, at the variant that it answered
-pub told : (v : ℤ) {r r′ : Length} → mag v < 2147483648 → r ≡ r′ → LengthOf (toZ w32 (ofZ w32 v)) r → LengthOf v r′
-told v {r} {r′} h e l = subst (LengthOf v) e (subst (λ (z : ℤ). LengthOf z r) (toZ-ofZ (record { sfits = h })) l)
+-- the answer of `length_of` for the signed number v that was passed to it
+pub outcome : (v : ℤ) {r r′ : Length} → mag v < 2147483648 → r ≡ r′ → LengthOf (toZ w32 (ofZ w32 v)) r → LengthOf v r′
+outcome v {r} {r′} h e l = subst (LengthOf v) e (subst (λ (z : ℤ). LengthOf z r) (toZ-ofZ (record { sfits = h })) l)
 
 -- the word of a signed number that was read
 pub record Worded (s : List ℕ) (c : Cursor) (v : ℤ) (at : Cursor) : Type 0 where
@@ -66,7 +66,7 @@ module _ (s : List ℕ) (c : Cursor) where
       fstring-at (c .pos) (restOf s c) ∙ bind-refused word32 _ (c .pos) (restOf s c) (word-lacks s (c .first) (c .count) (c .pos) (omega arith)) ∙ (cc))
       λ h. let e′ = sym (found h) ∙ e in clash (cc)
 
--- the number that a word stands for
+-- the word of a signed number, by its sign
 signed-pos : (w n : ℕ) → signed w ≡ pos n → (w ≡ n) × (w < 2147483648)
 unfolding signed
 signed-pos w n =
@@ -112,13 +112,13 @@ module _ (s : List ℕ) (c : Cursor) {v : ℤ} {at : Cursor} (d : Worded s c v a
   lift : {x y : Read (List ℕ)} {t : List ℕ} {next : Cursor} → x ≡ y → Gave s at y t next → Gave s c x t next
   lift e g = record { read = e ∙ g .read; first = g .first ∙ d .word .first; count = g .count ∙ d .word .count }
 
-  -- what was found from there on is found from the word on
-  pub found-from : {y : Read (List ℕ)} → readAt s c fstring ≡ y → (r : Found) → FoundAnswer s at y r → FoundAnswer s c (readAt s c fstring) r
+  -- an answer for the rest after the length word is an answer for the whole text
+  pub found-from : {y : Read (List ℕ)} → readAt s c fstring ≡ y → (r : FoundText) → FoundAnswer s at y r → FoundAnswer s c (readAt s c fstring) r
   found-from e (Bytes from n next) f = (lift e (f .0), f .1)
   found-from e (Units from n len next) f = (f .0, (lift e (f .1 .0), f .1 .1))
   found-from e (Refused r) f = e ∙ f
 
-  -- no text
+  -- an empty text
   pub found-none : v ≡ pos 0 → FoundAnswer s c (readAt s c fstring) (Bytes at 0 at)
   unfolding bytesOf
   found-none e = (lift (then-none e) (gave-return s at []), omega arith)

@@ -1,4 +1,4 @@
--- UTF-16 (RFC 2781) and its way to UTF-8: bytes make units, units characters, characters UTF-8 bytes; and the way back.
+-- UTF-16 (RFC 2781) and its conversion to UTF-8 and back: bytes make units, units make characters, characters make UTF-8 bytes.
 use mathlib.Core.Bool.{cond}
 use mathlib.Core.List.{List, [], _∷_, _++_}
 use mathlib.Core.Option.{Option, none, some}
@@ -7,17 +7,17 @@ use lib.Dec.{leb, ltb}
 use lib.ListN.{getD}
 use Rattle.vrf_text.specs.Utf8.{In, within}
 
--- a Unicode scalar value: any character number but those of the surrogates
+-- a Unicode scalar value: any character number except the surrogates
 pub data Scalar : ℕ → Type 0 where
   below : {u : ℕ} → u ≤ 0xD7FF → Scalar u
   above : {u : ℕ} → In 0xE000 0x10FFFF u → Scalar u
 
--- characters that are all scalar values
+-- each of the characters is a scalar value
 abbrev pub Scalars : List ℕ → Type 0
 Scalars [] = Unit {0}
 Scalars (u ∷ cs) = Scalar u × Scalars cs
 
--- ---- RFC 2781: encoding, as section 2.1 has it
+-- ---- RFC 2781, section 2.1: encoding
 
 -- steps 2 to 4: U' = U - 0x10000; W1 is 0xD800 with the ten high bits of U', W2 is 0xDC00 with the ten low bits
 unfoldable pub surrogates : ℕ → List ℕ
@@ -31,20 +31,15 @@ unfoldable pub encodeUtf16 : List ℕ → List ℕ
 encodeUtf16 [] = []
 encodeUtf16 (u ∷ cs) = encodeChar u ++ encodeUtf16 cs
 
--- UTF-16LE: the two bytes of each unit, low byte first
-unfoldable pub unitBytes : List ℕ → List ℕ
-unitBytes [] = []
-unitBytes (w ∷ ws) = w % 256 ∷ w / 256 ∷ unitBytes ws
+-- ---- RFC 2781, section 2.2: decoding, bytes to units and units to characters
 
--- ---- RFC 2781: decoding, units and characters
-
--- UTF-16LE: the 16-bit units of bytes, low byte first; an odd last byte makes none
+-- UTF-16LE: the 16-bit units of bytes, low byte first; an odd last byte is dropped
 unfoldable pub units : List ℕ → List ℕ
 units [] = []
 units (a ∷ []) = []
 units (a ∷ b ∷ l) = (a + 256 * b) ∷ units l
 
--- what a unit is: a character of its own, or the high (W1) or the low (W2) surrogate of a pair
+-- the three kinds of unit: a character by itself, the high surrogate (W1) of a pair, the low surrogate (W2) of a pair
 pub data Kind : Type 0 where
   single high low : Kind
 
@@ -55,16 +50,16 @@ kind w =
     (cond (leb w 0xDFFF) low
     single))
 
--- the character of a pair: the ten low bits of each, W1's above, and 0x10000 added
+-- the character of a pair: the ten low bits of W1 above those of W2, plus 0x10000
 unfoldable pub pair : ℕ → ℕ → ℕ
 pair w1 w2 = 0x10000 + (w1 % 0x400 * 0x400 + w2 % 0x400)
 
--- a character before those of the rest
+-- the character u put before the characters of the rest, if the rest has no error
 unfoldable pub before : ℕ → Option (List ℕ) → Option (List ℕ)
 before u none = none
 before u (some cs) = some (u ∷ cs)
 
--- section 2.2: the characters of units, where a high surrogate may have gone before; a surrogate without its partner is an error
+-- The characters of units, after a high surrogate if the first argument has one. A surrogate without its partner is an error.
 unfoldable pub utf16From : Option ℕ → List ℕ → Option (List ℕ)
 utf16From none [] = some []
 utf16From (some w1) [] = none
@@ -74,9 +69,9 @@ utf16From (some w1) (w ∷ l) = elim (kind w) [ single ↦ none | high ↦ none 
 unfoldable pub utf16 : List ℕ → Option (List ℕ)
 utf16 ws = utf16From none ws
 
--- ---- RFC 3629, section 3: characters and UTF-8
+-- ---- RFC 3629, section 3: characters to UTF-8 and back
 
--- the bytes of one character: the table's four lines
+-- the bytes of one character: the four lines of the RFC's table
 unfoldable pub utf8Of : ℕ → List ℕ
 utf8Of u =
     cond (leb u 0x7F) (u ∷ [])
@@ -88,7 +83,7 @@ unfoldable pub utf8Chars : List ℕ → List ℕ
 utf8Chars [] = []
 utf8Chars (u ∷ cs) = utf8Of u ++ utf8Chars cs
 
--- the character that the byte a begins, with the bytes l behind it: the bits x of the table's four lines
+-- the character that begins with the byte a, followed by the bytes l: the bits x of the table's four lines
 unfoldable pub charOf : ℕ → List ℕ → ℕ
 charOf a l =
     cond (leb a 0x7F) a
@@ -96,13 +91,13 @@ charOf a l =
     (cond (leb a 0xEF) (a % 16 * 4096 + getD l 0 0 % 64 * 64 + getD l 1 0 % 64)
     (a % 8 * 262144 + getD l 0 0 % 64 * 4096 + getD l 1 0 % 64 * 64 + getD l 2 0 % 64)))
 
--- the characters of a valid text: each byte that is no tail byte begins one
+-- the characters of a valid text: each byte that is not a tail byte begins one
 unfoldable pub utf8Decode : List ℕ → List ℕ
 utf8Decode [] = []
 utf8Decode (a ∷ l) = cond (within 0x80 0xBF a) (utf8Decode l) (charOf a l ∷ utf8Decode l)
 
--- ---- the two together
+-- ---- UTF-16 to UTF-8
 
--- the UTF-8 of units
+-- the UTF-8 of units, if they have no error
 unfoldable pub unitsToUtf8 : List ℕ → Option (List ℕ)
 unitsToUtf8 ws = elim (utf16 ws) [ none ↦ none | some cs ↦ some (utf8Chars cs) ]

@@ -1,5 +1,5 @@
--- UTF-8 (RFC 3629): the grammar of section 4 as data, rule by rule, and the test that contracts cite. `Utf8Laws` shows that the two
--- agree on every list. A text is the list of its bytes.
+-- UTF-8 (RFC 3629): the grammar of section 4 as data, rule by rule, and the test `utf8` that the contracts use. specs/Laws/Utf8.antt proves
+-- that the two agree on every list. A text is the list of its bytes.
 use mathlib.Core.Bool.{Bool, false, cond, _&&_}
 use mathlib.Core.List.{List, [], _∷_, _++_}
 use Prim.Native.Nat.{ℕ, zero, suc, _≤_}
@@ -16,7 +16,7 @@ pub record In (lo hi b : ℕ) : Type 0 where
 abbrev pub UTF8-tail : ℕ → Type 0
 UTF8-tail b = In 0x80 0xBF b
 
--- UTF8-char = UTF8-1 / UTF8-2 / UTF8-3 / UTF8-4, with a constructor for each alternative, named by its lead byte
+-- UTF8-char = UTF8-1 / UTF8-2 / UTF8-3 / UTF8-4, with one constructor for each alternative, named after its lead byte
 pub data UTF8-char : List ℕ → Type 0 where
   -- UTF8-1 = %x00-7F
   UTF8-1 : {a : ℕ} → In 0x00 0x7F a → UTF8-char (a ∷ [])
@@ -39,12 +39,12 @@ pub data UTF8-octets : List ℕ → Type 0 where
 
 -- ---- the test
 
--- what a byte in the place of a lead byte asks of those after it: how many tail bytes are due, and the range of the first
+-- what a lead byte requires of the bytes after it: `asks n lo hi` requires n tail bytes, the first between lo and hi; `bad` is no lead byte
 pub data Lead : Type 0 where
   asks : ℕ → ℕ → ℕ → Lead
   bad : Lead
 
--- the lead bytes in rising order, a line for each range
+-- the lead bytes in ascending order, one line for each range
 unfoldable pub lead : ℕ → Lead
 lead a =
     cond (leb a 0x7F) (asks 0 0x80 0xBF)
@@ -62,12 +62,12 @@ lead a =
 unfoldable pub within : ℕ → ℕ → ℕ → Bool
 within lo hi b = leb lo b && leb b hi
 
--- valid from here on, where `due` tail bytes are due and the next of them is between lo and hi
+-- whether l is valid where `due` tail bytes must come first, the first of them between lo and hi
 unfoldable pub utf8From : ℕ → ℕ → ℕ → List ℕ → Bool
 utf8From due lo hi [] = eqb due 0
 utf8From zero lo hi (b ∷ l) = elim (lead b) [ asks n lo hi ↦ utf8From n lo hi l | bad ↦ false ]
 utf8From (suc due) lo hi (b ∷ l) = within lo hi b && utf8From due 0x80 0xBF l
 
--- valid UTF-8
+-- whether l is valid UTF-8
 unfoldable pub utf8 : List ℕ → Bool
 utf8 l = utf8From 0 0x80 0xBF l

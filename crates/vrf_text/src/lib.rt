@@ -15,25 +15,11 @@ ghost use Rattle.vrf_bitio.specs.Pasted.{pasted};
 ghost use Rattle.vrf_bitio.specs.Answers.{readAt};
 ghost use Rattle.vrf_text.specs.Utf8.{utf8, within};
 ghost use Rattle.vrf_text.specs.Utf16.{utf8Of, unitsToUtf8};
-ghost use Rattle.vrf_text.specs.Steps.{
-  Step,
-  Clear,
-  Holds,
-  Passed,
-  Step16,
-  Holds16,
-  unitsOf,
-  MeasuredAnswer,
-  Room,
-  Wrote,
-  LengthOf,
-  bitAt,
-  FoundAnswer,
-};
-ghost use Rattle.vrf_text.specs.Text.{text8, text16, fstring, roomFor, fstringInto, callerText};
+ghost use Rattle.vrf_text.specs.Text.{text8, text16, fstring, intoTarget, fstringInto, callerText};
 ghost use Rattle.vrf_text.specs.Answers.{TextAnswer, CallerAnswer};
+ghost use Rattle.vrf_text.specs.Inner.Steps.{Utf8Step, Clear, WordHolds, Passed, Utf16Step, WordHolds16, unitsOf, MeasuredAnswer, FitsTarget, WroteText, LengthOf, bitAt, FoundAnswer};
 
-// The numbers of document 01's table that reading or taking a text can give, besides those of the bit reader.
+// The refusal numbers of document 01's table that reading or checking a text can give, besides those of the bit reader.
 pub const TEXT_LENGTH: u32 = 13;
 
 pub const BAD_TEXT: u32 = 14;
@@ -42,77 +28,75 @@ pub const NOT_UTF8: u32 = 40;
 
 pub const TEXT_TOO_LONG: u32 = 41;
 
-// A text on the wire has at most this many bytes there, and as UTF-8 any text has at most these.
+// The most bytes of a text on the wire, and the most bytes of any text as UTF-8.
 const WIRE_BYTES: u64 = 1_048_576;
 
 const TEXT_BYTES: u32 = 4_096;
 
-// The top bit of each byte of a word, of its first four bytes, and the lowest bit of each.
+// The top bit of each of eight bytes, the top bit of each of the first four, and the lowest bit of each of eight.
 const HIGH: u64 = 0x8080_8080_8080_8080;
 
 const HIGH_4: u64 = 0x8080_8080;
 
 const LOW: u64 = 0x0101_0101_0101_0101;
 
-// A text that was read: its length in bytes and the cursor behind it.
+// A text that was read: its length in bytes and the cursor after it.
 pub enum Text {
     Read(u32, Cursor),
     Refused(Refusal),
 }
 
-// What a caller's text meets.
+// The answer to a caller's text.
 pub enum Caller {
     Accepted,
     Refused(Refusal),
 }
 
-// A character, and how many units of UTF-16 it takes: 0 where there is none.
+// A character and the number of its UTF-16 units; 0 units mean that there is no character.
 struct Char {
     code: u32,
     units: usize,
 }
 
-// What a pass over units finds: how many bytes they have as UTF-8.
+// The length of units as UTF-8 bytes, or bad text.
 enum Measured {
     Bytes(u32),
     Bad,
 }
 
-// What a text's length word says: no text, n bytes of UTF-8, n units of UTF-16.
+// A text's length word, decoded: no text, n bytes of UTF-8, or n units of UTF-16.
 enum Length {
     Empty,
     Bytes(u32),
     Units(u32),
 }
 
-// A text that was tested and is still where it stands, with the cursor behind it: n bytes of UTF-8 at a cursor, or n units of
-// UTF-16 at one, with the number of their bytes as UTF-8.
-enum Found {
+// A text that was tested and not yet copied, with the cursor after it: n bytes of UTF-8 at a cursor, or n units of UTF-16 at a cursor with
+// the number of their bytes as UTF-8.
+enum FoundText {
     Bytes(Cursor, u32, Cursor),
     Units(Cursor, u32, u32, Cursor),
     Refused(Refusal),
 }
 
-// ---- UTF-8. A loop goes by words of eight bytes, in which 0 stands past the end of the text: 0 is no tail byte, so a character
-// that is cut off is bad by itself, and ASCII may be passed beyond the end.
+// ---- UTF-8. The loops read words of eight bytes; past the end of the text a word has 0. This is safe: 0 is not a tail byte, so a cut
+// character is bad, and 0 is ASCII, so a step may pass beyond the end.
 
-// Whether b is from lo to hi.
 fn within(b: u64, lo: u64, hi: u64) -> bool
     ensures { λ r. ⌜ r ≡ within lo hi b ⌝ }
 {
     lo <= b && b <= hi
 }
 
-// x where a is k, and y elsewhere.
 fn pick(a: u64, k: u64, x: u64, y: u64) -> u64
     ensures { λ r. ⌜ r ≡ cond (eqb a k) x y ⌝ }
 {
     if a == k { x } else { y }
 }
 
-// How many bytes the character has that begins the word w, or 0 where none does.
+// The number of bytes of the character at the start of the word w, or 0 if there is none.
 fn char_len(w: u64) -> usize
-    ensures { λ r. ⌜ Step w 4 r ⌝ }
+    ensures { λ r. ⌜ Utf8Step w 4 r ⌝ }
 {
     let a = w % 256;
     if a < 0x80 {
@@ -150,10 +134,10 @@ fn char_len(w: u64) -> usize
     }
 }
 
-// How many bytes may be passed where the word w holds the next eight: all of them or the first four where they are ASCII, else a
-// character; 0 says that the text is bad.
+// The number of bytes to pass where the word w holds the next eight: eight or four if they are ASCII, otherwise one character. 0 means bad
+// text.
 fn step(w: u64) -> usize
-    ensures { λ r. ⌜ Step w 8 r ⌝ }
+    ensures { λ r. ⌜ Utf8Step w 8 r ⌝ }
 {
     if w & HIGH == 0 {
         8
@@ -164,7 +148,7 @@ fn step(w: u64) -> usize
     }
 }
 
-// Whether bit b is 0 in each of the first 32 bytes of s: one test of four words.
+// Whether s has 32 bytes and bit b is 0 in each of the first 32: one test of four words.
 fn clear_32(s: &[u8], b: u32) -> bool
     requires { ⌜ b < 8 ⌝ }
     ensures { λ r. ⌜ (r ≡ true → (32 ≤ length (now (s .entry))) × Clear (now (s .entry)) b 32) ⌝ }
@@ -180,7 +164,7 @@ fn clear_32(s: &[u8], b: u32) -> bool
     x | y | z | w == 0
 }
 
-// How many bytes of s have 0 as bit b, in blocks from its start on.
+// The number of bytes at the start of s, in blocks of 32, whose bit b is 0.
 fn clear_run(s: &[u8], b: u32) -> usize
     requires { ⌜ b < 8 ⌝ }
     ensures { λ r. ⌜ (r ≤ length (now (s .entry))) × Clear (now (s .entry)) b r ⌝ }
@@ -195,7 +179,7 @@ fn clear_run(s: &[u8], b: u32) -> usize
     i
 }
 
-// How many bytes of s may be passed at its start: a block of ASCII, a word or half a word of it, or a character.
+// The number of bytes to pass at the start of s: 32, eight or four bytes of ASCII, or one character. 0 means bad text.
 fn step_in(s: &[u8]) -> usize
     ensures { λ r. ⌜ (r ≤ 32) × Passed (now (s .entry)) r ⌝ }
 {
@@ -203,7 +187,6 @@ fn step_in(s: &[u8]) -> usize
     if k == 8 && clear_32(s, 7) { 32 } else { k }
 }
 
-// Whether t is UTF-8.
 pub fn is_utf8(t: &[u8]) -> bool
     ensures { λ r. ⌜ r ≡ utf8 (now (t .entry)) ⌝ }
 {
@@ -218,9 +201,9 @@ pub fn is_utf8(t: &[u8]) -> bool
     true
 }
 
-// The word of the next eight of the n bytes from bit p of s on.
+// The word of the first eight of the n bytes at bit p of s; missing bytes are 0.
 fn word_at(s: &[u8], p: u64, n: usize) -> u64
-    ensures { λ r. ⌜ Holds r (bytesOf (now (s .entry)) p n) ⌝ }
+    ensures { λ r. ⌜ WordHolds r (bytesOf (now (s .entry)) p n) ⌝ }
 {
     if n < 8 {
         vrf_bitio::bits_at(s, p, 8 * (n as u32))
@@ -229,8 +212,8 @@ fn word_at(s: &[u8], p: u64, n: usize) -> u64
     }
 }
 
-// How many of the n bytes from bit p of s on may be passed as ASCII, in blocks from their start on. Each has its top bit seven bits
-// on, at the same place of one byte of s after another, so that no byte is put together.
+// The number of bytes to pass as ASCII, in blocks of 32, of the n bytes at bit p of s. Their top bits are all at the same place of
+// successive bytes of s, so no byte has to be assembled from two.
 fn ascii_at(s: &[u8], p: u64, n: usize) -> usize
     requires { ⌜ p + 8 * n < 2 ^ 64 ⌝ }
     ensures { λ r. ⌜ utf8 (drop r (bytesOf (now (s .entry)) p n)) ≡ utf8 (bytesOf (now (s .entry)) p n) ⌝ }
@@ -247,9 +230,9 @@ fn ascii_at(s: &[u8], p: u64, n: usize) -> usize
     clear_run(&s[a..e], (top % 8) as u32)
 }
 
-// Whether the n bytes from bit p of s on are UTF-8: the steps of `is_utf8`, on words that are put together at a bit.
-// `is_utf8` is not this loop at bit 0. It takes a slice of any length, whose bits 64 bits do not number, and it reads a word by one
-// load. What is proved of a step is proved once, for both.
+// Whether the n bytes at bit p of s are UTF-8: the steps of `is_utf8`, on words that may begin inside a byte. `is_utf8` is not this loop at
+// bit 0, because it takes slices whose bit count does not fit 64 bits and reads each word by one load. Both loops use the same lemmas about
+// a step.
 fn utf8_bits(s: &[u8], p: u64, n: usize) -> bool
     requires { ⌜ p + 8 * n < 2 ^ 64 ⌝ }
     ensures { λ r. ⌜ r ≡ utf8 (bytesOf (now (s .entry)) p n) ⌝ }
@@ -265,7 +248,7 @@ fn utf8_bits(s: &[u8], p: u64, n: usize) -> bool
     true
 }
 
-// The same. Bytes of the slice itself are tested where they stand.
+// Whether the n bytes at bit p of s are UTF-8. If they begin at a byte of s, that part of s is tested directly.
 fn utf8_at(s: &[u8], p: u64, n: usize) -> bool
     requires { ⌜ p + 8 * n < 2 ^ 64 ⌝ }
     ensures { λ r. ⌜ r ≡ utf8 (bytesOf (now (s .entry)) p n) ⌝ }
@@ -281,11 +264,11 @@ fn utf8_at(s: &[u8], p: u64, n: usize) -> bool
     is_utf8(&s[a..e])
 }
 
-// ---- UTF-16. The loops go by words of two units, in which 0 stands past the end: 0 is no low surrogate.
+// ---- UTF-16. The loops read words of two units; past the end of the text a word has 0, which is not a low surrogate.
 
-// The character that begins the word w of two units.
+// The character at the start of the word w of two units.
 fn char16(w: u64) -> Char
-    ensures { λ r. ⌜ Step16 w (r .code) (r .units) ⌝ }
+    ensures { λ r. ⌜ Utf16Step w (r .code) (r .units) ⌝ }
 {
     let a = w % 0x1_0000;
     let b = w / 0x1_0000 % 0x1_0000;
@@ -316,10 +299,10 @@ fn char16(w: u64) -> Char
     }
 }
 
-// The word of the next two of the n units from bit p of s on.
+// The word of the first two of the n units at bit p of s; a missing unit is 0.
 fn units_at(s: &[u8], p: u64, n: usize) -> u64
     requires { ⌜ 0 < n ⌝ }
-    ensures { λ r. ⌜ Holds16 r (unitsOf (now (s .entry)) p n) ⌝ }
+    ensures { λ r. ⌜ WordHolds16 r (unitsOf (now (s .entry)) p n) ⌝ }
 {
     if n == 1 {
         vrf_bitio::bits_at(s, p, 16)
@@ -328,7 +311,7 @@ fn units_at(s: &[u8], p: u64, n: usize) -> u64
     }
 }
 
-// How many bytes of UTF-8 a character takes.
+// The number of bytes of a character as UTF-8.
 fn utf8_len(u: u32) -> u32
     ensures { λ r. ⌜ (r ≡ length (utf8Of u)) × (r ≤ 4) ⌝ }
 {
@@ -343,7 +326,7 @@ fn utf8_len(u: u32) -> u32
     }
 }
 
-// The length as UTF-8 of the n units from bit p of s on.
+// The length as UTF-8 of the n units at bit p of s.
 fn utf16_length(s: &[u8], p: u64, n: usize) -> Measured
     requires { ⌜ (p < 2 ^ 33) × (n ≤ 2 ^ 19) ⌝ }
     ensures { λ r. ⌜ MeasuredAnswer (unitsToUtf8 (unitsOf (now (s .entry)) p n)) r ⌝ }
@@ -362,7 +345,7 @@ fn utf16_length(s: &[u8], p: u64, n: usize) -> Measured
     Measured::Bytes(len)
 }
 
-// Writes a character as UTF-8 from place at of out on, and answers the place after it.
+// Writes a character as UTF-8 to out from place at on, and answers the place after it.
 fn put_char(out: &mut [u8], at: usize, u: u32) -> usize
     requires { ⌜ (u < 0x110000) × (at + length (utf8Of u) ≤ length (now out)) ⌝ }
     ensures { λ r. ⌜ (r ≡ at + length (utf8Of u)) × (now (out .exit) ≡ pasted (now (out .entry)) at (utf8Of u)) ⌝ }
@@ -389,10 +372,10 @@ fn put_char(out: &mut [u8], at: usize, u: u32) -> usize
     at + 4
 }
 
-// Writes the UTF-8 of the n units from bit p of s on, which `utf16_length` has measured, into the first bytes of out.
+// Writes the UTF-8 of the n units at bit p of s, which `utf16_length` has measured, into the first bytes of out.
 fn put_units(s: &[u8], p: u64, n: usize, out: &mut [u8])
-    requires { ⌜ (p < 2 ^ 33) × (n ≤ 2 ^ 19) × Room (unitsToUtf8 (unitsOf (now s) p n)) (length (now out)) ⌝ }
-    ensures { λ r. ⌜ Wrote (unitsToUtf8 (unitsOf (now (s .entry)) p n)) (now (out .entry)) (now (out .exit)) ⌝ }
+    requires { ⌜ (p < 2 ^ 33) × (n ≤ 2 ^ 19) × FitsTarget (unitsToUtf8 (unitsOf (now s) p n)) (length (now out)) ⌝ }
+    ensures { λ r. ⌜ WroteText (unitsToUtf8 (unitsOf (now (s .entry)) p n)) (now (out .entry)) (now (out .exit)) ⌝ }
 {
     let mut i: usize = 0;
     let mut at: usize = 0;
@@ -403,9 +386,9 @@ fn put_units(s: &[u8], p: u64, n: usize, out: &mut [u8])
     }
 }
 
-// ---- a text on the wire: it is tested where it stands, so that a refused one leaves the target as it was, and then taken
+// ---- a text on the wire. It is first tested in the slice, so that a refused text leaves the target unchanged, and then copied.
 
-// What a text's length word says. A number below 0 is negated, the lowest too.
+// Decodes a text's length word. A number below 0 is negated; this works for the lowest number too.
 fn length_of(n: i32) -> Length
     ensures { λ r. ⌜ LengthOf n r ⌝ }
 {
@@ -418,7 +401,7 @@ fn length_of(n: i32) -> Length
     Length::Bytes(n as u32)
 }
 
-// Whether n bytes are more than a text may have, or more than are left.
+// Whether n bytes are more than a text on the wire may have, or more than are left.
 fn too_long(c: Cursor, n: u64) -> bool
     ensures { λ r. ⌜ r ≡ (ltb 1048576 n || ltb ((c .count - c .pos) / 8) n) ⌝ }
 {
@@ -433,7 +416,7 @@ fn too_long(c: Cursor, n: u64) -> bool
     (((count - pos) / 8) as u64) < n
 }
 
-// How many of n bytes or units are left where the last of them is dropped if it is 0.
+// The number of bytes or units of a text of n, after a last one that is 0 is dropped.
 fn trimmed(last: u64, n: u32) -> u32
     requires { ⌜ 0 < n ⌝ }
     ensures { λ r. ⌜ (r ≡ cond (eqb last 0) (n - 1) n) × (r ≤ n) ⌝ }
@@ -441,8 +424,8 @@ fn trimmed(last: u64, n: u32) -> u32
     if last == 0 { n - 1 } else { n }
 }
 
-// The n bytes of UTF-8 at a cursor, of the text whose length word stands at start.
-fn find_bytes(s: &[u8], c: Cursor, start: u32, n: u32) -> Found
+// Tests the n bytes of UTF-8 at a cursor; start is the position of the text's length word.
+fn find_bytes(s: &[u8], c: Cursor, start: u32, n: u32) -> FoundText
     requires { ⌜ 0 < n ⌝ }
     ensures { λ r. ⌜ FoundAnswer (now (s .entry)) c (readAt (now (s .entry)) c (text8 start n n)) r ⌝ }
 {
@@ -450,7 +433,7 @@ fn find_bytes(s: &[u8], c: Cursor, start: u32, n: u32) -> Found
     let count = c.count;
     let pos = c.pos;
     if too_long(c, n as u64) {
-        return Found::Refused(Refusal {
+        return FoundText::Refused(Refusal {
             number: TEXT_LENGTH,
             a: start as u64,
             b: n as u64,
@@ -459,20 +442,20 @@ fn find_bytes(s: &[u8], c: Cursor, start: u32, n: u32) -> Found
     let p = (first as u64) + (pos as u64);
     let k = trimmed(vrf_bitio::bits_at(s, p + 8 * ((n - 1) as u64), 8), n);
     if !utf8_at(s, p, k as usize) {
-        return Found::Refused(Refusal {
+        return FoundText::Refused(Refusal {
             number: BAD_TEXT,
             a: start as u64,
             b: 0,
         });
     }
     if TEXT_BYTES < k {
-        return Found::Refused(Refusal {
+        return FoundText::Refused(Refusal {
             number: TEXT_TOO_LONG,
             a: k as u64,
             b: 0,
         });
     }
-    Found::Bytes(
+    FoundText::Bytes(
         c,
         k,
         Cursor {
@@ -483,8 +466,8 @@ fn find_bytes(s: &[u8], c: Cursor, start: u32, n: u32) -> Found
     )
 }
 
-// The n units of UTF-16 at a cursor, of the text whose length word stands at start.
-fn find_units(s: &[u8], c: Cursor, start: u32, n: u32) -> Found
+// Tests the n units of UTF-16 at a cursor; start is the position of the text's length word.
+fn find_units(s: &[u8], c: Cursor, start: u32, n: u32) -> FoundText
     requires { ⌜ (0 < n) × (n ≤ 2 ^ 31) ⌝ }
     ensures { λ r. ⌜ FoundAnswer (now (s .entry)) c (readAt (now (s .entry)) c (text16 start (2 ^ 32 - n) n)) r ⌝ }
 {
@@ -492,7 +475,7 @@ fn find_units(s: &[u8], c: Cursor, start: u32, n: u32) -> Found
     let count = c.count;
     let pos = c.pos;
     if too_long(c, 2 * (n as u64)) {
-        return Found::Refused(Refusal {
+        return FoundText::Refused(Refusal {
             number: TEXT_LENGTH,
             a: start as u64,
             b: 0x1_0000_0000 - (n as u64),
@@ -501,20 +484,20 @@ fn find_units(s: &[u8], c: Cursor, start: u32, n: u32) -> Found
     let p = (first as u64) + (pos as u64);
     let k = trimmed(vrf_bitio::bits_at(s, p + 16 * ((n - 1) as u64), 16), n);
     match utf16_length(s, p, k as usize) {
-        Measured::Bad => Found::Refused(Refusal {
+        Measured::Bad => FoundText::Refused(Refusal {
             number: BAD_TEXT,
             a: start as u64,
             b: 0,
         }),
         Measured::Bytes(len) => {
             if TEXT_BYTES < len {
-                return Found::Refused(Refusal {
+                return FoundText::Refused(Refusal {
                     number: TEXT_TOO_LONG,
                     a: len as u64,
                     b: 0,
                 });
             }
-            Found::Units(
+            FoundText::Units(
                 c,
                 k,
                 len,
@@ -528,30 +511,30 @@ fn find_units(s: &[u8], c: Cursor, start: u32, n: u32) -> Found
     }
 }
 
-// The text at a cursor, tested where it stands.
-fn find_text(s: &[u8], c: Cursor) -> Found
+// Tests the text at a cursor.
+fn find_text(s: &[u8], c: Cursor) -> FoundText
     ensures { λ r. ⌜ FoundAnswer (now (s .entry)) c (readAt (now (s .entry)) c fstring) r ⌝ }
 {
     let start = c.pos;
     match c.read_i32(s) {
-        Int::Refused(r) => Found::Refused(r),
+        Int::Refused(r) => FoundText::Refused(r),
         Int::Value(n, at) => match length_of(n) {
-            Length::Empty => Found::Bytes(at, 0, at),
+            Length::Empty => FoundText::Bytes(at, 0, at),
             Length::Bytes(k) => find_bytes(s, at, start, k),
             Length::Units(k) => find_units(s, at, start, k),
         },
     }
 }
 
-// The refusal of a text of n bytes for which out is short.
-fn no_room(n: u32, room: usize) -> Refusal
-    requires { ⌜ room < n ⌝ }
-    ensures { λ r. ⌜ (r .number ≡ 15) × (r .a ≡ 8 * n) × (r .b ≡ 8 * room) ⌝ }
+// The refusal of a text of n bytes for a target of fewer bytes.
+fn target_short(n: u32, space: usize) -> Refusal
+    requires { ⌜ space < n ⌝ }
+    ensures { λ r. ⌜ (r .number ≡ 15) × (r .a ≡ 8 * n) × (r .b ≡ 8 * space) ⌝ }
 {
     Refusal {
         number: vrf_bitio::SHORT,
         a: 8 * (n as u64),
-        b: 8 * (room as u64),
+        b: 8 * (space as u64),
     }
 }
 
@@ -559,12 +542,12 @@ fn no_room(n: u32, room: usize) -> Refusal
 fn take_bytes(s: &[u8], c: Cursor, n: u32, next: Cursor, out: &mut [u8]) -> Text
     requires { ⌜ 8 * n ≤ c .count - c .pos ⌝ }
     ensures { λ r. ⌜ TextAnswer (now (s .entry)) next
-        (readAt (now (s .entry)) next (roomFor (length (now (out .entry))) (bytesOf (now (s .entry)) (bitAt c) n)))
+        (readAt (now (s .entry)) next (intoTarget (length (now (out .entry))) (bytesOf (now (s .entry)) (bitAt c) n)))
         (now (out .entry)) (now (out .exit)) r ⌝ }
 {
-    let room = out.len();
-    if room < n as usize {
-        return Text::Refused(no_room(n, room));
+    let space = out.len();
+    if space < n as usize {
+        return Text::Refused(target_short(n, space));
     }
     match c.copy_bits_to(s, out, 8 * (n as u64)) {
         Copied::Done(_) => Text::Read(n, next),
@@ -576,31 +559,31 @@ fn take_bytes(s: &[u8], c: Cursor, n: u32, next: Cursor, out: &mut [u8]) -> Text
 fn take_units(s: &[u8], c: Cursor, n: u32, len: u32, next: Cursor, out: &mut [u8]) -> Text
     requires { ⌜ (n ≤ 2 ^ 19) × MeasuredAnswer (unitsToUtf8 (unitsOf (now s) (bitAt c) n)) (Measured.Bytes len) ⌝ }
     ensures { λ r. ⌜ ((v : List ℕ) → unitsToUtf8 (unitsOf (now (s .entry)) (bitAt c) n) ≡ some v → TextAnswer (now (s .entry)) next
-        (readAt (now (s .entry)) next (roomFor (length (now (out .entry))) v)) (now (out .entry)) (now (out .exit)) r) ⌝ }
+        (readAt (now (s .entry)) next (intoTarget (length (now (out .entry))) v)) (now (out .entry)) (now (out .exit)) r) ⌝ }
 {
-    let room = out.len();
-    if room < len as usize {
-        return Text::Refused(no_room(len, room));
+    let space = out.len();
+    if space < len as usize {
+        return Text::Refused(target_short(len, space));
     }
     put_units(s, (c.first as u64) + (c.pos as u64), n as usize, out);
     Text::Read(len, next)
 }
 
-// Reads a text into the first bytes of out: its length there, and the cursor behind it.
+// Reads a text into the first bytes of out. Answers its length there and the cursor after it.
 pub fn read_fstring(s: &[u8], c: Cursor, out: &mut [u8]) -> Text
     ensures { λ r. ⌜ TextAnswer (now (s .entry)) c (readAt (now (s .entry)) c (fstringInto (length (now (out .entry)))))
         (now (out .entry)) (now (out .exit)) r ⌝ }
 {
     match find_text(s, c) {
-        Found::Refused(r) => Text::Refused(r),
-        Found::Bytes(at, n, next) => take_bytes(s, at, n, next, out),
-        Found::Units(at, n, len, next) => take_units(s, at, n, len, next, out),
+        FoundText::Refused(r) => Text::Refused(r),
+        FoundText::Bytes(at, n, next) => take_bytes(s, at, n, next, out),
+        FoundText::Units(at, n, len, next) => take_units(s, at, n, len, next, out),
     }
 }
 
 // ---- callers' text
 
-// A text that a caller hands in: 40 not UTF-8, then 41 more bytes than a text may have.
+// The checks of a caller's text. 40: not UTF-8. Then 41: more than 4,096 bytes.
 pub fn check_text(t: &[u8]) -> Caller
     ensures { λ r. ⌜ CallerAnswer (callerText (now (t .entry))) r ⌝ }
 {

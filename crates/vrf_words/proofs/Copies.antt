@@ -1,4 +1,4 @@
--- A text copied part after part, where a part may begin before the end of what stands.
+-- Laws for the copy functions: a text copied part by part, where a part can begin before the end of the bytes already written.
 use mathlib.Core.Path.{_≡_, refl, sym, ap, _∙_}
 use mathlib.Core.List.{List, [], _∷_, _++_}
 use Prim.Native.Nat.{ℕ, _+_, _-_, _<_, _≤_}
@@ -9,26 +9,26 @@ use native.Mathlib.Omega.{arith}
 use lib.ListN.{length, getD, set, drop, length-drop}
 use lib.Seq.{take-suc, take-add, drop-drop, getD-drop, ext-getD}
 use Rattle.vrf_bitio.specs.Pasted.{pasted}
-use Rattle.vrf_bitio.specs.PastedLaws.{pasted-nil, pasted-cons, pasted-length, pasted-append, Outside, before, behind, getD-pasted-out, getD-pasted-in}
+use Rattle.vrf_bitio.specs.Laws.Pasted.{pasted-nil, pasted-cons, pasted-length, pasted-append, Outside, before, following, getD-pasted-out, getD-pasted-in}
 use Rattle.vrf_words.specs.Words.{part}
-use Rattle.vrf_words.specs.WordsLaws.{length-part, getD-part, whole-part}
+use Rattle.vrf_words.specs.Laws.Words.{length-part, getD-part, whole-part}
 
--- ---- n bytes of t, from byte a on, written from byte `at` of l on
+-- ---- the n bytes of t from byte a on, written into l from byte `at` on
 
 module _ (l t : List ℕ) (at a n : ℕ) (inside : a + n ≤ length t) (fits : at + n ≤ length l) where
-  room : at + length (part t a n) ≤ length l
-  room = omega (arith, length-part t a n inside)
+  space : at + length (part t a n) ≤ length l
+  space = omega (arith, length-part t a n inside)
 
   pub as-long : length (pasted l at (part t a n)) ≡ length l
-  as-long = pasted-length (part t a n) l at room
+  as-long = pasted-length (part t a n) l at space
 
   written : (d i : ℕ) → d < n → i ≡ at + d → getD (pasted l at (part t a n)) i 0 ≡ getD t (a + d) 0
-  written d i h e = rw e (getD-pasted-in (part t a n) l at d room (omega (arith, length-part t a n inside)) ∙ getD-part t a n d h)
+  written d i h e = rw e (getD-pasted-in (part t a n) l at d space (omega (arith, length-part t a n inside)) ∙ getD-part t a n d h)
 
   unwritten : (i : ℕ) → Outside at (at + n) i → getD (pasted l at (part t a n)) i 0 ≡ getD l i 0
-  unwritten i o = getD-pasted-out (part t a n) l at i room (rw (length-part t a n inside) o)
+  unwritten i o = getD-pasted-out (part t a n) l at i space (rw (length-part t a n inside) o)
 
--- ---- one byte more
+-- ---- one more byte
 
 part-next : (t : List ℕ) (a n : ℕ) → a + n < length t → part t a n ++ (getD t (a + n) 0 ∷ []) ≡ part t a (n + 1)
 unfolding part
@@ -64,7 +64,7 @@ module _ (l t : List ℕ) (at a : ℕ) where
       let e7 = byte-more 6 (omega arith) (omega arith) e6 in
       byte-more 7 (omega arith) (omega arith) e7
 
--- eight bytes, one after another
+-- eight bytes read one by one are a part
 module _ (t : List ℕ) (a : ℕ) where
   byte-last : {l : List ℕ} (n : ℕ) → a + n < length t → l ≡ part t a n → l ++ (getD t (a + n) 0 ∷ []) ≡ part t a (n + 1)
   byte-last n h e = ap (λ (x : List ℕ). x ++ (getD t (a + n) 0 ∷ [])) e ∙ part-next t a n h
@@ -82,19 +82,19 @@ module _ (t : List ℕ) (a : ℕ) where
       let e7 = byte-last 6 (omega arith) e6 in
       byte-last 7 (omega arith) e7
 
--- ---- a part behind the first j bytes, or over the last of them
+-- ---- after the first j bytes are written: a part that begins at byte j or earlier and ends at byte j or later
 
 module _ (l t : List ℕ) (at k j n : ℕ) (hk : k ≤ j) (hj : j ≤ k + n) (ht : k + n ≤ length t) (hl : at + length t ≤ length l) where
-  abbrev stands : List ℕ
-  stands = pasted l at (part t 0 j)
+  abbrev so-far : List ℕ
+  so-far = pasted l at (part t 0 j)
 
-  long : at + k + n ≤ length stands
+  long : at + k + n ≤ length so-far
   long = omega (arith, as-long l t at 0 j (omega arith) (omega arith))
 
-  place : (i : ℕ) → getD (pasted stands (at + k) (part t k n)) i 0 ≡ getD (pasted l at (part t 0 (k + n))) i 0
+  place : (i : ℕ) → getD (pasted so-far (at + k) (part t k n)) i 0 ≡ getD (pasted l at (part t 0 (k + n))) i 0
   place i =
       let old = unwritten l t at 0 j (omega arith) (omega arith) in
-      let kept = unwritten stands t (at + k) k n ht long in
+      let kept = unwritten so-far t (at + k) k n ht long in
       let all = unwritten l t at 0 (k + n) (omega arith) (omega arith) in
       let due : (d : ℕ) → d < k + n → i ≡ at + d → getD (pasted l at (part t 0 (k + n))) i 0 ≡ getD t (0 + d) 0
       = λ d. written l t at 0 (k + n) (omega arith) (omega arith) d i in
@@ -105,19 +105,19 @@ module _ (l t : List ℕ) (at k j n : ℕ) (hk : k ≤ j) (hj : j ≤ k + n) (ht
           | no g ↦ elim (decLt i (at + k + n)) [
             | yes f ↦
                 let same : k + (i - (at + k)) ≡ 0 + (i - at) = omega arith in
-                written stands t (at + k) k n ht long (i - (at + k)) i (omega arith) (omega arith) ∙ ap (λ (x : ℕ). getD t x 0) same ∙ sym (due (i - at) (omega arith) (omega arith))
-            | no f ↦ kept i (behind (omega arith)) ∙ old i (behind (omega arith)) ∙ sym (all i (behind (omega arith)))
+                written so-far t (at + k) k n ht long (i - (at + k)) i (omega arith) (omega arith) ∙ ap (λ (x : ℕ). getD t x 0) same ∙ sym (due (i - at) (omega arith) (omega arith))
+            | no f ↦ kept i (following (omega arith)) ∙ old i (following (omega arith)) ∙ sym (all i (following (omega arith)))
           ]
         ]
       ]
 
-  pub part-more : pasted stands (at + k) (part t k n) ≡ pasted l at (part t 0 (k + n))
+  pub part-more : pasted so-far (at + k) (part t k n) ≡ pasted l at (part t 0 (k + n))
   part-more =
-      ext-getD 0 (pasted stands (at + k) (part t k n)) (pasted l at (part t 0 (k + n)))
-      (as-long stands t (at + k) k n ht long ∙ as-long l t at 0 j (omega arith) (omega arith) ∙ sym (as-long l t at 0 (k + n) (omega arith) (omega arith)))
+      ext-getD 0 (pasted so-far (at + k) (part t k n)) (pasted l at (part t 0 (k + n)))
+      (as-long so-far t (at + k) k n ht long ∙ as-long l t at 0 j (omega arith) (omega arith) ∙ sym (as-long l t at 0 (k + n) (omega arith) (omega arith)))
       (λ i lt. place i)
 
--- ---- a part right behind another
+-- ---- two adjacent parts are one part
 
 parts-one : (t : List ℕ) (a n k : ℕ) → part t a n ++ part t (a + n) k ≡ part t a (n + k)
 unfolding part
@@ -129,24 +129,24 @@ module _ (l t : List ℕ) (at a n k : ℕ) (ht : a + n + k ≤ length t) (hl : a
       let size : length (part t a n) ≡ n = length-part t a n (omega arith) in
       rw (ex, em, eb) (pasted-append (part t a n) (part t (a + n) k) l at to (omega arith) (omega arith) ∙ ap (pasted l at) (parts-one t a n k))
 
--- ---- a copy under way: k bytes stand
+-- ---- the loop invariant of a copy: the first k bytes are written
 
-pub record Copied (l m t : List ℕ) (at k : ℕ) : Type 0 where
+pub record PartCopied (l m t : List ℕ) (at k : ℕ) : Type 0 where
   pub few : k ≤ length t
   pub long : length m ≡ length l
   pub same : m ≡ pasted l at (part t 0 k)
 
-pub copy-start : (l t : List ℕ) (at : ℕ) → Copied l l t at 0
+pub copy-start : (l t : List ℕ) (at : ℕ) → PartCopied l l t at 0
 unfolding part
 copy-start l t at = record { few = omega arith; long = refl; same = sym (pasted-nil l at) }
 
-module _ {l m t : List ℕ} {at j : ℕ} (c : Copied l m t at j) where
-  pub copy-step : {x : List ℕ} (k n : ℕ) → x ≡ pasted m (at + k) (part t k n) → at + length t ≤ length l → k ≤ j → j ≤ k + n → k + n ≤ length t → Copied l x t at (k + n)
-  copy-step k n e room hk hj h =
+module _ {l m t : List ℕ} {at j : ℕ} (c : PartCopied l m t at j) where
+  pub copy-step : {x : List ℕ} (k n : ℕ) → x ≡ pasted m (at + k) (part t k n) → at + length t ≤ length l → k ≤ j → j ≤ k + n → k + n ≤ length t → PartCopied l x t at (k + n)
+  copy-step k n e space hk hj h =
       record {
         few = h;
         long = rw e (as-long m t (at + k) k n h (omega (arith, c .long)) ∙ c .long);
-        same = rw (e, c .same) (part-more l t at k j n hk hj h room);
+        same = rw (e, c .same) (part-more l t at k j n hk hj h space);
       }
 
   pub copy-end : j ≡ length t → m ≡ pasted l at t

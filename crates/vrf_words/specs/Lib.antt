@@ -1,4 +1,6 @@
--- The bytes of a lent memory as words of 32 bits, and parts of it. Read them in this order.
+-- How the other crates read lent memory: as 32-bit words and as parts (runs of bytes). The only definitions are in `Words`.
 pub mod Words
-pub mod Eights
-pub mod WordsLaws
+-- names used in contracts: a written word, byte ranges that do not overlap
+pub mod Inner
+-- laws about words and parts
+pub mod Laws

@@ -1,26 +1,24 @@
-// A lent memory as words of 32 bits, low byte first, and parts of it.
+// Reads and writes a lent memory as 32-bit words, low byte first, and copies parts of it.
 ghost use mathlib.Core.Path.{_≡_};
 ghost use Prim.Native.Nat.{_+_, _*_, _/_, _%_, _^_, _<_, _≤_, min};
 ghost use lib.ListN.{length, replicate};
 ghost use Rattle.vrf_bitio.specs.Pasted.{pasted};
-ghost use Rattle.vrf_words.specs.Words.{part, word, setWord, Apart};
-ghost use Rattle.vrf_words.specs.Eights.{eightBytes};
+ghost use Rattle.vrf_words.specs.Words.{part, word};
+ghost use Rattle.vrf_words.specs.Inner.Words.{setWord, Apart, eightBytes};
 
-// A byte as a number of 32 bits.
 fn wide(x: u8) -> u32
     ensures { λ r. ⌜ (r ≡ x) × (r < 256) ⌝ }
 {
     x as u32
 }
 
-// The low byte of a number.
 fn low(v: u32) -> u8
     ensures { λ r. ⌜ r ≡ v % 256 ⌝ }
 {
     (v % 256) as u8
 }
 
-// Word i: one load.
+// Word i. The compiler makes this one load.
 pub fn get32(s: &[u8], i: usize) -> u32
     requires { ⌜ 4 * i + 4 ≤ length (now s) ⌝ }
     ensures { λ r. ⌜ r ≡ word (now (s .entry)) i ⌝ }
@@ -32,7 +30,7 @@ pub fn get32(s: &[u8], i: usize) -> u32
         + 0x100_0000 * wide(s[at + 3])
 }
 
-// Writes v as word i: one store.
+// Writes v as word i. The compiler makes this one store.
 pub fn put32(s: &mut [u8], i: usize, v: u32)
     requires { ⌜ 4 * i + 4 ≤ length (now s) ⌝ }
     ensures { λ _. ⌜ now (s .exit) ≡ setWord (now (s .entry)) i v ⌝ }
@@ -44,7 +42,7 @@ pub fn put32(s: &mut [u8], i: usize, v: u32)
     s[at + 3] = low(v / 256 / 256 / 256);
 }
 
-// Words i and i + 1 as one number.
+// Words i and i + 1 as one 64-bit number, low word first.
 pub fn get64(s: &[u8], i: usize) -> u64
     requires { ⌜ 4 * i + 8 ≤ length (now s) ⌝ }
     ensures { λ r. ⌜ r ≡ word (now (s .entry)) i + 2 ^ 32 * word (now (s .entry)) (i + 1) ⌝ }
@@ -52,7 +50,7 @@ pub fn get64(s: &[u8], i: usize) -> u64
     (get32(s, i) as u64) + 0x1_0000_0000 * (get32(s, i + 1) as u64)
 }
 
-// Writes v as words i and i + 1.
+// Writes v as words i and i + 1, low word first.
 pub fn put64(s: &mut [u8], i: usize, v: u64)
     requires { ⌜ 4 * i + 8 ≤ length (now s) ⌝ }
     ensures { λ _. ⌜ now (s .exit) ≡ setWord (setWord (now (s .entry)) i (v % 2 ^ 32)) (i + 1) (v / 2 ^ 32) ⌝ }
@@ -61,7 +59,7 @@ pub fn put64(s: &mut [u8], i: usize, v: u64)
     put32(s, i + 1, (v / 0x1_0000_0000) as u32);
 }
 
-// Writes a few bytes, one after another.
+// Writes a text of fewer than eight bytes, byte by byte.
 fn put_few(m: &mut [u8], at: usize, t: &[u8])
     requires { ⌜ at + length (now t) ≤ length (now m) ⌝ }
     ensures { λ _. ⌜ now (m .exit) ≡ pasted (now (m .entry)) at (now (t .entry)) ⌝ }
@@ -73,7 +71,7 @@ fn put_few(m: &mut [u8], at: usize, t: &[u8])
     }
 }
 
-// Eight bytes that were read.
+// Eight bytes of a text, all read before any is written.
 struct Eight {
     b0: u8,
     b1: u8,
@@ -85,7 +83,6 @@ struct Eight {
     b7: u8,
 }
 
-// Eight bytes of t, from byte k on.
 fn eight_of(t: &[u8], k: usize) -> Eight
     requires { ⌜ k + 8 ≤ length (now t) ⌝ }
     ensures { λ r. ⌜ eightBytes r ≡ part (now (t .entry)) k 8 ⌝ }
@@ -102,8 +99,7 @@ fn eight_of(t: &[u8], k: usize) -> Eight
     }
 }
 
-// Writes eight bytes, from byte `to` on.
-fn put_these(m: &mut [u8], to: usize, e: Eight)
+fn put_eight_bytes(m: &mut [u8], to: usize, e: Eight)
     requires { ⌜ to + 8 ≤ length (now m) ⌝ }
     ensures { λ _. ⌜ now (m .exit) ≡ pasted (now (m .entry)) to (eightBytes e) ⌝ }
 {
@@ -117,27 +113,27 @@ fn put_these(m: &mut [u8], to: usize, e: Eight)
     m[to + 7] = e.b7;
 }
 
-// Eight bytes of t, from byte k on. All are read before one is written, so that they are one load and one store.
+// Copies the eight bytes of t from byte k on. All are read before any is written, so the copy is one load and one store.
 fn put_eight(m: &mut [u8], at: usize, t: &[u8], k: usize)
     requires { ⌜ (k + 8 ≤ length (now t)) × (at + length (now t) ≤ length (now m)) ⌝ }
     ensures { λ _. ⌜ now (m .exit) ≡ pasted (now (m .entry)) (at + k) (part (now (t .entry)) k 8) ⌝ }
 {
     let e = eight_of(t, k);
-    put_these(m, at + k, e);
+    put_eight_bytes(m, at + k, e);
 }
 
-// Sixteen bytes of t, likewise.
+// Copies the sixteen bytes of t from byte k on. All are read before any is written.
 fn put_sixteen(m: &mut [u8], at: usize, t: &[u8], k: usize)
     requires { ⌜ (k + 16 ≤ length (now t)) × (at + length (now t) ≤ length (now m)) ⌝ }
     ensures { λ _. ⌜ now (m .exit) ≡ pasted (now (m .entry)) (at + k) (part (now (t .entry)) k 16) ⌝ }
 {
     let first = eight_of(t, k);
     let second = eight_of(t, k + 8);
-    put_these(m, at + k, first);
-    put_these(m, at + k + 8, second);
+    put_eight_bytes(m, at + k, first);
+    put_eight_bytes(m, at + k + 8, second);
 }
 
-// 32 bytes of t, from byte k on.
+// Copies the 32 bytes of t from byte k on.
 fn put_many(m: &mut [u8], at: usize, t: &[u8], k: usize)
     requires { ⌜ (k + 32 ≤ length (now t)) × (at + length (now t) ≤ length (now m)) ⌝ }
     ensures { λ _. ⌜ now (m .exit) ≡ pasted (now (m .entry)) (at + k) (part (now (t .entry)) k 32) ⌝ }
@@ -155,7 +151,7 @@ fn lower(a: usize, b: usize) -> usize
     b
 }
 
-// A text of 8 to 32 bytes: four parts of eight.
+// Writes a text of 8 to 32 bytes as four parts of eight.
 fn put_short(m: &mut [u8], at: usize, t: &[u8])
     requires { ⌜ (8 ≤ length (now t)) × (length (now t) ≤ 32) × (at + length (now t) ≤ length (now m)) ⌝ }
     ensures { λ _. ⌜ now (m .exit) ≡ pasted (now (m .entry)) at (now (t .entry)) ⌝ }
@@ -167,7 +163,7 @@ fn put_short(m: &mut [u8], at: usize, t: &[u8])
     put_eight(m, at, t, last);
 }
 
-// A text of 32 to 96 bytes: three parts of 32.
+// Writes a text of 32 to 96 bytes as three parts of 32.
 fn put_long(m: &mut [u8], at: usize, t: &[u8])
     requires { ⌜ (32 ≤ length (now t)) × (length (now t) ≤ 96) × (at + length (now t) ≤ length (now m)) ⌝ }
     ensures { λ _. ⌜ now (m .exit) ≡ pasted (now (m .entry)) at (now (t .entry)) ⌝ }
@@ -178,7 +174,7 @@ fn put_long(m: &mut [u8], at: usize, t: &[u8])
     put_many(m, at, t, last);
 }
 
-// A text of 32 bytes or more: 32 bytes a turn, in the last turn those that end it.
+// Writes a text of 32 bytes or more, 32 bytes in each turn. The last turn writes the last 32 bytes of the text.
 fn put_longest(m: &mut [u8], at: usize, t: &[u8])
     requires { ⌜ (32 ≤ length (now t)) × (at + length (now t) ≤ length (now m)) ⌝ }
     ensures { λ _. ⌜ now (m .exit) ≡ pasted (now (m .entry)) at (now (t .entry)) ⌝ }
@@ -191,8 +187,8 @@ fn put_longest(m: &mut [u8], at: usize, t: &[u8])
     }
 }
 
-// Writes t into m, from byte at on. The last part of a text ends where the text does, and lies over what already stands of it; so may others
-// of a text that is shorter than its parts together: then they are as many for any text of about its length, and no branch goes by the length.
+// Writes t into m, from byte `at` on. A long text is written in parts of a fixed size. The last part ends where the text ends, so parts can
+// overlap and write some bytes twice. The number of parts is then the same for all lengths in a range, and needs no branch on the length.
 pub fn put_part(m: &mut [u8], at: usize, t: &[u8])
     requires { ⌜ at + length (now t) ≤ length (now m) ⌝ }
     ensures { λ _. ⌜ now (m .exit) ≡ pasted (now (m .entry)) at (now (t .entry)) ⌝ }
@@ -209,7 +205,7 @@ pub fn put_part(m: &mut [u8], at: usize, t: &[u8])
     put_longest(m, at, t)
 }
 
-// Copies n bytes of m to a place apart from them.
+// Copies n bytes of m to a place in m that does not overlap them.
 pub fn move_part(m: &mut [u8], from: usize, to: usize, n: usize)
     requires { ⌜ (from + n ≤ length (now m)) × (to + n ≤ length (now m)) × Apart from n to n ⌝ }
     ensures { λ _. ⌜ now (m .exit) ≡ pasted (now (m .entry)) to (part (now (m .entry)) from n) ⌝ }
@@ -221,7 +217,7 @@ pub fn move_part(m: &mut [u8], from: usize, to: usize, n: usize)
     }
 }
 
-// Writes 0 as the n words from word i on.
+// Writes 0 into the n words from word i on.
 pub fn zero_words(m: &mut [u8], i: usize, n: usize)
     requires { ⌜ 4 * (i + n) ≤ length (now m) ⌝ }
     ensures { λ _. ⌜ now (m .exit) ≡ pasted (now (m .entry)) (4 * i) (replicate (4 * n) 0) ⌝ }

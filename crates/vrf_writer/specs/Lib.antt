@@ -1,25 +1,7 @@
--- The writer of checkpoint blocks over a good memory.
-pub mod Puts
-pub mod PutsLaws
--- numbers and texts
-pub mod NumberPuts
--- lists, one element after the other
-pub mod EachPuts
--- rows
-pub mod Rows
--- GUID records
-pub mod GuidPuts
--- groups and their slots
-pub mod GroupPuts
--- a whole block
-pub mod BlockPuts
--- how long it is
-pub mod NumberLengths
-pub mod Size
-pub mod SizeLaws
--- the first group whose path is a key of a group before it
-pub mod Clash
-pub mod ClashLaws
--- writing
+-- The writer of checkpoint blocks, for a well-formed memory. `Writes` holds the contract of the whole writer. The block itself is defined
+-- in `vrf_model` (`Writer`).
 pub mod Writes
-pub mod WritesLaws
+-- contracts of the functions that write, measure and search
+pub mod Inner
+-- laws
+pub mod Laws

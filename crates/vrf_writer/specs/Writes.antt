@@ -1,4 +1,5 @@
--- What writing a book answers and leaves: the block at the front of what was lent, or all of that as it was.
+-- The contract of the writer for a well-formed book (document 01, Blocks): the answer, and the buffer with the block at its front. If the
+-- writer is refused, the buffer stays as it was.
 use mathlib.Core.Path.{_≡_}
 use mathlib.Core.List.{List}
 use Prim.Native.Nat.{ℕ}

@@ -1,4 +1,4 @@
-// A whole block.
+// Writes a whole block.
 use crate::groups::put_groups;
 use crate::guids::put_guids;
 use crate::numbers::put_word;
@@ -8,14 +8,14 @@ use vrf_words::zero_words;
 ghost use Prim.Native.Nat.{_+_, _≤_};
 ghost use lib.ListN.{length};
 ghost use Rattle.vrf_model.specs.Writer.{encodeTables, encodeBook};
-ghost use Rattle.vrf_store.specs.Good.{Good};
-ghost use Rattle.vrf_store.specs.Stepped.{held};
-ghost use Rattle.vrf_writer.specs.Puts.{Puts};
+ghost use Rattle.vrf_store.specs.Inner.WellFormed.{WellFormed};
+ghost use Rattle.vrf_store.specs.Inner.Stepped.{held};
+ghost use Rattle.vrf_writer.specs.Inner.Prefix.{WritesPrefix};
 
-// What stands behind the first word: three zero words, the GUID records with their count, the groups with theirs.
+// What follows the first word: three zero words, the GUID count and records, the group count and groups.
 fn put_tables(out: &mut [u8], m: &[u8]) -> usize
-    requires { ⌜ Good (now m) × (length (encodeTables (held (now m))) ≤ length (now out)) ⌝ }
-    ensures { λ r. ⌜ Puts (encodeTables (held (now (m .entry)))) (now (out .entry)) (now (out .exit)) r ⌝ }
+    requires { ⌜ WellFormed (now m) × (length (encodeTables (held (now m))) ≤ length (now out)) ⌝ }
+    ensures { λ r. ⌜ WritesPrefix (encodeTables (held (now (m .entry)))) (now (out .entry)) (now (out .exit)) r ⌝ }
 {
     zero_words(out, 0, 3);
     let mut at = 12 + put_word(&mut out[12..], guids(m));
@@ -24,10 +24,10 @@ fn put_tables(out: &mut [u8], m: &[u8]) -> usize
     at + put_groups(&mut out[at..], m)
 }
 
-// A block. Its first word goes by its length, and so is written last.
+// The first word depends on the block's length, so it is written last.
 pub fn put_block(out: &mut [u8], m: &[u8]) -> usize
-    requires { ⌜ Good (now m) × (length (encodeBook (held (now m))) ≤ length (now out)) × (length (encodeBook (held (now m))) ≤ 268435456) ⌝ }
-    ensures { λ r. ⌜ Puts (encodeBook (held (now (m .entry)))) (now (out .entry)) (now (out .exit)) r ⌝ }
+    requires { ⌜ WellFormed (now m) × (length (encodeBook (held (now m))) ≤ length (now out)) × (length (encodeBook (held (now m))) ≤ 268435456) ⌝ }
+    ensures { λ r. ⌜ WritesPrefix (encodeBook (held (now (m .entry)))) (now (out .entry)) (now (out .exit)) r ⌝ }
 {
     let n = put_tables(&mut out[4..], m);
     put_word(out, (n - 4) as u32);

@@ -1,5 +1,5 @@
-// The first group whose path is a key of a group before it. The path index finds the last group that has a key, so the search goes by
-// the groups whose keys these are: only where a later group shares a key of one are the groups behind it looked at.
+// Searches for the first clash: the first group whose path is a key of an earlier group. The path index finds the last group that has a
+// key. So the search takes each group h and its keys, and compares the groups after h only if one of them has the key too.
 use vrf_path::Key;
 use vrf_path::core_alias;
 use vrf_path::default_object_alias;
@@ -26,13 +26,13 @@ ghost use lib.ListN.{length};
 ghost use Rattle.vrf_path.specs.Keys.{hasKey};
 ghost use Rattle.vrf_path.specs.Answers.{spelled};
 ghost use Rattle.vrf_model.specs.Writer.{firstClash};
-ghost use Rattle.vrf_table.specs.Answers.{entry};
+ghost use Rattle.vrf_table.specs.Inner.Answers.{entry};
 ghost use Rattle.vrf_store.specs.Store.{headerOf, storeOf};
-ghost use Rattle.vrf_store.specs.Good.{Good};
-ghost use Rattle.vrf_store.specs.Stepped.{held};
-ghost use Rattle.vrf_writer.specs.Clash.{isAt, isKeyAt, Keyed, Narrowed};
+ghost use Rattle.vrf_store.specs.Inner.WellFormed.{WellFormed};
+ghost use Rattle.vrf_store.specs.Inner.Stepped.{held};
+ghost use Rattle.vrf_writer.specs.Inner.Clash.{isAt, isKeyAt, Keyed, Narrowed};
 
-// A room for any alias of a path: its 4096 bytes, and 23 more.
+// Enough bytes for any alias of a path: the 4,096 bytes of the path, and 23 more.
 const ALIAS_BYTES: usize = 4_119;
 
 fn lower(a: u32, b: u32) -> u32
@@ -44,7 +44,7 @@ fn lower(a: u32, b: u32) -> u32
     b
 }
 
-// How far two numbers are apart.
+// The difference of two numbers, whichever is larger.
 fn apart(a: usize, b: usize) -> usize
     ensures { λ r. ⌜ r ≡ (a - b) + (b - a) ⌝ }
 {
@@ -54,8 +54,8 @@ fn apart(a: usize, b: usize) -> usize
     a - b
 }
 
-// Whether k is a key of a path. An alias is 6 or 9 bytes longer or shorter than its path: for a path of another length, no byte of it
-// is read.
+// Whether k is a key of a path. An alias is 6 or 9 bytes longer or shorter than its path. If the lengths differ by any other number, no
+// byte is read.
 fn is_key_of(path: &[u8], k: &[u8]) -> bool
     ensures { λ r. ⌜ r ≡ hasKey (now (path .entry)) (now (k .entry)) ⌝ }
 {
@@ -70,10 +70,10 @@ fn is_key_of(path: &[u8], k: &[u8]) -> bool
     has_key(path, k)
 }
 
-// A place behind h and behind all groups with the path k. The walk of k's chain ends with the first entry of a group up to h. The
-// chain of a key of h mostly starts with such an entry, so that no text is compared.
+// A place after h and after all groups with the path k. The walk along k's chain ends at the first entry of a group up to h. In most books
+// the chain of a key of h starts with such an entry, and then no text is compared.
 fn keyed_end(m: &[u8], k: &[u8], h: u32) -> u32
-    requires { ⌜ Good (now m) × (length (now k) < 2 ^ 31) × (h < headerOf (now m) .groups) ⌝ }
+    requires { ⌜ WellFormed (now m) × (length (now k) < 2 ^ 31) × (h < headerOf (now m) .groups) ⌝ }
     ensures { λ r. ⌜ Keyed (storeOf (now (m .entry))) (now (k .entry)) r ⌝ }
 {
     let rows = group_rows(m);
@@ -96,9 +96,9 @@ fn keyed_end(m: &[u8], k: &[u8], h: u32) -> u32
     h + 1
 }
 
-// The first group behind h and before `to` whose path is k; `to` if there is none.
+// The first group after h and before `to` whose path is k; `to` if there is none.
 fn first_path(m: &[u8], k: &[u8], h: u32, to: u32) -> u32
-    requires { ⌜ Good (now m) × (h < headerOf (now m) .groups) × (to ≤ headerOf (now m) .groups) ⌝ }
+    requires { ⌜ WellFormed (now m) × (h < headerOf (now m) .groups) × (to ≤ headerOf (now m) .groups) ⌝ }
     ensures { λ r. ⌜ Narrowed (isAt (storeOf (now (m .entry))) (some (now (k .entry)))) h to r ⌝ }
 {
     let mut j = h + 1;
@@ -111,9 +111,9 @@ fn first_path(m: &[u8], k: &[u8], h: u32, to: u32) -> u32
     to
 }
 
-// The first group behind h and before `least` whose path is the key k; `least` if there is none.
-fn clash_behind(m: &[u8], h: u32, k: &[u8], least: u32) -> u32
-    requires { ⌜ Good (now m) × (h < headerOf (now m) .groups) × (least ≤ headerOf (now m) .groups) × (length (now k) < 2 ^ 31) ⌝ }
+// The first group after h and before `least` whose path is the key k; `least` if there is none.
+fn first_with_key(m: &[u8], h: u32, k: &[u8], least: u32) -> u32
+    requires { ⌜ WellFormed (now m) × (h < headerOf (now m) .groups) × (least ≤ headerOf (now m) .groups) × (length (now k) < 2 ^ 31) ⌝ }
     ensures { λ r. ⌜ Narrowed (isAt (storeOf (now (m .entry))) (some (now (k .entry)))) h least r ⌝ }
 {
     let to = lower(keyed_end(m, k, h), least);
@@ -124,39 +124,41 @@ fn clash_behind(m: &[u8], h: u32, k: &[u8], least: u32) -> u32
     least
 }
 
-// The same of a path's alias, which is spelled out in a room, if it is there.
-fn clash_alias(room: &mut [u8], m: &[u8], h: u32, path: &[u8], key: Key, least: u32) -> u32
-    requires { ⌜ Good (now m) × (h < headerOf (now m) .groups) × (least ≤ headerOf (now m) .groups) × (length (now path) ≤ 4096) × (4119 ≤ length (now room)) ⌝ }
+// The first group after h and before `least` whose path is the alias `key` of the path; `least` if there is no such group or no alias. The
+// alias is written into `scratch`.
+fn clash_alias(scratch: &mut [u8], m: &[u8], h: u32, path: &[u8], key: Key, least: u32) -> u32
+    requires { ⌜ WellFormed (now m) × (h < headerOf (now m) .groups) × (least ≤ headerOf (now m) .groups) × (length (now path) ≤ 4096) × (4119 ≤ length (now scratch)) ⌝ }
     ensures { λ r. ⌜ Narrowed (isAt (storeOf (now (m .entry))) (spelled (now (path .entry)) key)) h least r ⌝ }
 {
     if is_absent(key) {
         return least;
     }
-    let n = spell(room, path, key);
-    clash_behind(m, h, &room[..n], least)
+    let n = spell(scratch, path, key);
+    first_with_key(m, h, &scratch[..n], least)
 }
 
-// The first group behind h and before `least` whose path is a key of h; `least` if there is none.
-fn clash_after(room: &mut [u8], m: &[u8], h: u32, least: u32) -> u32
-    requires { ⌜ Good (now m) × (h < headerOf (now m) .groups) × (least ≤ headerOf (now m) .groups) × (4119 ≤ length (now room)) ⌝ }
+// The first group after h and before `least` whose path is a key of h; `least` if there is none.
+fn clash_after(scratch: &mut [u8], m: &[u8], h: u32, least: u32) -> u32
+    requires { ⌜ WellFormed (now m) × (h < headerOf (now m) .groups) × (least ≤ headerOf (now m) .groups) × (4119 ≤ length (now scratch)) ⌝ }
     ensures { λ r. ⌜ Narrowed (isKeyAt (storeOf (now (m .entry))) h) h least r ⌝ }
 {
     let path = group_path(m, h);
-    let first = clash_behind(m, h, path, least);
-    let second = clash_alias(room, m, h, path, default_object_alias(path), first);
-    clash_alias(room, m, h, path, core_alias(path), second)
+    let first = first_with_key(m, h, path, least);
+    let second = clash_alias(scratch, m, h, path, default_object_alias(path), first);
+    clash_alias(scratch, m, h, path, core_alias(path), second)
 }
 
-// The first clash, with a room for aliases. A group from the least clash on has none before it.
-fn first_clash_in(room: &mut [u8], m: &[u8]) -> Entry
-    requires { ⌜ Good (now m) × (4119 ≤ length (now room)) ⌝ }
+// The first clash. Aliases are written into `scratch`. The loop ends at the least clash found so far, because a key of a group from there
+// on can only clash with a later group.
+fn first_clash_in(scratch: &mut [u8], m: &[u8]) -> Entry
+    requires { ⌜ WellFormed (now m) × (4119 ≤ length (now scratch)) ⌝ }
     ensures { λ r. ⌜ entry r ≡ firstClash [] (held (now (m .entry)) .groups) ⌝ }
 {
     let n = groups(m);
     let mut least = n;
     let mut h = 0;
     while h < least {
-        least = clash_after(room, m, h, least);
+        least = clash_after(scratch, m, h, least);
         h += 1;
     }
     if least < n {
@@ -166,9 +168,9 @@ fn first_clash_in(room: &mut [u8], m: &[u8]) -> Entry
 }
 
 pub fn first_clash(m: &[u8]) -> Entry
-    requires { ⌜ Good (now m) ⌝ }
+    requires { ⌜ WellFormed (now m) ⌝ }
     ensures { λ r. ⌜ entry r ≡ firstClash [] (held (now (m .entry)) .groups) ⌝ }
 {
-    let mut room = [0u8; ALIAS_BYTES];
-    first_clash_in(&mut room, m)
+    let mut scratch = [0u8; ALIAS_BYTES];
+    first_clash_in(&mut scratch, m)
 }

@@ -1,4 +1,4 @@
-// GUID records as the writer sends them.
+// Writes GUID records.
 use crate::numbers::put_packed;
 use crate::numbers::put_text;
 use vrf_store::look::row_info;
@@ -12,10 +12,10 @@ ghost use Prim.Native.Nat.{_+_, _*_, _^_, _<_, _≤_};
 ghost use lib.ListN.{length};
 ghost use Rattle.vrf_model.specs.Writer.{encodeGuid, encodeAll};
 ghost use Rattle.vrf_table.specs.Table.{key};
-ghost use Rattle.vrf_store.specs.Good.{Good};
-ghost use Rattle.vrf_store.specs.Stepped.{held};
-ghost use Rattle.vrf_writer.specs.Puts.{Puts};
-ghost use Rattle.vrf_writer.specs.Rows.{GuidRow, guidIn};
+ghost use Rattle.vrf_store.specs.Inner.WellFormed.{WellFormed};
+ghost use Rattle.vrf_store.specs.Inner.Stepped.{held};
+ghost use Rattle.vrf_writer.specs.Inner.Prefix.{WritesPrefix};
+ghost use Rattle.vrf_writer.specs.Inner.Rows.{GuidRow, guidIn};
 
 // The GUID of the record in row i.
 pub fn guid_of(rows: &[u8], i: u32) -> u32
@@ -25,10 +25,10 @@ pub fn guid_of(rows: &[u8], i: u32) -> u32
     row_key(rows, i) as u32
 }
 
-// The record in row i, with its path among the texts x.
+// The record in row i, whose path is in the texts x.
 fn put_guid(out: &mut [u8], rows: &[u8], x: &[u8], i: u32) -> usize
     requires { ⌜ GuidRow (now rows) (now x) i × (length (encodeGuid (guidIn (now rows) (now x) i)) ≤ length (now out)) ⌝ }
-    ensures { λ r. ⌜ Puts (encodeGuid (guidIn (now (rows .entry)) (now (x .entry)) i)) (now (out .entry)) (now (out .exit)) r ⌝ }
+    ensures { λ r. ⌜ WritesPrefix (encodeGuid (guidIn (now (rows .entry)) (now (x .entry)) i)) (now (out .entry)) (now (out .exit)) r ⌝ }
 {
     let mut at = put_packed(out, guid_of(rows, i));
     at += put_packed(&mut out[at..], row_info(rows, i));
@@ -39,10 +39,10 @@ fn put_guid(out: &mut [u8], rows: &[u8], x: &[u8], i: u32) -> usize
     at + 1
 }
 
-// All records, in their order. The rows and the texts are looked up once for all.
+// All records, in their order. The rows and the texts are located once, before the loop.
 pub fn put_guids(out: &mut [u8], m: &[u8]) -> usize
-    requires { ⌜ Good (now m) × (length (encodeAll encodeGuid (held (now m) .guids)) ≤ length (now out)) ⌝ }
-    ensures { λ r. ⌜ Puts (encodeAll encodeGuid (held (now (m .entry)) .guids)) (now (out .entry)) (now (out .exit)) r ⌝ }
+    requires { ⌜ WellFormed (now m) × (length (encodeAll encodeGuid (held (now m) .guids)) ≤ length (now out)) ⌝ }
+    ensures { λ r. ⌜ WritesPrefix (encodeAll encodeGuid (held (now (m .entry)) .guids)) (now (out .entry)) (now (out .exit)) r ⌝ }
 {
     let rows = guid_rows(m);
     let x = texts(m);

@@ -1,4 +1,4 @@
-// The writer of checkpoint blocks, over a good memory.
+// The writer of checkpoint blocks, for a well-formed memory. `vrf_schema` exports it with the check of the memory.
 pub mod block;
 pub mod clash;
 pub mod groups;

@@ -1,25 +1,25 @@
-// Numbers and texts as the writer sends them, each at the front of what it is lent. Each answers how many bytes it wrote.
+// Writes numbers and texts. Each function writes at the front of the slice that it is lent, and answers how many bytes it wrote.
 use vrf_words::put_part;
 use vrf_words::put32;
 ghost use Prim.Native.Nat.{_+_, _≤_};
 ghost use lib.ListN.{length};
 ghost use Rattle.vrf_bitio.specs.Number.{encodePacked, encodeWord32};
 ghost use Rattle.vrf_text.specs.Text.{encodeText};
-ghost use Rattle.vrf_writer.specs.Puts.{Puts};
+ghost use Rattle.vrf_writer.specs.Inner.Prefix.{WritesPrefix};
 
 // A word of 32 bits.
 pub fn put_word(out: &mut [u8], n: u32) -> usize
     requires { ⌜ 4 ≤ length (now out) ⌝ }
-    ensures { λ r. ⌜ Puts (encodeWord32 n) (now (out .entry)) (now (out .exit)) r ⌝ }
+    ensures { λ r. ⌜ WritesPrefix (encodeWord32 n) (now (out .entry)) (now (out .exit)) r ⌝ }
 {
     put32(out, 0, n);
     4
 }
 
-// A packed number, in the fewest bytes: the low bit of each says whether another follows.
+// A packed number, in the fewest bytes. The low bit of each byte is 1 if another byte follows.
 pub fn put_packed(out: &mut [u8], n: u32) -> usize
     requires { ⌜ length (encodePacked n) ≤ length (now out) ⌝ }
-    ensures { λ r. ⌜ Puts (encodePacked n) (now (out .entry)) (now (out .exit)) r ⌝ }
+    ensures { λ r. ⌜ WritesPrefix (encodePacked n) (now (out .entry)) (now (out .exit)) r ⌝ }
 {
     let mut left = n;
     let mut at = 0;
@@ -32,10 +32,10 @@ pub fn put_packed(out: &mut [u8], n: u32) -> usize
     at + 1
 }
 
-// A text: 0 where it is empty, else how many bytes follow, the text and a zero byte.
+// An empty text is the word 0. Any other text is the number of bytes that follow, then the text, then a zero byte.
 pub fn put_text(out: &mut [u8], t: &[u8]) -> usize
     requires { ⌜ (length (encodeText (now t)) ≤ length (now out)) × (length (now t) ≤ 4096) ⌝ }
-    ensures { λ r. ⌜ Puts (encodeText (now (t .entry))) (now (out .entry)) (now (out .exit)) r ⌝ }
+    ensures { λ r. ⌜ WritesPrefix (encodeText (now (t .entry))) (now (out .entry)) (now (out .exit)) r ⌝ }
 {
     let n = t.len();
     if n == 0 {

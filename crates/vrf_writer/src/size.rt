@@ -1,4 +1,5 @@
-// How long a block is. No empty slot is looked at: their bytes count with their groups, and the rest with the fields.
+// The length of a block. No empty slot is visited: the first byte of each slot is counted with its group, and the other bytes of a filled
+// slot with its field.
 use crate::guids::guid_of;
 use vrf_store::look::group_index;
 use vrf_store::look::group_path;
@@ -21,21 +22,21 @@ ghost use Rattle.vrf_text.specs.Text.{encodeText};
 ghost use Rattle.vrf_model.specs.Writer.{encodeGuid, encodeAll, encodeBook};
 ghost use Rattle.vrf_store.specs.UpTo.{sumBelow};
 ghost use Rattle.vrf_store.specs.Store.{headerOf, storeOf};
-ghost use Rattle.vrf_store.specs.Good.{Good};
-ghost use Rattle.vrf_store.specs.Stepped.{held};
-ghost use Rattle.vrf_writer.specs.GroupPuts.{groupAt};
-ghost use Rattle.vrf_writer.specs.NumberLengths.{oneFrom};
-ghost use Rattle.vrf_writer.specs.Size.{groupBytes, fieldBytes};
+ghost use Rattle.vrf_store.specs.Inner.WellFormed.{WellFormed};
+ghost use Rattle.vrf_store.specs.Inner.Stepped.{held};
+ghost use Rattle.vrf_writer.specs.Inner.Groups.{groupAt};
+ghost use Rattle.vrf_writer.specs.Inner.Numbers.{oneFrom};
+ghost use Rattle.vrf_writer.specs.Inner.Size.{groupBytes, fieldBytes};
 
-// One byte from a number on.
+// 1 if n is at least `least`, otherwise 0.
 fn one_from(least: u32, n: u32) -> u64
     ensures { λ r. ⌜ (r ≡ oneFrom least n) × (r ≤ 1) ⌝ }
 {
     if n < least { 0 } else { 1 }
 }
 
-// A packed number: a byte more from each power of 128 on. As a sum it needs no branch, which the numbers of records would often take
-// another way than the last time.
+// The length of a packed number: one more byte from each power of 128 on. A sum needs no branch. A branch would often be predicted wrongly,
+// because the numbers of the records vary.
 fn packed_len(n: u32) -> u64
     ensures { λ r. ⌜ r ≡ length (encodePacked n) ⌝ }
 {
@@ -43,7 +44,7 @@ fn packed_len(n: u32) -> u64
     first + one_from(0x20_0000, n) + one_from(0x1000_0000, n)
 }
 
-// A text.
+// The length of a text as it is written.
 fn text_len(t: &[u8]) -> u64
     requires { ⌜ length (now t) ≤ 4096 ⌝ }
     ensures { λ r. ⌜ r ≡ length (encodeText (now (t .entry))) ⌝ }
@@ -54,9 +55,9 @@ fn text_len(t: &[u8]) -> u64
     t.len() as u64 + 5
 }
 
-// All GUID records. Their GUIDs, outers and paths have a sum each: additions to one sum would wait for one another.
+// The length of all GUID records. GUIDs, outers and paths have separate sums, because additions to a single sum would wait for each other.
 fn guids_len(m: &[u8]) -> u64
-    requires { ⌜ Good (now m) ⌝ }
+    requires { ⌜ WellFormed (now m) ⌝ }
     ensures { λ r. ⌜ r ≡ length (encodeAll encodeGuid (held (now (m .entry)) .guids)) ⌝ }
 {
     let rows = guid_rows(m);
@@ -75,9 +76,9 @@ fn guids_len(m: &[u8]) -> u64
     keys + outers + paths + 2 * (n as u64)
 }
 
-// The group at a place, a byte for each slot.
+// The length of the group at a place, with one byte for each slot.
 fn group_len(m: &[u8], g: u32) -> u64
-    requires { ⌜ Good (now m) × (g < headerOf (now m) .groups) ⌝ }
+    requires { ⌜ WellFormed (now m) × (g < headerOf (now m) .groups) ⌝ }
     ensures { λ r. ⌜ r ≡ groupBytes (groupAt (storeOf (now (m .entry))) g) ⌝ }
 {
     let slots = group_slots(m, g);
@@ -85,9 +86,9 @@ fn group_len(m: &[u8], g: u32) -> u64
     path + packed_len(group_index(m, g)) + packed_len(slots) + slots as u64
 }
 
-// All groups, a byte for each slot.
+// The length of all groups, with one byte for each slot.
 fn groups_len(m: &[u8]) -> u64
-    requires { ⌜ Good (now m) ⌝ }
+    requires { ⌜ WellFormed (now m) ⌝ }
     ensures { λ r. ⌜ r ≡ sumBelow (λ g. groupBytes (groupAt (storeOf (now (m .entry))) g)) (headerOf (now (m .entry)) .groups) ⌝ }
 {
     let n = groups(m);
@@ -100,9 +101,9 @@ fn groups_len(m: &[u8]) -> u64
     sum
 }
 
-// The field in row e, but for the byte of its slot.
+// The length of the field in row e, without the first byte of its slot.
 fn field_len(m: &[u8], e: u32) -> u64
-    requires { ⌜ Good (now m) × (e < headerOf (now m) .fields) ⌝ }
+    requires { ⌜ WellFormed (now m) × (e < headerOf (now m) .fields) ⌝ }
     ensures { λ r. ⌜ r ≡ fieldBytes (storeOf (now (m .entry))) e ⌝ }
 {
     let rows = field_rows(m);
@@ -110,9 +111,9 @@ fn field_len(m: &[u8], e: u32) -> u64
     packed_len(slot) + 9 + text_len(row_text(rows, texts(m), e))
 }
 
-// All fields, but for the bytes of their slots.
+// The length of all fields, without the first bytes of their slots.
 fn fields_len(m: &[u8]) -> u64
-    requires { ⌜ Good (now m) ⌝ }
+    requires { ⌜ WellFormed (now m) ⌝ }
     ensures { λ r. ⌜ r ≡ sumBelow (fieldBytes (storeOf (now (m .entry)))) (headerOf (now (m .entry)) .fields) ⌝ }
 {
     let n = fields(m);
@@ -125,18 +126,17 @@ fn fields_len(m: &[u8]) -> u64
     sum
 }
 
-// A whole block.
 pub fn block_len(m: &[u8]) -> u64
-    requires { ⌜ Good (now m) ⌝ }
+    requires { ⌜ WellFormed (now m) ⌝ }
     ensures { λ r. ⌜ r ≡ length (encodeBook (held (now (m .entry)))) ⌝ }
 {
     24 + guids_len(m) + groups_len(m) + fields_len(m)
 }
 
-// No block of this book is longer: its GUID records and fields count by the most that their numbers have, and their texts by the bytes
-// of all texts. None of them is looked at.
+// An upper bound of the block's length, without reading any GUID record or field. Beside its text a GUID record has at most 17 bytes and a
+// field at most 19. Their texts together have at most the bytes of all texts held.
 pub fn most_len(m: &[u8]) -> u64
-    requires { ⌜ Good (now m) ⌝ }
+    requires { ⌜ WellFormed (now m) ⌝ }
     ensures { λ r. ⌜ length (encodeBook (held (now (m .entry)))) ≤ r ⌝ }
 {
     let numbers = 17 * (guids(m) as u64) + 19 * (fields(m) as u64);

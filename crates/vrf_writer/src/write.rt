@@ -1,4 +1,4 @@
-// Writing a book as a checkpoint block.
+// Writes a book as a checkpoint block.
 use crate::block::put_block;
 use crate::clash::first_clash;
 use crate::size::block_len;
@@ -13,11 +13,11 @@ ghost use mathlib.Core.List.{[]};
 ghost use mathlib.Core.Option.{none};
 ghost use Prim.Native.Nat.{min};
 ghost use Rattle.vrf_model.specs.Writer.{firstClash};
-ghost use Rattle.vrf_store.specs.Good.{Good};
-ghost use Rattle.vrf_store.specs.Stepped.{held};
+ghost use Rattle.vrf_store.specs.Inner.WellFormed.{WellFormed};
+ghost use Rattle.vrf_store.specs.Inner.Stepped.{held};
 ghost use Rattle.vrf_writer.specs.Writes.{WritesBook};
 
-// No block is longer.
+// The maximum length of a block.
 const BLOCK_BYTES: u64 = 268_435_456;
 
 fn too_long(n: u64) -> Wrote
@@ -30,34 +30,36 @@ fn too_long(n: u64) -> Wrote
     })
 }
 
-// The longest block that is written into so many bytes.
-fn longest(room: usize) -> u64
-    ensures { λ r. ⌜ r ≡ min room 268435456 ⌝ }
+// The length of the longest block that is written into `space` bytes.
+fn longest(space: usize) -> u64
+    ensures { λ r. ⌜ r ≡ min space 268435456 ⌝ }
 {
-    if BLOCK_BYTES < room as u64 {
+    if BLOCK_BYTES < space as u64 {
         return BLOCK_BYTES;
     }
-    room as u64
+    space as u64
 }
 
-// Writes a block where no path is a key of an earlier group. Only where it may have no room is its length found before.
+// Writes a block of a book in which no path is a key of an earlier group. The block's length is computed first only if the upper bound of
+// it does not fit.
 fn write_clear(m: &[u8], out: &mut [u8]) -> Wrote
-    requires { ⌜ Good (now m) × (firstClash [] (held (now m) .groups) ≡ none) ⌝ }
+    requires { ⌜ WellFormed (now m) × (firstClash [] (held (now m) .groups) ≡ none) ⌝ }
     ensures { λ r. ⌜ WritesBook (held (now (m .entry))) (now (out .entry)) (now (out .exit)) r ⌝ }
 {
-    let room = longest(out.len());
-    if room < most_len(m) {
+    let space = longest(out.len());
+    if space < most_len(m) {
         let n = block_len(m);
-        if room < n {
+        if space < n {
             return too_long(n);
         }
     }
     Wrote::Length(put_block(out, m) as u64)
 }
 
-// Writes the book at the front of out as a block. What stands behind it is left, and all of out where it is refused.
+// Writes the book as a block to the front of `out`. The bytes after the block stay as they were. If the writer is refused, `out` does not
+// change.
 pub fn write_checkpoint_tables(m: &[u8], out: &mut [u8]) -> Wrote
-    requires { ⌜ Good (now m) ⌝ }
+    requires { ⌜ WellFormed (now m) ⌝ }
     ensures { λ r. ⌜ WritesBook (held (now (m .entry))) (now (out .entry)) (now (out .exit)) r ⌝ }
 {
     match first_clash(m) {

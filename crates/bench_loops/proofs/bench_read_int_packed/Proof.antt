@@ -9,57 +9,10 @@ Inv-loop s c₀ sum₀ turns₀ c sum turns = turns ≤ 4294967296
 abbrev μ-loop : tie.MeasureT-loop
 μ-loop s c₀ sum₀ turns₀ c sum turns = 4294967296 - turns
 
-whole-requires : tie.Need-whole-requires Inv-loop μ-loop
-whole-requires c κs = search needs
-
-loop-holds : tie.Need-loop-holds Inv-loop μ-loop
-loop-holds c = search needs
-
-read-int-packed-requires : tie.Need-read-int-packed-requires Inv-loop μ-loop
-read-int-packed-requires c κs = search needs
-
-enum-told : tie.Need-enum-told Inv-loop μ-loop
-enum-told c = search needs
-
-returns : tie.Need-returns Inv-loop μ-loop
-returns c = search needs
-
-enum-known-v : tie.Need-enum-known-v Inv-loop μ-loop
-enum-known-v c = search needs
-
-cast-wrapping-add-u64 : tie.Need-cast-wrapping-add-u64 Inv-loop μ-loop
-cast-wrapping-add-u64 c = search needs
-
-wrapping-add-u64-requires : tie.Need-wrapping-add-u64-requires Inv-loop μ-loop
-wrapping-add-u64-requires c κs = search needs
-
-add-turns : tie.Need-add-turns Inv-loop μ-loop
-add-turns c = search needs
-
-loop-less : tie.Need-loop-less Inv-loop μ-loop
-loop-less c = search needs
-
-loop-again : tie.Need-loop-again Inv-loop μ-loop
-loop-again c = search needs
-
-returns-2 : tie.Need-returns-2 Inv-loop μ-loop
-returns-2 c = search needs
-
 pub bench-read-int-packed-spec : {M : Type 1} → statement M
 bench-read-int-packed-spec =
     tie.close
     (tie.spec
-    Inv-loop
-    μ-loop
-    whole-requires
-    loop-holds
-    read-int-packed-requires
-    enum-told
-    returns
-    enum-known-v
-    cast-wrapping-add-u64
-    wrapping-add-u64-requires
-    add-turns
-    loop-less
-    loop-again
-    returns-2)
+    Inv-loop μ-loop (λ c κs. search needs) (λ c. search needs) (λ c κs. search needs) (λ c. search needs)
+    (λ c. search needs) (λ c. search needs) (λ c. search needs) (λ c κs. search needs) (λ c. search needs)
+    (λ c. search needs) (λ c. search needs) (λ c. search needs))

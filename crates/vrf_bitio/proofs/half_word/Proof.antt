@@ -1,68 +1,23 @@
--- `vrf_bitio::half_word` meets its contract: four bytes, put together.
+-- `vrf_bitio::half_word` satisfies its contract: four bytes, put together.
+use borrow.Author.Needs.{needs}
 use denote.Ref.{now}
 use Rattle.vrf_bitio.proofs.Words.{half}
-use borrow.Author.Needs.{needs}
 use Rattle.vrf_bitio.proofs.half_word.Statement.{statement}
 use Rattle.vrf_bitio.proofs.half_word.Tie as tie
 
-byte-or-zero-requires : tie.Need-byte-or-zero-requires
-byte-or-zero-requires c κs = search needs
-
-add-byte-or-zero : tie.Need-add-byte-or-zero
-add-byte-or-zero c = search needs
-
-byte-or-zero-requires-2 : tie.Need-byte-or-zero-requires-2
-byte-or-zero-requires-2 c κs = search needs
-
-mul-result : tie.Need-mul-result
-mul-result c = search needs
-
-add-result : tie.Need-add-result
-add-result c = search needs
-
-add-byte-or-zero-2 : tie.Need-add-byte-or-zero-2
-add-byte-or-zero-2 c = search needs
-
-byte-or-zero-requires-3 : tie.Need-byte-or-zero-requires-3
-byte-or-zero-requires-3 c κs = search needs
-
-mul-result-2 : tie.Need-mul-result-2
-mul-result-2 c = search needs
-
-add-result-2 : tie.Need-add-result-2
-add-result-2 c = search needs
-
-add-byte-or-zero-3 : tie.Need-add-byte-or-zero-3
-add-byte-or-zero-3 c = search needs
-
-byte-or-zero-requires-4 : tie.Need-byte-or-zero-requires-4
-byte-or-zero-requires-4 c κs = search needs
-
-mul-result-3 : tie.Need-mul-result-3
-mul-result-3 c = search needs
-
-add-result-3 : tie.Need-add-result-3
-add-result-3 c = search needs
-
 returns : tie.Need-returns
-returns c = let a = c .before .before .before .before .before .args in
-    half (now (a .s)) (a .i) _ _ _ _ (c .before .before .before .byte-or-zero .ensures) (c .before .before .byte-or-zero2 .ensures) (c .before .byte-or-zero3 .ensures) (c .byte-or-zero4 .ensures)
+returns c =
+    let after-byte-or-zero3 = c .before in
+    let after-byte-or-zero2 = after-byte-or-zero3 .before in
+    let after-byte-or-zero = after-byte-or-zero2 .before in
+    let start = after-byte-or-zero .before .before in
+    let a = start .args in
+    half (now (a .s)) (a .i) _ _ _ _ (after-byte-or-zero .byte-or-zero .ensures) (after-byte-or-zero2 .byte-or-zero2 .ensures) (after-byte-or-zero3 .byte-or-zero3 .ensures) (c .byte-or-zero4 .ensures)
 
 pub half-word-spec : {M : Type 1} → statement M
 half-word-spec =
     tie.close
     (tie.spec
-    byte-or-zero-requires
-    add-byte-or-zero
-    byte-or-zero-requires-2
-    mul-result
-    add-result
-    add-byte-or-zero-2
-    byte-or-zero-requires-3
-    mul-result-2
-    add-result-2
-    add-byte-or-zero-3
-    byte-or-zero-requires-4
-    mul-result-3
-    add-result-3
-    returns)
+    (λ c κs. search needs) (λ c. search needs) (λ c κs. search needs) (λ c. search needs) (λ c. search needs)
+    (λ c. search needs) (λ c κs. search needs) (λ c. search needs) (λ c. search needs) (λ c. search needs)
+    (λ c κs. search needs) (λ c. search needs) (λ c. search needs) returns)

@@ -1,23 +1,11 @@
--- `vrf_bitio::joined` meets its contract: the upper shift leaves the low bits of the second word, above those of the first.
-use native.Mathlib.Omega.{arith}
+-- `vrf_bitio::joined` satisfies its contract: the upper shift leaves the low bits of the second word, above those of the first.
 use mathlib.Core.Path.{ap}
 use Prim.Native.Nat.{ℕ, _+_, _/_, _^_}
-use Rattle.vrf_bitio.proofs.Words.{upper, join-fits}
+use native.Mathlib.Omega.{arith}
 use borrow.Author.Needs.{needs}
+use Rattle.vrf_bitio.proofs.Words.{upper, join-fits}
 use Rattle.vrf_bitio.proofs.joined.Statement.{statement}
 use Rattle.vrf_bitio.proofs.joined.Tie as tie
-
-shr-result : tie.Need-shr-result
-shr-result c = search needs
-
-sub-result : tie.Need-sub-result
-sub-result c = search needs
-
-cast-result : tie.Need-cast-result
-cast-result c = search needs
-
-shl-result : tie.Need-shl-result
-shl-result c = search needs
 
 add-result : tie.Need-add-result
 add-result c = record { fits = join-fits (c .args .carry) (c .args .next) (c .args .off) (omega arith) (omega arith) }
@@ -26,4 +14,4 @@ returns : tie.Need-returns
 returns c = ap (λ (x : ℕ). c .args .carry / 2 ^ (c .args .off) + x) (upper (c .args .next) (c .args .off) (omega arith))
 
 pub joined-spec : {M : Type 1} → statement M
-joined-spec = tie.close (tie.spec shr-result sub-result cast-result shl-result add-result returns)
+joined-spec = tie.close (tie.spec (λ c. search needs) (λ c. search needs) (λ c. search needs) (λ c. search needs) add-result returns)

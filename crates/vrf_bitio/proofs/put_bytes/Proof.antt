@@ -1,7 +1,7 @@
--- `vrf_bitio::put_bytes` meets its contract: after k bytes the rest from here leaves what the whole leaves.
+-- `vrf_bitio::put_bytes` satisfies its contract: after k bytes, writing the rest leaves what writing the whole leaves.
+use Prim.Native.Nat.{_-_}
 use native.Mathlib.Omega.{arith}
 use denote.Ref.{now}
-use Prim.Native.Nat.{_-_}
 use Rattle.vrf_bitio.proofs.Copies.{Putting, put-start, put-step, put-end}
 use Rattle.vrf_bitio.proofs.put_bytes.Statement.{statement}
 use Rattle.vrf_bitio.proofs.put_bytes.Tie as tie
@@ -15,42 +15,24 @@ abbrev μ-loop : tie.MeasureT-loop
 loop-holds : tie.Need-loop-holds Inv-loop μ-loop
 loop-holds c = put-start (now (c .args .dst)) (c .args .at) (c .args .v) (c .args .t)
 
-cast-dst : tie.Need-cast-dst Inv-loop μ-loop
-cast-dst c = omega arith
-
-add-dst : tie.Need-add-dst Inv-loop μ-loop
-add-dst c = omega arith
-
-slice-write-dst : tie.Need-slice-write-dst Inv-loop μ-loop
-slice-write-dst c = omega arith
-
-add-k : tie.Need-add-k Inv-loop μ-loop
-add-k c = omega arith
-
-loop-less : tie.Need-loop-less Inv-loop μ-loop
-loop-less c = omega arith
-
 loop-again : tie.Need-loop-again Inv-loop μ-loop
-loop-again c = put-step (now (c .before .before .args .dst)) (c .before .loop .dst) (c .before .before .args .at) (c .before .before .args .v) (c .before .before .args .t) (c .before .loop .k) (c .before .loop .left) (c .before .loop .inv) (c .loop-test .taken) (c .before .before .pre)
+loop-again c =
+    let at-loop = c .before in
+    let start = at-loop .before in
+    put-step (now (start .args .dst)) (at-loop .loop .dst) (start .args .at) (start .args .v) (start .args .t) (at-loop .loop .k) (at-loop .loop .left) (at-loop .loop .inv) (c .loop-test .taken) (start .pre)
 
 same-length : tie.Need-same-length Inv-loop μ-loop
 same-length c = c .before .loop .inv .long
 
 returns : tie.Need-returns Inv-loop μ-loop
-returns c = put-end (now (c .before .before .args .dst)) (c .before .loop .dst) (c .before .before .args .at) (c .before .before .args .v) (c .before .before .args .t) (c .before .loop .k) (c .before .loop .left) (c .before .loop .inv) (c .loop-test .left)
+returns c =
+    let at-loop = c .before in
+    let start = at-loop .before in
+    put-end (now (start .args .dst)) (at-loop .loop .dst) (start .args .at) (start .args .v) (start .args .t) (at-loop .loop .k) (at-loop .loop .left) (at-loop .loop .inv) (c .loop-test .left)
 
 pub put-bytes-spec : {M : Type 1} → statement M
 put-bytes-spec =
     tie.close
     (tie.spec
-    Inv-loop
-    μ-loop
-    loop-holds
-    cast-dst
-    add-dst
-    slice-write-dst
-    add-k
-    loop-less
-    loop-again
-    same-length
-    returns)
+    Inv-loop μ-loop loop-holds (λ c. omega arith) (λ c. omega arith) (λ c. omega arith) (λ c. omega arith)
+    (λ c. omega arith) loop-again same-length returns)

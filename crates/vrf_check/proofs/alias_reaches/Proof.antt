@@ -1,23 +1,21 @@
--- `vrf_check::alias_reaches` meets its contract: the first bytes of the room are the alias.
+-- `vrf_check::alias_reaches` satisfies its contract: the first bytes of the scratch buffer are the alias.
 use mathlib.Core.Path.{sym, ap, _∙_}
 use native.Mathlib.Omega.{arith}
-use denote.Ref.{now}
-use borrow.Author.Needs.{needs}
 use lib.ListN.{length, length-take}
-use Rattle.vrf_table.specs.Rooms.{key-short}
+use borrow.Author.Needs.{needs}
+use denote.Ref.{now}
+use Rattle.vrf_table.specs.Laws.Spelled.{key-short}
 use Rattle.vrf_check.proofs.alias_reaches.Statement.{statement}
 use Rattle.vrf_check.proofs.alias_reaches.Tie as tie
 
-slice-aggregate-spell : tie.Need-slice-aggregate-spell
-slice-aggregate-spell c = search needs
-
 spell-requires : tie.Need-spell-requires
 spell-requires c κs =
-    let x = c .before .before .before .before .before .before in
+    let back = c .before .before .before .before in
+    let x = back .before .before in
     omega (arith, key-short (now (x .args .path)) (x .args .key), x .pre .1)
 
-array-share-prefix-room : tie.Need-array-share-prefix-room
-array-share-prefix-room c =
+array-share-prefix-scratch : tie.Need-array-share-prefix-scratch
+array-share-prefix-scratch c =
     let key = c .before .spell .ensures in
     omega (arith, ap length (key .bytes), length-take (c .before .spell .result) (c .before .spell .last .0), key .count)
 
@@ -28,8 +26,11 @@ slice-aggregate-reaches c =
 
 reaches-requires : tie.Need-reaches-requires
 reaches-requires c κs =
-    let x = c .before .before .before .before .before .before .before .before .before .args in
-    (c .before .before .before .before .before .before .before .before .before .pre .0, omega (arith, ap length (c .before .before .spell .ensures .bytes), key-short (now (x .path)) (x .key), c .before .before .before .before .before .before .before .before .before .pre .1))
+    let after-spell = c .before .before in
+    let back = after-spell .before .before .before .before in
+    let start = back .before .before .before in
+    let x = start .args in
+    (start .pre .0, omega (arith, ap length (after-spell .spell .ensures .bytes), key-short (now (x .path)) (x .key), start .pre .1))
 
 returns : tie.Need-returns
 returns c = cc
@@ -38,9 +39,4 @@ pub alias-reaches-spec : {M : Type 1} → statement M
 alias-reaches-spec =
     tie.close
     (tie.spec
-    slice-aggregate-spell
-    spell-requires
-    array-share-prefix-room
-    slice-aggregate-reaches
-    reaches-requires
-    returns)
+    (λ c. search needs) spell-requires array-share-prefix-scratch slice-aggregate-reaches reaches-requires returns)

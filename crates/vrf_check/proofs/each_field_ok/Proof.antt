@@ -1,11 +1,12 @@
--- `vrf_check::each_field_ok` meets its contract: the rows passed are as they should be.
+-- `vrf_check::each_field_ok` satisfies its contract. The loop invariant: the rows passed so far are good.
 use mathlib.Core.Path.{_≡_}
 use mathlib.Core.Bool.{true}
 use Prim.Native.Nat.{_-_, _≤_}
 use native.Mathlib.Omega.{arith}
 use denote.Ref.{now}
 use Rattle.vrf_store.specs.UpTo.{allBelow}
-use Rattle.vrf_store.specs.CheckSteps.{fieldRow, all-first, all-last, all-next, all-stop}
+use Rattle.vrf_store.specs.Inner.Check.{fieldRow}
+use Rattle.vrf_store.specs.Laws.Check.Steps.{all-first, all-last, all-next, all-stop}
 use Rattle.vrf_check.proofs.each_field_ok.Statement.{statement}
 use Rattle.vrf_check.proofs.each_field_ok.Tie as tie
 
@@ -15,46 +16,36 @@ Inv-loop groups g rows heads b n e₀ e = (e ≤ n) × (allBelow (fieldRow group
 abbrev μ-loop : tie.MeasureT-loop
 μ-loop groups g rows heads b n e₀ e = n - e
 
-loop-holds : tie.Need-loop-holds Inv-loop μ-loop
-loop-holds c = (omega arith, all-first _)
-
-field-ok-requires : tie.Need-field-ok-requires Inv-loop μ-loop
-field-ok-requires c κs = omega arith
-
 returns : tie.Need-returns Inv-loop μ-loop
 returns c =
-    let l = c .before .before .before .loop in
-    let x = c .before .before .before .before .before .before .before .args in
-    all-stop (fieldRow (now (x .groups)) (x .g) (now (x .rows)) (now (x .heads)) (x .b) (x .n)) (l .e) (c .before .field-ok .ensures) (x .n) (c .before .before .loop-test .taken) (c .if1 .taken)
-
-add-e : tie.Need-add-e Inv-loop μ-loop
-add-e c = omega arith
-
-loop-less : tie.Need-loop-less Inv-loop μ-loop
-loop-less c = omega arith
+    let after-field-ok = c .before in
+    let at-loop-test = after-field-ok .before in
+    let at-loop = at-loop-test .before in
+    let start = at-loop .before .before .before .before in
+    let l = at-loop .loop in
+    let x = start .args in
+    all-stop (fieldRow (now (x .groups)) (x .g) (now (x .rows)) (now (x .heads)) (x .b) (x .n)) (l .e) (after-field-ok .field-ok .ensures) (x .n) (at-loop-test .loop-test .taken) (c .if1 .taken)
 
 loop-again : tie.Need-loop-again Inv-loop μ-loop
 loop-again c =
-    let l = c .before .before .before .loop in
-    let x = c .before .before .before .before .before .before .before .args in
-    (omega arith, all-next (fieldRow (now (x .groups)) (x .g) (now (x .rows)) (now (x .heads)) (x .b) (x .n)) (l .e) (c .before .field-ok .ensures) (c .if1 .left) (l .inv .1))
+    let after-field-ok = c .before in
+    let at-loop = after-field-ok .before .before in
+    let start = at-loop .before .before .before .before in
+    let l = at-loop .loop in
+    let x = start .args in
+    (omega arith, all-next (fieldRow (now (x .groups)) (x .g) (now (x .rows)) (now (x .heads)) (x .b) (x .n)) (l .e) (after-field-ok .field-ok .ensures) (c .if1 .left) (l .inv .1))
 
 returns-2 : tie.Need-returns-2 Inv-loop μ-loop
 returns-2 c =
-    let l = c .before .loop in
-    let x = c .before .before .before .before .before .args in
+    let at-loop = c .before in
+    let start = at-loop .before .before .before .before in
+    let l = at-loop .loop in
+    let x = start .args in
     all-last (fieldRow (now (x .groups)) (x .g) (now (x .rows)) (now (x .heads)) (x .b) (x .n)) (l .e) (x .n) (l .inv .0) (c .loop-test .left) (l .inv .1)
 
 pub each-field-ok-spec : {M : Type 1} → statement M
 each-field-ok-spec =
     tie.close
     (tie.spec
-    Inv-loop
-    μ-loop
-    loop-holds
-    field-ok-requires
-    returns
-    add-e
-    loop-less
-    loop-again
-    returns-2)
+    Inv-loop μ-loop (λ c. (omega arith, all-first _)) (λ c κs. omega arith) returns (λ c. omega arith)
+    (λ c. omega arith) loop-again returns-2)

@@ -1,11 +1,12 @@
--- `vrf_check::each_group_ok` meets its contract: the rows passed are as they should be.
+-- `vrf_check::each_group_ok` satisfies its contract. The loop invariant: the rows passed so far are good.
 use mathlib.Core.Path.{_≡_}
 use mathlib.Core.Bool.{true}
 use Prim.Native.Nat.{_-_, _≤_}
 use native.Mathlib.Omega.{arith}
 use denote.Ref.{now}
 use Rattle.vrf_store.specs.UpTo.{allBelow}
-use Rattle.vrf_store.specs.CheckSteps.{groupRow, all-first, all-last, all-next, all-stop}
+use Rattle.vrf_store.specs.Inner.Check.{groupRow}
+use Rattle.vrf_store.specs.Laws.Check.Steps.{all-first, all-last, all-next, all-stop}
 use Rattle.vrf_check.proofs.each_group_ok.Statement.{statement}
 use Rattle.vrf_check.proofs.each_group_ok.Tie as tie
 
@@ -15,29 +16,24 @@ Inv-loop rows heads b n e₀ e = (e ≤ n) × (allBelow (groupRow rows heads b n
 abbrev μ-loop : tie.MeasureT-loop
 μ-loop rows heads b n e₀ e = n - e
 
-loop-holds : tie.Need-loop-holds Inv-loop μ-loop
-loop-holds c = (omega arith, all-first _)
-
-group-ok-requires : tie.Need-group-ok-requires Inv-loop μ-loop
-group-ok-requires c κs = omega arith
-
 returns : tie.Need-returns Inv-loop μ-loop
 returns c =
-    let l = c .before .before .before .loop in
-    let x = c .before .before .before .before .before .before .args in
-    all-stop (groupRow (now (x .rows)) (now (x .heads)) (x .b) (x .n)) (l .e) (c .before .group-ok .ensures) (x .n) (c .before .before .loop-test .taken) (c .if1 .taken)
-
-add-e : tie.Need-add-e Inv-loop μ-loop
-add-e c = omega arith
-
-loop-less : tie.Need-loop-less Inv-loop μ-loop
-loop-less c = omega arith
+    let after-group-ok = c .before in
+    let at-loop-test = after-group-ok .before in
+    let at-loop = at-loop-test .before in
+    let start = at-loop .before .before .before in
+    let l = at-loop .loop in
+    let x = start .args in
+    all-stop (groupRow (now (x .rows)) (now (x .heads)) (x .b) (x .n)) (l .e) (after-group-ok .group-ok .ensures) (x .n) (at-loop-test .loop-test .taken) (c .if1 .taken)
 
 loop-again : tie.Need-loop-again Inv-loop μ-loop
 loop-again c =
-    let l = c .before .before .before .loop in
-    let x = c .before .before .before .before .before .before .args in
-    (omega arith, all-next (groupRow (now (x .rows)) (now (x .heads)) (x .b) (x .n)) (l .e) (c .before .group-ok .ensures) (c .if1 .left) (l .inv .1))
+    let after-group-ok = c .before in
+    let at-loop = after-group-ok .before .before in
+    let start = at-loop .before .before .before in
+    let l = at-loop .loop in
+    let x = start .args in
+    (omega arith, all-next (groupRow (now (x .rows)) (now (x .heads)) (x .b) (x .n)) (l .e) (after-group-ok .group-ok .ensures) (c .if1 .left) (l .inv .1))
 
 returns-2 : tie.Need-returns-2 Inv-loop μ-loop
 returns-2 c =
@@ -49,12 +45,5 @@ pub each-group-ok-spec : {M : Type 1} → statement M
 each-group-ok-spec =
     tie.close
     (tie.spec
-    Inv-loop
-    μ-loop
-    loop-holds
-    group-ok-requires
-    returns
-    add-e
-    loop-less
-    loop-again
-    returns-2)
+    Inv-loop μ-loop (λ c. (omega arith, all-first _)) (λ c κs. omega arith) returns (λ c. omega arith)
+    (λ c. omega arith) loop-again returns-2)

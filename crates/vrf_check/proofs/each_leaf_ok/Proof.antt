@@ -1,11 +1,12 @@
--- `vrf_check::each_leaf_ok` meets its contract: the groups passed are as they should be.
+-- `vrf_check::each_leaf_ok` satisfies its contract. The loop invariant: the groups passed so far are good.
 use mathlib.Core.Path.{_≡_}
 use mathlib.Core.Bool.{true}
 use Prim.Native.Nat.{_-_, _≤_}
 use native.Mathlib.Omega.{arith}
 use denote.Ref.{now}
 use Rattle.vrf_store.specs.UpTo.{allBelow}
-use Rattle.vrf_store.specs.CheckSteps.{leafSettled, all-first, all-last, all-next, all-stop}
+use Rattle.vrf_store.specs.Inner.Check.{leafSettled}
+use Rattle.vrf_store.specs.Laws.Check.Steps.{all-first, all-last, all-next, all-stop}
 use Rattle.vrf_check.proofs.each_leaf_ok.Statement.{statement}
 use Rattle.vrf_check.proofs.each_leaf_ok.Tie as tie
 
@@ -15,46 +16,45 @@ Inv-loop rows x links heads b n g₀ g = (g ≤ n) × (allBelow (leafSettled row
 abbrev μ-loop : tie.MeasureT-loop
 μ-loop rows x links heads b n g₀ g = n - g
 
-loop-holds : tie.Need-loop-holds Inv-loop μ-loop
-loop-holds c = (omega arith, all-first _)
-
 leaf-ok-requires : tie.Need-leaf-ok-requires Inv-loop μ-loop
-leaf-ok-requires c κs = (c .before .before .before .before .before .before .pre, omega arith)
+leaf-ok-requires c κs =
+    let back = c .before .before .before .before in
+    let start = back .before .before in
+    (start .pre, omega arith)
 
 returns : tie.Need-returns Inv-loop μ-loop
 returns c =
-    let l = c .before .before .before .loop in
-    let x = c .before .before .before .before .before .before .before .before .args in
-    all-stop (leafSettled (now (x .rows)) (now (x .x)) (now (x .links)) (now (x .heads)) (x .b) (x .n)) (l .g) (c .before .leaf-ok .ensures) (x .n) (c .before .before .loop-test .taken) (c .if1 .taken)
-
-add-g : tie.Need-add-g Inv-loop μ-loop
-add-g c = omega arith
-
-loop-less : tie.Need-loop-less Inv-loop μ-loop
-loop-less c = omega arith
+    let after-leaf-ok = c .before in
+    let at-loop-test = after-leaf-ok .before in
+    let at-loop = at-loop-test .before in
+    let back = at-loop .before .before .before .before in
+    let start = back .before in
+    let l = at-loop .loop in
+    let x = start .args in
+    all-stop (leafSettled (now (x .rows)) (now (x .x)) (now (x .links)) (now (x .heads)) (x .b) (x .n)) (l .g) (after-leaf-ok .leaf-ok .ensures) (x .n) (at-loop-test .loop-test .taken) (c .if1 .taken)
 
 loop-again : tie.Need-loop-again Inv-loop μ-loop
 loop-again c =
-    let l = c .before .before .before .loop in
-    let x = c .before .before .before .before .before .before .before .before .args in
-    (omega arith, all-next (leafSettled (now (x .rows)) (now (x .x)) (now (x .links)) (now (x .heads)) (x .b) (x .n)) (l .g) (c .before .leaf-ok .ensures) (c .if1 .left) (l .inv .1))
+    let after-leaf-ok = c .before in
+    let at-loop = after-leaf-ok .before .before in
+    let back = at-loop .before .before .before .before in
+    let start = back .before in
+    let l = at-loop .loop in
+    let x = start .args in
+    (omega arith, all-next (leafSettled (now (x .rows)) (now (x .x)) (now (x .links)) (now (x .heads)) (x .b) (x .n)) (l .g) (after-leaf-ok .leaf-ok .ensures) (c .if1 .left) (l .inv .1))
 
 returns-2 : tie.Need-returns-2 Inv-loop μ-loop
 returns-2 c =
-    let l = c .before .loop in
-    let x = c .before .before .before .before .before .before .args in
+    let at-loop = c .before in
+    let back = at-loop .before .before .before .before in
+    let start = back .before in
+    let l = at-loop .loop in
+    let x = start .args in
     all-last (leafSettled (now (x .rows)) (now (x .x)) (now (x .links)) (now (x .heads)) (x .b) (x .n)) (l .g) (x .n) (l .inv .0) (c .loop-test .left) (l .inv .1)
 
 pub each-leaf-ok-spec : {M : Type 1} → statement M
 each-leaf-ok-spec =
     tie.close
     (tie.spec
-    Inv-loop
-    μ-loop
-    loop-holds
-    leaf-ok-requires
-    returns
-    add-g
-    loop-less
-    loop-again
-    returns-2)
+    Inv-loop μ-loop (λ c. (omega arith, all-first _)) leaf-ok-requires returns (λ c. omega arith) (λ c. omega arith)
+    loop-again returns-2)

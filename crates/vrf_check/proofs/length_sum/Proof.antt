@@ -1,12 +1,12 @@
--- `vrf_check::length_sum` meets its contract: the sum of the rows passed.
+-- `vrf_check::length_sum` satisfies its contract. The loop invariant: the sum is that of the rows passed.
 use mathlib.Core.Path.{_≡_, refl, ap, _∙_}
 use Prim.Native.Nat.{_*_, _-_, _≤_}
 use native.Mathlib.Omega.{arith}
-use denote.Ref.{now}
 use borrow.Author.Needs.{needs}
+use denote.Ref.{now}
 use Rattle.vrf_table.specs.Table.{len}
 use Rattle.vrf_store.specs.UpTo.{sumBelow}
-use Rattle.vrf_store.specs.CheckSteps.{sum-next}
+use Rattle.vrf_store.specs.Laws.Check.Steps.{sum-next}
 use Rattle.vrf_check.proofs.length_sum.Statement.{statement}
 use Rattle.vrf_check.proofs.length_sum.Tie as tie
 
@@ -20,23 +20,11 @@ loop-holds : tie.Need-loop-holds Inv-loop μ-loop
 unfolding sumBelow
 loop-holds c = (omega arith, refl, omega arith)
 
-row-len-requires : tie.Need-row-len-requires Inv-loop μ-loop
-row-len-requires c κs = omega arith
-
-cast-sum : tie.Need-cast-sum Inv-loop μ-loop
-cast-sum c = search needs
-
-add-sum : tie.Need-add-sum Inv-loop μ-loop
-add-sum c = omega arith
-
-add-e : tie.Need-add-e Inv-loop μ-loop
-add-e c = omega arith
-
-loop-less : tie.Need-loop-less Inv-loop μ-loop
-loop-less c = omega arith
-
 loop-again : tie.Need-loop-again Inv-loop μ-loop
-loop-again c = (omega arith, omega (arith, sum-next (len (now (c .before .before .before .before .args .rows))) (c .before .before .loop .e)), omega arith)
+loop-again c =
+    let at-loop = c .before .before in
+    let start = at-loop .before .before in
+    (omega arith, omega (arith, sum-next (len (now (start .args .rows))) (at-loop .loop .e)), omega arith)
 
 returns : tie.Need-returns Inv-loop μ-loop
 returns c =
@@ -49,13 +37,5 @@ pub length-sum-spec : {M : Type 1} → statement M
 length-sum-spec =
     tie.close
     (tie.spec
-    Inv-loop
-    μ-loop
-    loop-holds
-    row-len-requires
-    cast-sum
-    add-sum
-    add-e
-    loop-less
-    loop-again
-    returns)
+    Inv-loop μ-loop loop-holds (λ c κs. omega arith) (λ c. search needs) (λ c. omega arith) (λ c. omega arith)
+    (λ c. omega arith) loop-again returns)

@@ -1,14 +1,8 @@
--- `vrf_check::not_before` meets its contract.
+-- `vrf_check::not_before` satisfies its contract.
 use borrow.Author.Needs.{needs}
 use Rattle.vrf_store.specs.Check.{notBefore}
 use Rattle.vrf_check.proofs.not_before.Statement.{statement}
 use Rattle.vrf_check.proofs.not_before.Tie as tie
-
-enum-known-found : tie.Need-enum-known-found
-enum-known-found c = search needs
-
-enum-told : tie.Need-enum-told
-enum-told c = search needs
 
 returns : tie.Need-returns
 unfolding notBefore
@@ -19,4 +13,4 @@ unfolding notBefore
 returns-2 c = rw (c .enum-told .given .1)
 
 pub not-before-spec : {M : Type 1} → statement M
-not-before-spec = tie.close (tie.spec enum-known-found enum-told returns returns-2)
+not-before-spec = tie.close (tie.spec (λ c. search needs) (λ c. search needs) returns returns-2)

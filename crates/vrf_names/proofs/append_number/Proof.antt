@@ -1,7 +1,7 @@
--- `vrf_names::append_number` meets its contract.
+-- `vrf_names::append_number` satisfies its contract.
 use native.Mathlib.Omega.{arith}
-use denote.Ref.{now}
 use borrow.Author.Needs.{needs}
+use denote.Ref.{now}
 use Rattle.vrf_names.proofs.Names.{append-long, append-short, append-fits}
 use Rattle.vrf_names.proofs.append_number.Statement.{statement}
 use Rattle.vrf_names.proofs.append_number.Tie as tie
@@ -22,21 +22,15 @@ returns-2 c =
 
 returns-3 : tie.Need-returns-3
 returns-3 c =
-    let measured = c .before .before .before .before .before .before in
+    let after-put-suffix = c .before .before in
+    let measured = after-put-suffix .before .before .before .before in
     let suffixed = measured .before in
     let start = suffixed .before .before in
-    append-fits (now (start .args .out)) (start .args .n) (start .pre) (start .args .number) (start .fits .number) (suffixed .suffix-of .result) (suffixed .suffix-of .ensures) (measured .suffix-len .ensures .0) (omega arith) (omega arith) (c .before .before .put-suffix .ensures)
+    append-fits (now (start .args .out)) (start .args .n) (start .pre) (start .args .number) (start .fits .number) (suffixed .suffix-of .result) (suffixed .suffix-of .ensures) (measured .suffix-len .ensures .0) (omega arith) (omega arith) (after-put-suffix .put-suffix .ensures)
 
 pub append-number-spec : {M : Type 1} → statement M
 append-number-spec =
     tie.close
     (tie.spec
-    (λ c κs. search needs)
-    (λ c κs. search needs)
-    (λ c. search needs)
-    returns
-    (λ c κs. search needs)
-    returns-2
-    (λ c κs. search needs)
-    (λ c. search needs)
-    returns-3)
+    (λ c κs. search needs) (λ c κs. search needs) (λ c. search needs) returns (λ c κs. search needs) returns-2
+    (λ c κs. search needs) (λ c. search needs) returns-3)

@@ -1,10 +1,10 @@
--- `vrf_names::decimal_len` meets its contract: the digits counted and those of the rest are those of the number, and one more.
+-- `vrf_names::decimal_len` satisfies its contract: the count so far plus the digits of the rest is one more than the digits of the number.
 use mathlib.Core.Path.{_≡_}
 use Prim.Native.Nat.{_≤_, _+_}
 use native.Mathlib.Omega.{arith}
 use lib.ListN.{length}
 use Rattle.vrf_names.specs.Names.{decimal}
-use Rattle.vrf_names.specs.NamesLaws.{decimal-one, more-length, decimal-some, decimal-length}
+use Rattle.vrf_names.specs.Laws.Names.{decimal-one, more-length, decimal-some, decimal-length}
 use Rattle.vrf_names.proofs.decimal_len.Statement.{statement}
 use Rattle.vrf_names.proofs.decimal_len.Tie as tie
 
@@ -14,14 +14,8 @@ Inv-loop n rest₀ len₀ rest len = (rest ≤ n) × (length (decimal n) + 1 ≡
 abbrev μ-loop : tie.MeasureT-loop
 μ-loop n rest₀ len₀ rest len = rest
 
-loop-holds : tie.Need-loop-holds Inv-loop μ-loop
-loop-holds c = (omega arith, omega arith)
-
 add-len : tie.Need-add-len Inv-loop μ-loop
 add-len c = omega (arith, decimal-length 19 (c .before .before .args .n) (omega arith), decimal-some (c .before .loop .rest))
-
-loop-less : tie.Need-loop-less Inv-loop μ-loop
-loop-less c = omega arith
 
 loop-again : tie.Need-loop-again Inv-loop μ-loop
 loop-again c = (omega arith, omega (arith, more-length (c .before .loop .rest) (omega arith)))
@@ -33,4 +27,4 @@ returns c =
 
 pub decimal-len-spec : {M : Type 1} → statement M
 decimal-len-spec =
-    tie.close (tie.spec Inv-loop μ-loop loop-holds add-len loop-less loop-again returns)
+    tie.close (tie.spec Inv-loop μ-loop (λ c. (omega arith, omega arith)) add-len (λ c. omega arith) loop-again returns)

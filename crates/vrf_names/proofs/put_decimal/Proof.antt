@@ -1,10 +1,10 @@
--- `vrf_names::put_decimal` meets its contract: what does not fit is not written.
+-- `vrf_names::put_decimal` satisfies its contract: what does not fit is not written.
 use mathlib.Core.Path.{sym, _∙_}
 use native.Mathlib.Omega.{arith}
-use denote.Ref.{now}
 use borrow.Author.Needs.{needs}
+use denote.Ref.{now}
 use Rattle.vrf_names.specs.Names.{decimal}
-use Rattle.vrf_names.specs.NamesLaws.{put-fits, put-nothing}
+use Rattle.vrf_names.specs.Laws.Names.{put-fits, put-nothing}
 use Rattle.vrf_names.proofs.put_decimal.Statement.{statement}
 use Rattle.vrf_names.proofs.put_decimal.Tie as tie
 
@@ -20,17 +20,14 @@ returns-2 c =
 
 returns-3 : tie.Need-returns-3
 returns-3 c =
-    let start = c .before .before .before .before .before .before .before .before .args in
-    c .before .before .put-digits .ensures ∙ sym (put-fits (now (start .out)) (decimal (start .n)) (start .at) (omega arith))
+    let after-put-digits = c .before .before in
+    let back = after-put-digits .before .before .before .before in
+    let at-start = back .before .before in
+    let start = at-start .args in
+    after-put-digits .put-digits .ensures ∙ sym (put-fits (now (start .out)) (decimal (start .n)) (start .at) (omega arith))
 
 pub put-decimal-spec : {M : Type 1} → statement M
 put-decimal-spec =
     tie.close
     (tie.spec
-    (λ c κs. search needs)
-    returns
-    (λ c. search needs)
-    returns-2
-    (λ c κs. search needs)
-    (λ c. search needs)
-    returns-3)
+    (λ c κs. search needs) returns (λ c. search needs) returns-2 (λ c κs. search needs) (λ c. search needs) returns-3)

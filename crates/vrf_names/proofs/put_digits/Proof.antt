@@ -1,11 +1,11 @@
--- `vrf_names::put_digits` meets its contract: what is left of the number, put in at its place, gives what the whole number gives.
+-- `vrf_names::put_digits` satisfies its contract: writing the rest of the number leaves what writing the whole number leaves.
 use mathlib.Core.Path.{_≡_, refl, sym, _∙_}
 use Prim.Native.Nat.{_<_, _+_, _/_}
 use native.Mathlib.Omega.{arith}
 use lib.ListN.{length, length-set}
 use Rattle.vrf_bitio.specs.Pasted.{pasted}
 use Rattle.vrf_names.specs.Names.{decimal}
-use Rattle.vrf_names.specs.NamesLaws.{more-length, decimal-some}
+use Rattle.vrf_names.specs.Laws.Names.{more-length, decimal-some}
 use Rattle.vrf_names.proofs.Names.{digit-next, digit-last}
 use Rattle.vrf_names.proofs.put_digits.Statement.{statement}
 use Rattle.vrf_names.proofs.put_digits.Tie as tie
@@ -16,32 +16,14 @@ Inv-loop n out₀ at rest₀ end₀ out rest end = (length out ≡ length out₀
 abbrev μ-loop : tie.MeasureT-loop
 μ-loop n out₀ at rest₀ end₀ out rest end = rest
 
-decimal-len-requires : tie.Need-decimal-len-requires Inv-loop μ-loop
-decimal-len-requires c κs = tt
-
-add-end : tie.Need-add-end Inv-loop μ-loop
-add-end c = omega arith
-
 sub-end : tie.Need-sub-end Inv-loop μ-loop
 sub-end c = omega (arith, decimal-some (c .before .before .args .n))
 
 loop-holds : tie.Need-loop-holds Inv-loop μ-loop
 loop-holds c = (refl, omega (arith, decimal-some (c .before .before .args .n)), omega (arith, decimal-some (c .before .before .args .n)), refl)
 
-cast-out : tie.Need-cast-out Inv-loop μ-loop
-cast-out c = omega arith
-
-add-out : tie.Need-add-out Inv-loop μ-loop
-add-out c = omega arith
-
-slice-write-out : tie.Need-slice-write-out Inv-loop μ-loop
-slice-write-out c = omega arith
-
 sub-end-2 : tie.Need-sub-end-2 Inv-loop μ-loop
 sub-end-2 c = omega (arith, more-length (c .before .loop .rest) (omega arith), decimal-some (c .before .loop .rest / 10))
-
-loop-less : tie.Need-loop-less Inv-loop μ-loop
-loop-less c = omega arith
 
 loop-again : tie.Need-loop-again Inv-loop μ-loop
 loop-again c =
@@ -53,6 +35,32 @@ loop-again c =
       l .inv .3 ∙ digit-next (l .out) (c .before .before .before .before .args .at) (l .rest) (l .end) (l .inv .2) (l .inv .1) (c .loop-test .taken),
     )
 
+same-length : tie.Need-same-length Inv-loop μ-loop
+same-length c = rw length-set (c .before .loop .inv .0)
+
+returns : tie.Need-returns Inv-loop μ-loop
+returns c =
+    let l = c .before .loop in
+    sym (l .inv .3 ∙ digit-last (l .out) (c .before .before .before .before .args .at) (l .rest) (l .end) (l .inv .2) (l .inv .1) (c .loop-test .left))
+
+decimal-len-requires : tie.Need-decimal-len-requires Inv-loop μ-loop
+decimal-len-requires c κs = tt
+
+add-end : tie.Need-add-end Inv-loop μ-loop
+add-end c = omega arith
+
+cast-out : tie.Need-cast-out Inv-loop μ-loop
+cast-out c = omega arith
+
+add-out : tie.Need-add-out Inv-loop μ-loop
+add-out c = omega arith
+
+slice-write-out : tie.Need-slice-write-out Inv-loop μ-loop
+slice-write-out c = omega arith
+
+loop-less : tie.Need-loop-less Inv-loop μ-loop
+loop-less c = omega arith
+
 cast-out-2 : tie.Need-cast-out-2 Inv-loop μ-loop
 cast-out-2 c = omega arith
 
@@ -62,32 +70,9 @@ add-out-2 c = omega arith
 slice-write-out-2 : tie.Need-slice-write-out-2 Inv-loop μ-loop
 slice-write-out-2 c = omega arith
 
-same-length : tie.Need-same-length Inv-loop μ-loop
-same-length c = rw length-set (c .before .loop .inv .0)
-
-returns : tie.Need-returns Inv-loop μ-loop
-returns c =
-    let l = c .before .loop in
-    sym (l .inv .3 ∙ digit-last (l .out) (c .before .before .before .before .args .at) (l .rest) (l .end) (l .inv .2) (l .inv .1) (c .loop-test .left))
-
 pub put-digits-spec : {M : Type 1} → statement M
 put-digits-spec =
     tie.close
     (tie.spec
-    Inv-loop
-    μ-loop
-    decimal-len-requires
-    add-end
-    sub-end
-    loop-holds
-    cast-out
-    add-out
-    slice-write-out
-    sub-end-2
-    loop-less
-    loop-again
-    cast-out-2
-    add-out-2
-    slice-write-out-2
-    same-length
-    returns)
+    Inv-loop μ-loop decimal-len-requires add-end sub-end loop-holds cast-out add-out slice-write-out sub-end-2 loop-less
+    loop-again cast-out-2 add-out-2 slice-write-out-2 same-length returns)

@@ -1,8 +1,8 @@
--- `vrf_names::render_index` meets its contract.
+-- `vrf_names::render_index` satisfies its contract.
 use native.Mathlib.Omega.{arith}
-use denote.Ref.{now}
-use borrow.Author.Needs.{needs}
 use lib.ListN.{length}
+use borrow.Author.Needs.{needs}
+use denote.Ref.{now}
 use Rattle.vrf_names.specs.Names.{decimal}
 use Rattle.vrf_names.proofs.Names.{answer-short, answer-fits}
 use Rattle.vrf_names.proofs.render_index.Statement.{statement}
@@ -17,18 +17,14 @@ returns c =
 
 returns-2 : tie.Need-returns-2
 returns-2 c =
-    let counted = c .before .before .before .before .before in
+    let after-put-digits = c .before .before in
+    let counted = after-put-digits .before .before .before in
     let start = counted .before .before in
     let out = now (start .args .out) in
-    answer-fits (length out) (decimal (start .args .n)) out (counted .decimal-len .ensures .0) (omega arith) (omega arith) (c .before .before .put-digits .ensures)
+    answer-fits (length out) (decimal (start .args .n)) out (counted .decimal-len .ensures .0) (omega arith) (omega arith) (after-put-digits .put-digits .ensures)
 
 pub render-index-spec : {M : Type 1} → statement M
 render-index-spec =
     tie.close
     (tie.spec
-    (λ c κs. search needs)
-    (λ c κs. search needs)
-    returns
-    (λ c κs. search needs)
-    (λ c. search needs)
-    returns-2)
+    (λ c κs. search needs) (λ c κs. search needs) returns (λ c κs. search needs) (λ c. search needs) returns-2)

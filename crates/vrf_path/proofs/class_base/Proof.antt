@@ -1,37 +1,30 @@
--- `vrf_path::class_base` meets its contract.
+-- `vrf_path::class_base` satisfies its contract.
 use mathlib.Core.Path.{sym, _∙_}
 use native.Mathlib.Omega.{arith}
-use denote.Ref.{now}
 use lib.ListN.{length}
 use lib.Seq.{take-all}
-use Rattle.vrf_path.specs.Stems.{component, underscoreC}
-use Rattle.vrf_path.specs.BaseLaws.{class-by-t, class-by-C, class-by-others}
 use borrow.Author.Needs.{needs}
+use denote.Ref.{now}
+use Rattle.vrf_path.specs.Stems.{component, underscoreC}
+use Rattle.vrf_path.specs.Laws.Base.{class-by-t, class-by-C, class-by-others}
 use Rattle.vrf_path.proofs.class_base.Statement.{statement}
 use Rattle.vrf_path.proofs.class_base.Tie as tie
 
-last-byte-requires : tie.Need-last-byte-requires
-last-byte-requires c κs = search needs
-
-slice-aggregate-cut-at : tie.Need-slice-aggregate-cut-at
-slice-aggregate-cut-at c = search needs
-
-cut-at-requires : tie.Need-cut-at-requires
-cut-at-requires c κs = search needs
-
-slice-aggregate-cut-at-2 : tie.Need-slice-aggregate-cut-at-2
-slice-aggregate-cut-at-2 c = search needs
-
-cut-at-requires-2 : tie.Need-cut-at-requires-2
-cut-at-requires-2 c κs = search needs
-
 returns : tie.Need-returns
 unfolding component
-returns c = (c .cut-at .ensures .0 ∙ class-by-t (now (c .before .before .before .before .before .args .t)) (sym (c .before .before .before .last-byte .ensures) ∙ c .before .before .match .keys1), c .cut-at .ensures .1)
+returns c =
+    let at-match = c .before .before in
+    let after-last-byte = at-match .before in
+    let start = after-last-byte .before .before in
+    (c .cut-at .ensures .0 ∙ class-by-t (now (start .args .t)) (sym (after-last-byte .last-byte .ensures) ∙ at-match .match .keys1), c .cut-at .ensures .1)
 
 returns-2 : tie.Need-returns-2
 unfolding underscoreC
-returns-2 c = (c .cut-at2 .ensures .0 ∙ class-by-C (now (c .before .before .before .before .before .args .t)) (sym (c .before .before .before .last-byte .ensures) ∙ c .before .before .match .keys2), c .cut-at2 .ensures .1)
+returns-2 c =
+    let at-match = c .before .before in
+    let after-last-byte = at-match .before in
+    let start = after-last-byte .before .before in
+    (c .cut-at2 .ensures .0 ∙ class-by-C (now (start .args .t)) (sym (after-last-byte .last-byte .ensures) ∙ at-match .match .keys2), c .cut-at2 .ensures .1)
 
 returns-3 : tie.Need-returns-3
 returns-3 c =
@@ -43,11 +36,5 @@ pub class-base-spec : {M : Type 1} → statement M
 class-base-spec =
     tie.close
     (tie.spec
-    last-byte-requires
-    slice-aggregate-cut-at
-    cut-at-requires
-    slice-aggregate-cut-at-2
-    cut-at-requires-2
-    returns
-    returns-2
-    returns-3)
+    (λ c κs. search needs) (λ c. search needs) (λ c κs. search needs) (λ c. search needs) (λ c κs. search needs) returns
+    returns-2 returns-3)

@@ -1,23 +1,28 @@
--- `vrf_path::cut_at` meets its contract.
+-- `vrf_path::cut_at` satisfies its contract.
 use mathlib.Core.Path.{sym, _∙_}
 use native.Mathlib.Omega.{arith}
-use denote.Ref.{now}
 use lib.ListN.{length}
 use lib.Seq.{take-all}
-use Rattle.vrf_path.specs.TextLaws.{ends-length}
-use Rattle.vrf_path.specs.BaseLaws.{cut-there, cut-not}
 use borrow.Author.Needs.{needs}
+use denote.Ref.{now}
+use Rattle.vrf_path.specs.Laws.Text.{ends-length}
+use Rattle.vrf_path.specs.Laws.Base.{cut-there, cut-not}
 use Rattle.vrf_path.proofs.cut_at.Statement.{statement}
 use Rattle.vrf_path.proofs.cut_at.Tie as tie
 
-ends-with-requires : tie.Need-ends-with-requires
-ends-with-requires c κs = search needs
-
 sub-result : tie.Need-sub-result
-sub-result c = let x = c .before .before .before .before .args in ends-length (now (x .p)) (now (x .t)) (sym (c .before .ends-with .ensures) ∙ c .if1 .taken)
+sub-result c =
+    let after-ends-with = c .before in
+    let start = after-ends-with .before .before .before in
+    let x = start .args in
+    ends-length (now (x .p)) (now (x .t)) (sym (after-ends-with .ends-with .ensures) ∙ c .if1 .taken)
 
 returns : tie.Need-returns
-returns c = let x = c .before .before .before .before .args in (cut-there (now (x .p)) (now (x .t)) (sym (c .before .ends-with .ensures) ∙ c .if1 .taken), omega arith)
+returns c =
+    let after-ends-with = c .before in
+    let start = after-ends-with .before .before .before in
+    let x = start .args in
+    (cut-there (now (x .p)) (now (x .t)) (sym (after-ends-with .ends-with .ensures) ∙ c .if1 .taken), omega arith)
 
 returns-2 : tie.Need-returns-2
 returns-2 c =
@@ -25,4 +30,4 @@ returns-2 c =
     (take-all (length (now (x .t))) (now (x .t)) (omega arith) ∙ cut-not (now (x .p)) (now (x .t)) (sym (c .before .ends-with .ensures) ∙ c .if1 .left), omega arith)
 
 pub cut-at-spec : {M : Type 1} → statement M
-cut-at-spec = tie.close (tie.spec ends-with-requires sub-result returns returns-2)
+cut-at-spec = tie.close (tie.spec (λ c κs. search needs) sub-result returns returns-2)

@@ -1,40 +1,38 @@
--- `vrf_path::default_object_alias` meets its contract.
+-- `vrf_path::default_object_alias` satisfies its contract.
 use mathlib.Core.Path.{sym, _∙_}
-use denote.Ref.{now}
 use borrow.Author.Needs.{needs}
+use denote.Ref.{now}
 use Rattle.vrf_path.specs.Keys.{defaultPrefix}
-use Rattle.vrf_path.specs.KeysLaws.{default-stripped, default-none, default-prefixed}
+use Rattle.vrf_path.specs.Laws.Keys.{default-stripped, default-none, default-prefixed}
 use Rattle.vrf_path.proofs.default_object_alias.Statement.{statement}
 use Rattle.vrf_path.proofs.default_object_alias.Tie as tie
 
-slice-aggregate-starts-with : tie.Need-slice-aggregate-starts-with
-slice-aggregate-starts-with c = search needs
-
-starts-with-requires : tie.Need-starts-with-requires
-starts-with-requires c κs = search needs
-
 returns : tie.Need-returns
 unfolding defaultPrefix
-returns c = default-stripped (now (c .before .before .before .before .args .path)) (sym (c .before .starts-with .ensures) ∙ c .if1 .taken)
-
-has-path-separator-requires : tie.Need-has-path-separator-requires
-has-path-separator-requires c κs = search needs
+returns c =
+    let after-starts-with = c .before in
+    let start = after-starts-with .before .before .before in
+    default-stripped (now (start .args .path)) (sym (after-starts-with .starts-with .ensures) ∙ c .if1 .taken)
 
 returns-2 : tie.Need-returns-2
 unfolding defaultPrefix
-returns-2 c = default-none (now (c .before .before .before .before .before .before .args .path)) (sym (c .before .before .before .starts-with .ensures) ∙ c .before .before .if1 .left) (sym (c .before .has-path-separator .ensures) ∙ c .if2 .taken)
+returns-2 c =
+    let after-has-path-separator = c .before in
+    let at-if1 = after-has-path-separator .before in
+    let after-starts-with = at-if1 .before in
+    let start = after-starts-with .before .before .before in
+    default-none (now (start .args .path)) (sym (after-starts-with .starts-with .ensures) ∙ at-if1 .if1 .left) (sym (after-has-path-separator .has-path-separator .ensures) ∙ c .if2 .taken)
 
 returns-3 : tie.Need-returns-3
 unfolding defaultPrefix
-returns-3 c = default-prefixed (now (c .before .before .before .before .before .before .args .path)) (sym (c .before .before .before .starts-with .ensures) ∙ c .before .before .if1 .left) (sym (c .before .has-path-separator .ensures) ∙ c .if2 .left)
+returns-3 c =
+    let after-has-path-separator = c .before in
+    let at-if1 = after-has-path-separator .before in
+    let after-starts-with = at-if1 .before in
+    let start = after-starts-with .before .before .before in
+    default-prefixed (now (start .args .path)) (sym (after-starts-with .starts-with .ensures) ∙ at-if1 .if1 .left) (sym (after-has-path-separator .has-path-separator .ensures) ∙ c .if2 .left)
 
 pub default-object-alias-spec : {M : Type 1} → statement M
 default-object-alias-spec =
     tie.close
-    (tie.spec
-    slice-aggregate-starts-with
-    starts-with-requires
-    returns
-    has-path-separator-requires
-    returns-2
-    returns-3)
+    (tie.spec (λ c. search needs) (λ c κs. search needs) returns (λ c κs. search needs) returns-2 returns-3)

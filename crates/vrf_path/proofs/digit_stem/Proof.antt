@@ -1,15 +1,12 @@
--- `vrf_path::digit_stem` meets its contract.
+-- `vrf_path::digit_stem` satisfies its contract.
 use mathlib.Core.Path.{sym, ap, _∙_}
 use native.Mathlib.Omega.{arith}
-use denote.Ref.{now}
 use borrow.Author.Needs.{needs}
+use denote.Ref.{now}
 use Rattle.vrf_path.specs.Stems.{digitStems}
-use Rattle.vrf_path.specs.StemsLaws.{digit-empty, digit-some, digit-none, rule-digits}
+use Rattle.vrf_path.specs.Laws.Stems.{digit-empty, digit-some, digit-none, rule-digits}
 use Rattle.vrf_path.proofs.digit_stem.Statement.{statement}
 use Rattle.vrf_path.proofs.digit_stem.Tie as tie
-
-digits-from-requires : tie.Need-digits-from-requires
-digits-from-requires c κs = search needs
 
 returns : tie.Need-returns
 returns c =
@@ -35,4 +32,4 @@ returns-3 c =
     record { stems = ap (digitStems name) (sym (counted .digits-from .ensures .0)) ∙ digit-none name _ (omega arith) (c .if2 .left); within = omega arith; rule = tt }
 
 pub digit-stem-spec : {M : Type 1} → statement M
-digit-stem-spec = tie.close (tie.spec digits-from-requires returns returns-2 returns-3)
+digit-stem-spec = tie.close (tie.spec (λ c κs. search needs) returns returns-2 returns-3)

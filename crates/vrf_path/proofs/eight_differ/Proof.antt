@@ -1,18 +1,16 @@
--- `vrf_path::eight_differ` meets its contract.
-use denote.Ref.{now}
-use Rattle.vrf_path.proofs.Texts.{eight-told}
+-- `vrf_path::eight_differ` satisfies its contract.
 use borrow.Author.Needs.{needs}
+use denote.Ref.{now}
+use Rattle.vrf_path.proofs.Texts.{eight-outcome}
 use Rattle.vrf_path.proofs.eight_differ.Statement.{statement}
 use Rattle.vrf_path.proofs.eight_differ.Tie as tie
 
-eight-requires : tie.Need-eight-requires
-eight-requires c κs = search needs
-
-eight-requires-2 : tie.Need-eight-requires-2
-eight-requires-2 c κs = search needs
-
 returns : tie.Need-returns
-returns c = let x = c .before .before .before .before .args in rw (c .before .eight .ensures, c .eight2 .ensures) (eight-told (now (x .a)) (now (x .b)) (x .i))
+returns c =
+    let after-eight = c .before in
+    let start = after-eight .before .before .before in
+    let x = start .args in
+    rw (after-eight .eight .ensures, c .eight2 .ensures) (eight-outcome (now (x .a)) (now (x .b)) (x .i))
 
 pub eight-differ-spec : {M : Type 1} → statement M
-eight-differ-spec = tie.close (tie.spec eight-requires eight-requires-2 returns)
+eight-differ-spec = tie.close (tie.spec (λ c κs. search needs) (λ c κs. search needs) returns)

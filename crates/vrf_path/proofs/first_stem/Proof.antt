@@ -1,4 +1,4 @@
--- `vrf_path::first_stem` meets its contract.
+-- `vrf_path::first_stem` satisfies its contract.
 use denote.Ref.{now}
 use Rattle.vrf_path.proofs.Stems.{first}
 use Rattle.vrf_path.proofs.first_stem.Statement.{statement}

@@ -1,4 +1,4 @@
--- `vrf_path::is_capital` meets its contract.
+-- `vrf_path::is_capital` satisfies its contract.
 use Prim.Native.Char.{code}
 use borrow.Author.Tests.{le-leb, lt-leb}
 use Rattle.vrf_path.specs.Stems.{isCapital}

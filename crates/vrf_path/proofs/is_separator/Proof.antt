@@ -1,4 +1,4 @@
--- `vrf_path::is_separator` meets its contract.
+-- `vrf_path::is_separator` satisfies its contract.
 use mathlib.Core.Path.{refl}
 use Rattle.vrf_path.specs.Keys.{isSeparator}
 use Rattle.vrf_path.proofs.is_separator.Statement.{statement}

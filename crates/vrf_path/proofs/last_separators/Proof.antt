@@ -1,27 +1,15 @@
--- `vrf_path::last_separators` meets its contract.
+-- `vrf_path::last_separators` satisfies its contract.
 use mathlib.Core.Path.{_≡_, ap, _∙_}
 use mathlib.Core.Bool.{Bool, _||_, or-false}
 use Prim.Native.Nat.{_+_, _-_}
 use native.Mathlib.Omega.{arith}
-use denote.Ref.{now}
 use lib.ListN.{length, drop}
-use Rattle.vrf_path.specs.Keys.{hasSeparator}
-use Rattle.vrf_path.specs.KeysLaws.{separator-nowhere, separators-or}
 use borrow.Author.Needs.{needs}
+use denote.Ref.{now}
+use Rattle.vrf_path.specs.Keys.{hasSeparator}
+use Rattle.vrf_path.specs.Laws.Keys.{separator-nowhere, separators-or}
 use Rattle.vrf_path.proofs.last_separators.Statement.{statement}
 use Rattle.vrf_path.proofs.last_separators.Tie as tie
-
-left-requires : tie.Need-left-requires
-left-requires c κs = search needs
-
-eight-separators-requires : tie.Need-eight-separators-requires
-eight-separators-requires c κs = search needs
-
-sub-eight-separators : tie.Need-sub-eight-separators
-sub-eight-separators c = search needs
-
-eight-separators-requires-2 : tie.Need-eight-separators-requires-2
-eight-separators-requires-2 c κs = search needs
 
 returns : tie.Need-returns
 returns c =
@@ -34,9 +22,4 @@ returns c =
 pub last-separators-spec : {M : Type 1} → statement M
 last-separators-spec =
     tie.close
-    (tie.spec
-    left-requires
-    eight-separators-requires
-    sub-eight-separators
-    eight-separators-requires-2
-    returns)
+    (tie.spec (λ c κs. search needs) (λ c κs. search needs) (λ c. search needs) (λ c κs. search needs) returns)

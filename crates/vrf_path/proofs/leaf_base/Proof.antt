@@ -1,43 +1,31 @@
--- `vrf_path::leaf_base` meets its contract.
+-- `vrf_path::leaf_base` satisfies its contract.
 use mathlib.Core.Path.{sym, ap, _∙_}
 use Prim.Native.Nat.{_≤_}
 use native.Mathlib.Omega.{arith}
-use denote.Ref.{now}
 use lib.ListN.{length-take}
 use lib.Seq.{take-take}
+use borrow.Author.Needs.{needs}
+use denote.Ref.{now}
 use Rattle.vrf_path.specs.Toggle.{classNetCache}
 use Rattle.vrf_path.specs.Base.{classBase}
-use Rattle.vrf_path.specs.BaseLaws.{leaf-by-e, leaf-by-others}
-use borrow.Author.Needs.{needs}
+use Rattle.vrf_path.specs.Laws.Base.{leaf-by-e, leaf-by-others}
 use Rattle.vrf_path.proofs.leaf_base.Statement.{statement}
 use Rattle.vrf_path.proofs.leaf_base.Tie as tie
-
-last-byte-requires : tie.Need-last-byte-requires
-last-byte-requires c κs = search needs
-
-slice-aggregate-cut-at : tie.Need-slice-aggregate-cut-at
-slice-aggregate-cut-at c = search needs
-
-cut-at-requires : tie.Need-cut-at-requires
-cut-at-requires c κs = search needs
 
 slice-aggregate-class-base : tie.Need-slice-aggregate-class-base
 slice-aggregate-class-base c = rw length-take (omega (arith, c .before .cut-at .ensures .1))
 
-class-base-requires : tie.Need-class-base-requires
-class-base-requires c κs = search needs
-
 returns : tie.Need-returns
 unfolding classNetCache
 returns c =
-    let l = now (c .before .before .before .before .before .before .before .args .l) in
-    let n = c .before .before .cut-at in
+    let after-cut-at = c .before .before in
+    let back = after-cut-at .before .before .before .before in
+    let start = back .before in
+    let l = now (start .args .l) in
+    let n = after-cut-at .cut-at in
     let r = c .class-base .result in
     let few : r ≤ n .result = omega (arith, c .class-base .ensures .1, length-take (n .result) l) in
     (sym (take-take r (n .result) l few) ∙ c .class-base .ensures .0 ∙ ap classBase (n .ensures .0) ∙ leaf-by-e l, omega (arith, few, n .ensures .1))
-
-class-base-requires-2 : tie.Need-class-base-requires-2
-class-base-requires-2 c κs = search needs
 
 returns-2 : tie.Need-returns-2
 returns-2 c =
@@ -48,11 +36,5 @@ pub leaf-base-spec : {M : Type 1} → statement M
 leaf-base-spec =
     tie.close
     (tie.spec
-    last-byte-requires
-    slice-aggregate-cut-at
-    cut-at-requires
-    slice-aggregate-class-base
-    class-base-requires
-    returns
-    class-base-requires-2
-    returns-2)
+    (λ c κs. search needs) (λ c. search needs) (λ c κs. search needs) slice-aggregate-class-base (λ c κs. search needs)
+    returns (λ c κs. search needs) returns-2)

@@ -1,8 +1,8 @@
--- `vrf_table::bucket_of` meets its contract.
-use native.Mathlib.Omega.{arith}
-use native.Mathlib.Nat.{mul-le-mul-right}
+-- `vrf_table::bucket_of` satisfies its contract.
 use mathlib.Core.Path.{refl}
 use Prim.Native.Nat.{_^_}
+use native.Mathlib.Omega.{arith}
+use native.Mathlib.Nat.{mul-le-mul-right}
 use Rattle.vrf_table.specs.Table.{bucket}
 use Rattle.vrf_table.proofs.bucket_of.Statement.{statement}
 use Rattle.vrf_table.proofs.bucket_of.Tie as tie

@@ -1,7 +1,7 @@
--- `vrf_table::eight` meets its contract: the first two words of the rest.
+-- `vrf_table::eight` satisfies its contract: the eight bytes are the first two words of the rest.
 use native.Mathlib.Omega.{arith}
-use denote.Ref.{now}
 use borrow.Author.Needs.{needs}
+use denote.Ref.{now}
 use Rattle.vrf_table.proofs.Hashes.{eight-from}
 use Rattle.vrf_table.proofs.eight.Statement.{statement}
 use Rattle.vrf_table.proofs.eight.Tie as tie
@@ -14,9 +14,4 @@ returns c =
 pub eight-spec : {M : Type 1} → statement M
 eight-spec =
     tie.close
-    (tie.spec
-    (λ c. search needs)
-    (λ c. search needs)
-    (λ c. search needs)
-    (λ c κs. search needs)
-    returns)
+    (tie.spec (λ c. search needs) (λ c. search needs) (λ c. search needs) (λ c κs. search needs) returns)

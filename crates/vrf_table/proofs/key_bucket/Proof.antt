@@ -1,21 +1,15 @@
--- `vrf_table::key_bucket` meets its contract.
+-- `vrf_table::key_bucket` satisfies its contract.
 use mathlib.Core.Path.{_≡_}
 use mathlib.Core.Bool.{true, false}
 use Prim.Native.Nat.{_-_}
-use borrow.Author.Tests.{lt-ltb, le-ltb}
-use lib.Dec.{ltb}
-use Rattle.vrf_table.specs.TableLaws.{bucket-lt}
 use native.Mathlib.Omega.{arith}
-use Rattle.vrf_table.specs.Table.{keyBucket}
+use lib.Dec.{ltb}
 use borrow.Author.Needs.{needs}
+use borrow.Author.Tests.{lt-ltb, le-ltb}
+use Rattle.vrf_table.specs.Table.{keyBucket}
+use Rattle.vrf_table.specs.Laws.Table.{bucket-lt}
 use Rattle.vrf_table.proofs.key_bucket.Statement.{statement}
 use Rattle.vrf_table.proofs.key_bucket.Tie as tie
-
-key-hash-requires : tie.Need-key-hash-requires
-key-hash-requires c κs = search needs
-
-bucket-of-requires : tie.Need-bucket-of-requires
-bucket-of-requires c κs = search needs
 
 returns : tie.Need-returns
 unfolding keyBucket
@@ -24,20 +18,11 @@ returns c =
     let few : ltb (x .b) 4096 ≡ true = lt-ltb _ _ (c .before .before .if1 .taken) in
     rw (few, ← c .before .key-hash .ensures .0) (c .bucket-of .ensures)
 
-key-hash-requires-2 : tie.Need-key-hash-requires-2
-key-hash-requires-2 c κs = search needs
-
-sub-bucket-of : tie.Need-sub-bucket-of
-sub-bucket-of c = search needs
-
-bucket-of-requires-2 : tie.Need-bucket-of-requires-2
-bucket-of-requires-2 c κs = search needs
-
-cast-result : tie.Need-cast-result
-cast-result c = search needs
-
 add-result : tie.Need-add-result
-add-result c = omega (arith, c .bucket-of2 .ensures, bucket-lt (c .before .before .before .args .b - 63) (c .before .key-hash2 .result) (omega arith) (c .before .key-hash2 .ensures .1))
+add-result c =
+    let after-key-hash2 = c .before in
+    let start = after-key-hash2 .before .before in
+    omega (arith, c .bucket-of2 .ensures, bucket-lt (start .args .b - 63) (after-key-hash2 .key-hash2 .result) (omega arith) (after-key-hash2 .key-hash2 .ensures .1))
 
 returns-2 : tie.Need-returns-2
 unfolding keyBucket
@@ -50,12 +35,5 @@ pub key-bucket-spec : {M : Type 1} → statement M
 key-bucket-spec =
     tie.close
     (tie.spec
-    key-hash-requires
-    bucket-of-requires
-    returns
-    key-hash-requires-2
-    sub-bucket-of
-    bucket-of-requires-2
-    cast-result
-    add-result
-    returns-2)
+    (λ c κs. search needs) (λ c κs. search needs) returns (λ c κs. search needs) (λ c. search needs)
+    (λ c κs. search needs) (λ c. search needs) add-result returns-2)

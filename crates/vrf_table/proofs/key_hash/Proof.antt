@@ -1,18 +1,12 @@
--- `vrf_table::key_hash` meets its contract.
+-- `vrf_table::key_hash` satisfies its contract.
 use mathlib.Core.Path.{_≡_}
 use Prim.Native.Nat.{_/_, _%_, _^_}
 use native.Mathlib.Omega.{arith}
+use borrow.Author.Needs.{needs}
 use Rattle.vrf_table.specs.Table.{keyHash}
 use Rattle.vrf_table.proofs.Hashes.{mixed-fits}
-use borrow.Author.Needs.{needs}
 use Rattle.vrf_table.proofs.key_hash.Statement.{statement}
 use Rattle.vrf_table.proofs.key_hash.Tie as tie
-
-mul-result : tie.Need-mul-result
-mul-result c = search needs
-
-mul-result-2 : tie.Need-mul-result-2
-mul-result-2 c = search needs
 
 add-result : tie.Need-add-result
 add-result c = record { fits = mixed-fits (c .args .k % 2 ^ 32) (c .args .k / 2 ^ 32) (omega arith) (omega arith) }
@@ -24,4 +18,4 @@ returns c =
     (rw all, omega arith)
 
 pub key-hash-spec : {M : Type 1} → statement M
-key-hash-spec = tie.close (tie.spec mul-result mul-result-2 add-result returns)
+key-hash-spec = tie.close (tie.spec (λ c. search needs) (λ c. search needs) add-result returns)

@@ -1,50 +1,26 @@
--- `vrf_tally::put_refusal` meets its contract.
+-- `vrf_tally::put_refusal` satisfies its contract.
 use borrow.Author.Needs.{needs}
 use Rattle.vrf_bitio.specs.Ascii.{ascii}
-use Rattle.vrf_tally.specs.Put.{refusal-put}
+use Rattle.vrf_tally.specs.Laws.Printed.{refusal-put}
 use Rattle.vrf_tally.proofs.put_refusal.Statement.{statement}
 use Rattle.vrf_tally.proofs.put_refusal.Tie as tie
-
-slice-aggregate-put-line : tie.Need-slice-aggregate-put-line
-slice-aggregate-put-line c = search needs
-
-cast-put-line : tie.Need-cast-put-line
-cast-put-line c = search needs
-
-put-line-requires : tie.Need-put-line-requires
-put-line-requires c κs = search needs
-
-slice-aggregate-put-line-2 : tie.Need-slice-aggregate-put-line-2
-slice-aggregate-put-line-2 c = search needs
-
-put-line-requires-2 : tie.Need-put-line-requires-2
-put-line-requires-2 c κs = search needs
-
-slice-aggregate-put-line-3 : tie.Need-slice-aggregate-put-line-3
-slice-aggregate-put-line-3 c = search needs
-
-put-line-requires-3 : tie.Need-put-line-requires-3
-put-line-requires-3 c κs = search needs
-
-same-length : tie.Need-same-length
-same-length c = search needs
 
 returns : tie.Need-returns
 unfolding ascii
 returns c =
-    let r = c .before .before .before .before .before .before .before .before .before .before .before .before .before .before .before .before .before .args .r in
-    refusal-put (r .number) (r .a) (r .b) (c .before .before .before .before .before .before .before .before .before .before .before .before .put-line .ensures .1) (c .before .before .before .before .before .before .before .put-line2 .ensures .1) (c .before .before .put-line3 .ensures .1)
+    let after-put-line3 = c .before .before in
+    let back = after-put-line3 .before .before .before .before in
+    let after-put-line2 = back .before in
+    let back2 = after-put-line2 .before .before .before .before in
+    let after-put-line = back2 .before in
+    let back3 = after-put-line .before .before .before .before in
+    let start = back3 .before in
+    let r = start .args .r in
+    refusal-put (r .number) (r .a) (r .b) (after-put-line .put-line .ensures .1) (after-put-line2 .put-line2 .ensures .1) (after-put-line3 .put-line3 .ensures .1)
 
 pub put-refusal-spec : {M : Type 1} → statement M
 put-refusal-spec =
     tie.close
     (tie.spec
-    slice-aggregate-put-line
-    cast-put-line
-    put-line-requires
-    slice-aggregate-put-line-2
-    put-line-requires-2
-    slice-aggregate-put-line-3
-    put-line-requires-3
-    same-length
-    returns)
+    (λ c. search needs) (λ c. search needs) (λ c κs. search needs) (λ c. search needs) (λ c κs. search needs)
+    (λ c. search needs) (λ c κs. search needs) (λ c. search needs) returns)

@@ -1,36 +1,29 @@
--- `vrf_tally::tally` meets its contract.
+-- `vrf_tally::tally` satisfies its contract.
 use native.Mathlib.Omega.{arith}
-use borrow.Author.Needs.{needs}
-use denote.Ref.{now}
-use borrow.Author.Tests.{lt-ltb, le-ltb}
 use lib.ListN.{length}
+use borrow.Author.Needs.{needs}
+use borrow.Author.Tests.{lt-ltb, le-ltb}
+use denote.Ref.{now}
 use Rattle.vrf_tally.specs.Tally.{tally}
 use Rattle.vrf_tally.proofs.tally.Statement.{statement}
 use Rattle.vrf_tally.proofs.tally.Tie as tie
 
-put-refusal-requires : tie.Need-put-refusal-requires
-put-refusal-requires c κs = search needs
-
 returns : tie.Need-returns
 unfolding tally
-returns c = (omega (arith, c .put-refusal .ensures .fits), rw (lt-ltb 65536 (length (now (c .before .before .before .before .args .input))) (c .before .before .if1 .taken)) (c .put-refusal .ensures))
-
-read-requires : tie.Need-read-requires
-read-requires c κs = search needs
-
-put-answer-requires : tie.Need-put-answer-requires
-put-answer-requires c κs = search needs
+returns c =
+    let at-if1 = c .before .before in
+    let start = at-if1 .before .before in
+    (omega (arith, c .put-refusal .ensures .fits), rw (lt-ltb 65536 (length (now (start .args .input))) (at-if1 .if1 .taken)) (c .put-refusal .ensures))
 
 returns-2 : tie.Need-returns-2
 unfolding tally
-returns-2 c = (omega (arith, c .put-answer .ensures .fits), rw (le-ltb 65536 (length (now (c .before .before .before .before .before .args .input))) (c .before .before .before .if1 .left), ← c .before .read .ensures) (c .put-answer .ensures))
+returns-2 c =
+    let after-read = c .before in
+    let at-if1 = after-read .before .before in
+    let start = at-if1 .before .before in
+    (omega (arith, c .put-answer .ensures .fits), rw (le-ltb 65536 (length (now (start .args .input))) (at-if1 .if1 .left), ← after-read .read .ensures) (c .put-answer .ensures))
 
 pub tally-spec : {M : Type 1} → statement M
 tally-spec =
     tie.close
-    (tie.spec
-    put-refusal-requires
-    returns
-    read-requires
-    put-answer-requires
-    returns-2)
+    (tie.spec (λ c κs. search needs) returns (λ c κs. search needs) (λ c κs. search needs) returns-2)

@@ -1,20 +1,14 @@
--- `vrf_text::check_text` meets its contract.
+-- `vrf_text::check_text` satisfies its contract.
 use mathlib.Core.Path.{sym, _∙_}
+use borrow.Author.Needs.{needs}
 use borrow.Author.Tests.{lt-ltb, le-ltb, not-true, not-false}
 use Rattle.vrf_text.specs.Text.{callerText}
-use borrow.Author.Needs.{needs}
 use Rattle.vrf_text.proofs.check_text.Statement.{statement}
 use Rattle.vrf_text.proofs.check_text.Tie as tie
-
-is-utf8-requires : tie.Need-is-utf8-requires
-is-utf8-requires c κs = search needs
 
 returns : tie.Need-returns
 unfolding callerText
 returns c = rw (sym (c .before .is-utf8 .ensures) ∙ not-true _ (c .if1 .taken))
-
-cast-if2 : tie.Need-cast-if2
-cast-if2 c = search needs
 
 returns-2 : tie.Need-returns-2
 unfolding callerText
@@ -25,4 +19,4 @@ unfolding callerText
 returns-3 c = rw (sym (c .before .before .is-utf8 .ensures) ∙ not-false _ (c .before .if1 .left), le-ltb _ _ (c .if2 .left))
 
 pub check-text-spec : {M : Type 1} → statement M
-check-text-spec = tie.close (tie.spec is-utf8-requires returns cast-if2 returns-2 returns-3)
+check-text-spec = tie.close (tie.spec (λ c κs. search needs) returns (λ c. search needs) returns-2 returns-3)

@@ -1,10 +1,10 @@
--- `vrf_text::clear_run` meets its contract: after i bytes, those before it are clear.
-use native.Mathlib.Omega.{arith}
-use denote.Ref.{now}
+-- `vrf_text::clear_run` satisfies its contract: at place i, bit b is 0 in the first i bytes.
 use Prim.Native.Nat.{_-_, _≤_}
+use native.Mathlib.Omega.{arith}
 use lib.ListN.{length}
 use borrow.Author.Tests.{not-false}
-use Rattle.vrf_text.specs.Steps.{Clear}
+use denote.Ref.{now}
+use Rattle.vrf_text.specs.Inner.Steps.{Clear}
 use Rattle.vrf_text.proofs.Walks.{block}
 use Rattle.vrf_text.proofs.clear_run.Statement.{statement}
 use Rattle.vrf_text.proofs.clear_run.Tie as tie
@@ -18,26 +18,8 @@ abbrev μ-loop : tie.MeasureT-loop
 loop-holds : tie.Need-loop-holds Inv-loop μ-loop
 loop-holds c = (omega arith, λ j h. absurd (omega arith))
 
-sub-clear-32 : tie.Need-sub-clear-32 Inv-loop μ-loop
-sub-clear-32 c = omega arith
-
-part-clear-32-start : tie.Need-part-clear-32-start Inv-loop μ-loop
-part-clear-32-start c = omega arith
-
-part-clear-32-end : tie.Need-part-clear-32-end Inv-loop μ-loop
-part-clear-32-end c = omega arith
-
-clear-32-requires : tie.Need-clear-32-requires Inv-loop μ-loop
-clear-32-requires c κs = omega arith
-
 returns : tie.Need-returns Inv-loop μ-loop
 returns c = c .before .before .before .before .loop .inv
-
-add-i : tie.Need-add-i Inv-loop μ-loop
-add-i c = omega arith
-
-loop-less : tie.Need-loop-less Inv-loop μ-loop
-loop-less c = omega arith
 
 loop-again : tie.Need-loop-again Inv-loop μ-loop
 loop-again c = let c1 = c .before in
@@ -53,15 +35,5 @@ pub clear-run-spec : {M : Type 1} → statement M
 clear-run-spec =
     tie.close
     (tie.spec
-    Inv-loop
-    μ-loop
-    loop-holds
-    sub-clear-32
-    part-clear-32-start
-    part-clear-32-end
-    clear-32-requires
-    returns
-    add-i
-    loop-less
-    loop-again
-    returns-2)
+    Inv-loop μ-loop loop-holds (λ c. omega arith) (λ c. omega arith) (λ c. omega arith) (λ c κs. omega arith) returns
+    (λ c. omega arith) (λ c. omega arith) loop-again returns-2)

@@ -1,57 +1,21 @@
--- `vrf_text::find_bytes` meets its contract: each answer by the tests that lead to it.
-use native.Mathlib.Omega.{arith}
-use denote.Ref.{now}
+-- `vrf_text::find_bytes` satisfies its contract: each answer follows from the tests before it.
 use mathlib.Core.Path.{sym}
-use borrow.Author.Tests.{not-true, not-false}
-use Rattle.vrf_bitio.specs.Bits.{bytesOf}
-use Rattle.vrf_bitio.specs.WindowLaws.{bytes-length}
-use Rattle.vrf_text.specs.Steps.{bitAt}
-use Rattle.vrf_text.proofs.Texts.{few, bytes-refused, bytes-reached, bad-text, long-text, good-text, not-utf8, is-utf8}
+use native.Mathlib.Omega.{arith}
 use borrow.Author.Needs.{needs}
+use borrow.Author.Tests.{not-true, not-false}
+use denote.Ref.{now}
+use Rattle.vrf_bitio.specs.Bits.{bytesOf}
+use Rattle.vrf_bitio.specs.Laws.Window.{bytes-length}
+use Rattle.vrf_text.specs.Inner.Steps.{bitAt}
+use Rattle.vrf_text.proofs.Texts.{few, bytes-refused, bytes-reached, bad-text, long-text, good-text, not-utf8, is-utf8}
 use Rattle.vrf_text.proofs.find_bytes.Statement.{statement}
 use Rattle.vrf_text.proofs.find_bytes.Tie as tie
-
-too-long-requires : tie.Need-too-long-requires
-too-long-requires c κs = search needs
 
 returns : tie.Need-returns
 returns c = let c1 = c .before in
     let c3 = c1 .before .before in
     let a = c3 .args in
     bytes-refused (now (a .s)) (a .c) (a .start) (a .n) (a .n) (c1 .too-long .ensures) (c .if1 .taken)
-
-cast-p : tie.Need-cast-p
-cast-p c = search needs
-
-cast-p-2 : tie.Need-cast-p-2
-cast-p-2 c = search needs
-
-add-p : tie.Need-add-p
-add-p c = search needs
-
-sub-bits-at : tie.Need-sub-bits-at
-sub-bits-at c = search needs
-
-cast-bits-at : tie.Need-cast-bits-at
-cast-bits-at c = search needs
-
-mul-bits-at : tie.Need-mul-bits-at
-mul-bits-at c = search needs
-
-add-bits-at : tie.Need-add-bits-at
-add-bits-at c = search needs
-
-bits-at-requires : tie.Need-bits-at-requires
-bits-at-requires c κs = search needs
-
-trimmed-requires : tie.Need-trimmed-requires
-trimmed-requires c κs = search needs
-
-cast-utf8-at : tie.Need-cast-utf8-at
-cast-utf8-at c = search needs
-
-utf8-at-requires : tie.Need-utf8-at-requires
-utf8-at-requires c κs = search needs
 
 returns-2 : tie.Need-returns-2
 returns-2 c = let c1 = c .before in
@@ -63,9 +27,6 @@ returns-2 c = let c1 = c .before in
     let a = c7 .args in
     bad-text _ _ _ _ _ _ (bytes-reached (now (a .s)) (a .c) (a .start) (a .n) (a .n) (c5 .too-long .ensures) (c4 .if1 .left) (c7 .pre) (c3 .bits-at .ensures) (c2 .trimmed .ensures .0))
     (not-utf8 (bytesOf (now (a .s)) (bitAt (a .c)) (c2 .trimmed .result)) (c1 .utf8-at .ensures) (not-true _ (c .if2 .taken)))
-
-cast-t24 : tie.Need-cast-t24
-cast-t24 c = search needs
 
 returns-3 : tie.Need-returns-3
 returns-3 c = let c1 = c .before in
@@ -81,18 +42,22 @@ returns-3 c = let c1 = c .before in
     (sym (bytes-length (now (a .s)) (bitAt (a .c)) (c3 .trimmed .result))) (c .if3 .taken)
 
 mul-t16 : tie.Need-mul-t16
-mul-t16 c = let c5 = c .before .before .before .before .before in
-    let c6 = c5 .before in
-    let c8 = c6 .before .before in
-    let a = c8 .args in
-    omega (arith, few (a .c) (a .n) (c6 .too-long .ensures) (c5 .if1 .left))
+mul-t16 c =
+    let back = c .before .before .before .before in
+    let at-if1 = back .before in
+    let after-too-long = at-if1 .before in
+    let start = after-too-long .before .before in
+    let a = start .args in
+    omega (arith, few (a .c) (a .n) (after-too-long .too-long .ensures) (at-if1 .if1 .left))
 
 add-t26 : tie.Need-add-t26
-add-t26 c = let c5 = c .before .before .before .before .before in
-    let c6 = c5 .before in
-    let c8 = c6 .before .before in
-    let a = c8 .args in
-    omega (arith, few (a .c) (a .n) (c6 .too-long .ensures) (c5 .if1 .left))
+add-t26 c =
+    let back = c .before .before .before .before in
+    let at-if1 = back .before in
+    let after-too-long = at-if1 .before in
+    let start = after-too-long .before .before in
+    let a = start .args in
+    omega (arith, c, few (a .c) (a .n) (after-too-long .too-long .ensures) (at-if1 .if1 .left))
 
 returns-4 : tie.Need-returns-4
 returns-4 c = let c1 = c .before in
@@ -113,22 +78,6 @@ pub find-bytes-spec : {M : Type 1} → statement M
 find-bytes-spec =
     tie.close
     (tie.spec
-    too-long-requires
-    returns
-    cast-p
-    cast-p-2
-    add-p
-    sub-bits-at
-    cast-bits-at
-    mul-bits-at
-    add-bits-at
-    bits-at-requires
-    trimmed-requires
-    cast-utf8-at
-    utf8-at-requires
-    returns-2
-    cast-t24
-    returns-3
-    mul-t16
-    add-t26
-    returns-4)
+    (λ c κs. search needs) returns (λ c. search needs) (λ c. search needs) (λ c. search needs) (λ c. search needs)
+    (λ c. search needs) (λ c. search needs) (λ c. search needs) (λ c κs. search needs) (λ c κs. search needs)
+    (λ c. search needs) (λ c κs. search needs) returns-2 (λ c. search needs) returns-3 mul-t16 add-t26 returns-4)

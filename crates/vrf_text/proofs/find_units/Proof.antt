@@ -1,23 +1,14 @@
--- `vrf_text::find_units` meets its contract: each answer by the tests that lead to it.
-use native.Mathlib.Omega.{arith}
-use denote.Ref.{now}
+-- `vrf_text::find_units` satisfies its contract: each answer follows from the tests before it.
 use mathlib.Core.Path.{subst}
 use Prim.Native.Nat.{_-_, _*_}
-use Rattle.vrf_text.specs.Utf16.{unitsToUtf8}
-use Rattle.vrf_text.specs.Steps.{unitsOf, MeasuredAnswer, bitAt}
-use Rattle.vrf_text.proofs.Texts.{few, units-refused, units-reached, bad-text, long-text, good-text}
+use native.Mathlib.Omega.{arith}
 use borrow.Author.Needs.{needs}
+use denote.Ref.{now}
+use Rattle.vrf_text.specs.Utf16.{unitsToUtf8}
+use Rattle.vrf_text.specs.Inner.Steps.{unitsOf, MeasuredAnswer, bitAt}
+use Rattle.vrf_text.proofs.Texts.{few, units-refused, units-reached, bad-text, long-text, good-text}
 use Rattle.vrf_text.proofs.find_units.Statement.{statement}
 use Rattle.vrf_text.proofs.find_units.Tie as tie
-
-mul-too-long : tie.Need-mul-too-long
-mul-too-long c = search needs
-
-too-long-requires : tie.Need-too-long-requires
-too-long-requires c κs = search needs
-
-sub-t16 : tie.Need-sub-t16
-sub-t16 c = search needs
 
 returns : tie.Need-returns
 returns c = let c1 = c .before in
@@ -25,51 +16,12 @@ returns c = let c1 = c .before in
     let a = c3 .args in
     units-refused (now (a .s)) (a .c) (a .start) (4294967296 - a .n) (a .n) (c1 .too-long .ensures) (c .if1 .taken)
 
-cast-p : tie.Need-cast-p
-cast-p c = search needs
-
-cast-p-2 : tie.Need-cast-p-2
-cast-p-2 c = search needs
-
-add-p : tie.Need-add-p
-add-p c = search needs
-
-sub-bits-at : tie.Need-sub-bits-at
-sub-bits-at c = search needs
-
-cast-bits-at : tie.Need-cast-bits-at
-cast-bits-at c = search needs
-
-mul-bits-at : tie.Need-mul-bits-at
-mul-bits-at c = search needs
-
-add-bits-at : tie.Need-add-bits-at
-add-bits-at c = search needs
-
-bits-at-requires : tie.Need-bits-at-requires
-bits-at-requires c κs = search needs
-
-trimmed-requires : tie.Need-trimmed-requires
-trimmed-requires c κs = search needs
-
-cast-utf16-length : tie.Need-cast-utf16-length
-cast-utf16-length c = search needs
-
 utf16-length-requires : tie.Need-utf16-length-requires
 utf16-length-requires c κs = let c2 = c .before .before in
     let c3 = c2 .before in
     let c5 = c3 .before .before in
     let a = c5 .args in
     omega (arith, few (a .c) (2 * a .n) (c3 .too-long .ensures) (c2 .if1 .left), c .trimmed .ensures .1)
-
-enum-told : tie.Need-enum-told
-enum-told c = search needs
-
-enum-known-len : tie.Need-enum-known-len
-enum-known-len c = search needs
-
-cast-t27 : tie.Need-cast-t27
-cast-t27 c = search needs
 
 returns-2 : tie.Need-returns-2
 returns-2 c = let c2 = c .before .before in
@@ -85,18 +37,22 @@ returns-2 c = let c2 = c .before .before in
     (m .0) (m .1 .0) (m .1 .1) (c .if2 .taken)
 
 mul-t29 : tie.Need-mul-t29
-mul-t29 c = let c7 = c .before .before .before .before .before .before .before in
-    let c8 = c7 .before in
-    let c10 = c8 .before .before in
-    let a = c10 .args in
-    omega (arith, few (a .c) (2 * a .n) (c8 .too-long .ensures) (c7 .if1 .left))
+mul-t29 c =
+    let back = c .before .before .before .before in
+    let at-if1 = back .before .before .before in
+    let after-too-long = at-if1 .before in
+    let start = after-too-long .before .before in
+    let a = start .args in
+    omega (arith, few (a .c) (2 * a .n) (after-too-long .too-long .ensures) (at-if1 .if1 .left))
 
 add-t30 : tie.Need-add-t30
-add-t30 c = let c7 = c .before .before .before .before .before .before .before in
-    let c8 = c7 .before in
-    let c10 = c8 .before .before in
-    let a = c10 .args in
-    omega (arith, few (a .c) (2 * a .n) (c8 .too-long .ensures) (c7 .if1 .left))
+add-t30 c =
+    let back = c .before .before .before .before in
+    let at-if1 = back .before .before .before in
+    let after-too-long = at-if1 .before in
+    let start = after-too-long .before .before in
+    let a = start .args in
+    omega (arith, c, few (a .c) (2 * a .n) (after-too-long .too-long .ensures) (at-if1 .if1 .left))
 
 returns-3 : tie.Need-returns-3
 returns-3 c = let c2 = c .before .before in
@@ -131,26 +87,7 @@ pub find-units-spec : {M : Type 1} → statement M
 find-units-spec =
     tie.close
     (tie.spec
-    mul-too-long
-    too-long-requires
-    sub-t16
-    returns
-    cast-p
-    cast-p-2
-    add-p
-    sub-bits-at
-    cast-bits-at
-    mul-bits-at
-    add-bits-at
-    bits-at-requires
-    trimmed-requires
-    cast-utf16-length
-    utf16-length-requires
-    enum-told
-    enum-known-len
-    cast-t27
-    returns-2
-    mul-t29
-    add-t30
-    returns-3
-    returns-4)
+    (λ c. search needs) (λ c κs. search needs) (λ c. search needs) returns (λ c. search needs) (λ c. search needs)
+    (λ c. search needs) (λ c. search needs) (λ c. search needs) (λ c. search needs) (λ c. search needs)
+    (λ c κs. search needs) (λ c κs. search needs) (λ c. search needs) utf16-length-requires (λ c. search needs)
+    (λ c. search needs) (λ c. search needs) returns-2 mul-t29 add-t30 returns-3 returns-4)

@@ -1,4 +1,4 @@
--- `vrf_text::pick` meets its contract.
+-- `vrf_text::pick` satisfies its contract.
 use borrow.Author.Tests.{eq-eqb, ne-eqb}
 use Rattle.vrf_text.proofs.pick.Statement.{statement}
 use Rattle.vrf_text.proofs.pick.Tie as tie

@@ -1,95 +1,40 @@
--- `vrf_text::put_char` meets its contract: the stores leave the bytes that the character takes.
+-- `vrf_text::put_char` satisfies its contract: the stores write the bytes of the character.
 use native.Mathlib.Omega.{arith}
-use denote.Ref.{now}
 use lib.ListN.{length-set}
-use Rattle.vrf_text.proofs.Puts.{length-1, length-2, length-3, length-4, put-1, put-2, put-3, put-4}
 use borrow.Author.Needs.{needs}
+use denote.Ref.{now}
+use Rattle.vrf_text.proofs.CharWrites.{length-1, length-2, length-3, length-4, put-1, put-2, put-3, put-4}
 use Rattle.vrf_text.proofs.put_char.Statement.{statement}
 use Rattle.vrf_text.proofs.put_char.Tie as tie
-
-cast-out : tie.Need-cast-out
-cast-out c = search needs
 
 slice-write-out : tie.Need-slice-write-out
 slice-write-out c = omega (arith, length-1 (c .before .args .u) (c .if1 .taken))
 
-add-result : tie.Need-add-result
-add-result c = search needs
-
-same-length : tie.Need-same-length
-same-length c = search needs
-
 returns : tie.Need-returns
-returns c = (omega (arith, length-1 (c .before .args .u) (c .if1 .taken)), put-1 (now (c .before .args .out)) (c .before .args .at) (c .before .args .u) (c .before .pre .1) (c .if1 .taken))
-
-add-out : tie.Need-add-out
-add-out c = search needs
-
-cast-out-2 : tie.Need-cast-out-2
-cast-out-2 c = search needs
+returns c =
+    let start = c .before in
+    (omega (arith, length-1 (start .args .u) (c .if1 .taken)), put-1 (now (start .args .out)) (start .args .at) (start .args .u) (start .pre .1) (c .if1 .taken))
 
 slice-write-out-2 : tie.Need-slice-write-out-2
 slice-write-out-2 c = omega (arith, length-2 (c .before .before .args .u) (c .before .if1 .left) (c .if2 .taken))
 
-add-out-2 : tie.Need-add-out-2
-add-out-2 c = search needs
-
-cast-out-3 : tie.Need-cast-out-3
-cast-out-3 c = search needs
-
-add-out-3 : tie.Need-add-out-3
-add-out-3 c = search needs
-
 slice-write-out-3 : tie.Need-slice-write-out-3
 slice-write-out-3 c = simp length-set (omega (arith, length-2 (c .before .before .args .u) (c .before .if1 .left) (c .if2 .taken)))
 
-add-result-2 : tie.Need-add-result-2
-add-result-2 c = search needs
-
-same-length-2 : tie.Need-same-length-2
-same-length-2 c = search needs
-
 returns-2 : tie.Need-returns-2
-returns-2 c = (omega (arith, length-2 (c .before .before .args .u) (c .before .if1 .left) (c .if2 .taken)), put-2 (now (c .before .before .args .out)) (c .before .before .args .at) (c .before .before .args .u) (c .before .before .pre .1) (c .before .if1 .left) (c .if2 .taken))
-
-add-out-4 : tie.Need-add-out-4
-add-out-4 c = search needs
-
-cast-out-4 : tie.Need-cast-out-4
-cast-out-4 c = search needs
+returns-2 c =
+    let at-if1 = c .before in
+    let start = at-if1 .before in
+    (omega (arith, length-2 (start .args .u) (at-if1 .if1 .left) (c .if2 .taken)), put-2 (now (start .args .out)) (start .args .at) (start .args .u) (start .pre .1) (at-if1 .if1 .left) (c .if2 .taken))
 
 slice-write-out-4 : tie.Need-slice-write-out-4
 slice-write-out-4 c = omega (arith, length-3 (c .before .before .before .args .u) (c .before .if2 .left) (c .if3 .taken))
 
-add-out-5 : tie.Need-add-out-5
-add-out-5 c = search needs
-
-cast-out-5 : tie.Need-cast-out-5
-cast-out-5 c = search needs
-
-add-out-6 : tie.Need-add-out-6
-add-out-6 c = search needs
-
 slice-write-out-5 : tie.Need-slice-write-out-5
 slice-write-out-5 c = simp length-set (omega (arith, length-3 (c .before .before .before .args .u) (c .before .if2 .left) (c .if3 .taken)))
 
-add-out-7 : tie.Need-add-out-7
-add-out-7 c = search needs
-
-cast-out-6 : tie.Need-cast-out-6
-cast-out-6 c = search needs
-
-add-out-8 : tie.Need-add-out-8
-add-out-8 c = search needs
-
 slice-write-out-6 : tie.Need-slice-write-out-6
 slice-write-out-6 c = simp length-set (omega (arith, length-3 (c .before .before .before .args .u) (c .before .if2 .left) (c .if3 .taken)))
-
-add-result-3 : tie.Need-add-result-3
-add-result-3 c = search needs
-
-same-length-3 : tie.Need-same-length-3
-same-length-3 c = simp length-set
 
 returns-3 : tie.Need-returns-3
 returns-3 c = let c1 = c .before in
@@ -97,56 +42,17 @@ returns-3 c = let c1 = c .before in
     let a = c3 .args in
     (omega (arith, length-3 (a .u) (c1 .if2 .left) (c .if3 .taken)), put-3 (now (a .out)) (a .at) (a .u) (c3 .pre .1) (c1 .if2 .left) (c .if3 .taken))
 
-add-out-9 : tie.Need-add-out-9
-add-out-9 c = search needs
-
-cast-out-7 : tie.Need-cast-out-7
-cast-out-7 c = search needs
-
 slice-write-out-7 : tie.Need-slice-write-out-7
 slice-write-out-7 c = omega (arith, length-4 (c .before .before .before .args .u) (c .if3 .left))
-
-add-out-10 : tie.Need-add-out-10
-add-out-10 c = search needs
-
-cast-out-8 : tie.Need-cast-out-8
-cast-out-8 c = search needs
-
-add-out-11 : tie.Need-add-out-11
-add-out-11 c = search needs
 
 slice-write-out-8 : tie.Need-slice-write-out-8
 slice-write-out-8 c = simp length-set (omega (arith, length-4 (c .before .before .before .args .u) (c .if3 .left)))
 
-add-out-12 : tie.Need-add-out-12
-add-out-12 c = search needs
-
-cast-out-9 : tie.Need-cast-out-9
-cast-out-9 c = search needs
-
-add-out-13 : tie.Need-add-out-13
-add-out-13 c = search needs
-
 slice-write-out-9 : tie.Need-slice-write-out-9
 slice-write-out-9 c = simp length-set (omega (arith, length-4 (c .before .before .before .args .u) (c .if3 .left)))
 
-add-out-14 : tie.Need-add-out-14
-add-out-14 c = search needs
-
-cast-out-10 : tie.Need-cast-out-10
-cast-out-10 c = search needs
-
-add-out-15 : tie.Need-add-out-15
-add-out-15 c = search needs
-
 slice-write-out-10 : tie.Need-slice-write-out-10
 slice-write-out-10 c = simp length-set (omega (arith, length-4 (c .before .before .before .args .u) (c .if3 .left)))
-
-add-result-4 : tie.Need-add-result-4
-add-result-4 c = search needs
-
-same-length-4 : tie.Need-same-length-4
-same-length-4 c = simp length-set
 
 returns-4 : tie.Need-returns-4
 returns-4 c = let c3 = c .before .before .before in
@@ -157,50 +63,12 @@ pub put-char-spec : {M : Type 1} → statement M
 put-char-spec =
     tie.close
     (tie.spec
-    cast-out
-    slice-write-out
-    add-result
-    same-length
-    returns
-    add-out
-    cast-out-2
-    slice-write-out-2
-    add-out-2
-    cast-out-3
-    add-out-3
-    slice-write-out-3
-    add-result-2
-    same-length-2
-    returns-2
-    add-out-4
-    cast-out-4
-    slice-write-out-4
-    add-out-5
-    cast-out-5
-    add-out-6
-    slice-write-out-5
-    add-out-7
-    cast-out-6
-    add-out-8
-    slice-write-out-6
-    add-result-3
-    same-length-3
-    returns-3
-    add-out-9
-    cast-out-7
-    slice-write-out-7
-    add-out-10
-    cast-out-8
-    add-out-11
-    slice-write-out-8
-    add-out-12
-    cast-out-9
-    add-out-13
-    slice-write-out-9
-    add-out-14
-    cast-out-10
-    add-out-15
-    slice-write-out-10
-    add-result-4
-    same-length-4
-    returns-4)
+    (λ c. search needs) slice-write-out (λ c. search needs) (λ c. search needs) returns (λ c. search needs)
+    (λ c. search needs) slice-write-out-2 (λ c. search needs) (λ c. search needs) (λ c. search needs) slice-write-out-3
+    (λ c. search needs) (λ c. search needs) returns-2 (λ c. search needs) (λ c. search needs) slice-write-out-4
+    (λ c. search needs) (λ c. search needs) (λ c. search needs) slice-write-out-5 (λ c. search needs)
+    (λ c. search needs) (λ c. search needs) slice-write-out-6 (λ c. search needs) (λ c. simp length-set) returns-3
+    (λ c. search needs) (λ c. search needs) slice-write-out-7 (λ c. search needs) (λ c. search needs)
+    (λ c. search needs) slice-write-out-8 (λ c. search needs) (λ c. search needs) (λ c. search needs) slice-write-out-9
+    (λ c. search needs) (λ c. search needs) (λ c. search needs) slice-write-out-10 (λ c. search needs)
+    (λ c. simp length-set) returns-4)

@@ -1,36 +1,23 @@
--- `vrf_text::put_units` meets its contract: at each place, what is decoded so far stands in the first bytes of `out`.
+-- `vrf_text::put_units` satisfies its contract: at each place, `out` begins with what is decoded so far.
+use Prim.Native.Nat.{_+_, _-_, _≤_}
 use native.Mathlib.Omega.{arith}
 use denote.Ref.{now}
-use Prim.Native.Nat.{_+_, _-_, _≤_}
-use Rattle.vrf_text.specs.Steps.{unitsOf}
+use Rattle.vrf_text.specs.Inner.Steps.{unitsOf}
+use Rattle.vrf_text.proofs.Decoding.{DecodeLoop, write-start, advances, fits, write-on, write-end, taken-at}
 use Rattle.vrf_text.proofs.Runs.{units-length}
-use Rattle.vrf_text.proofs.Decoding.{Writing, write-start, goes, fits, write-on, write-end, taken-at}
 use Rattle.vrf_text.proofs.put_units.Statement.{statement}
 use Rattle.vrf_text.proofs.put_units.Tie as tie
 
 abbrev Inv-loop : tie.InvT-loop
-Inv-loop s p n out₀ i₀ at₀ out i at = Writing (unitsOf s p n) out₀ out i at × (i ≤ n + 1)
+Inv-loop s p n out₀ i₀ at₀ out i at = DecodeLoop (unitsOf s p n) out₀ out i at × (i ≤ n + 1)
 
 abbrev μ-loop : tie.MeasureT-loop
 μ-loop s p n out₀ i₀ at₀ out i at = n - i
 
 loop-holds : tie.Need-loop-holds Inv-loop μ-loop
-loop-holds c = (write-start (unitsOf (now (c .before .before .args .s)) (c .before .before .args .p) (c .before .before .args .n)) (now (c .before .before .args .out)), omega arith)
-
-mul-units-at : tie.Need-mul-units-at Inv-loop μ-loop
-mul-units-at c = omega arith
-
-add-units-at : tie.Need-add-units-at Inv-loop μ-loop
-add-units-at c = omega arith
-
-sub-units-at : tie.Need-sub-units-at Inv-loop μ-loop
-sub-units-at c = omega arith
-
-units-at-requires : tie.Need-units-at-requires Inv-loop μ-loop
-units-at-requires c κs = omega arith
-
-char16-requires : tie.Need-char16-requires Inv-loop μ-loop
-char16-requires c κs = tt
+loop-holds c =
+    let start = c .before .before in
+    (write-start (unitsOf (now (start .args .s)) (start .args .p) (start .args .n)) (now (start .args .out)), omega arith)
 
 put-char-requires : tie.Need-put-char-requires Inv-loop μ-loop
 put-char-requires c κs = let c1 = c .before in
@@ -44,20 +31,19 @@ put-char-requires c κs = let c1 = c .before in
           (taken-at (now (a .s)) (a .p) (a .n) (l .i) (c1 .char16 .ensures) (c2 .units-at .ensures)),
     )
 
-add-i : tie.Need-add-i Inv-loop μ-loop
-add-i c = omega arith
-
 loop-less : tie.Need-loop-less Inv-loop μ-loop
-loop-less c = let c5 = c .before .before .before .before .before in
-    let c6 = c5 .before in
-    let c8 = c6 .before .before in
-    let c11 = c8 .before .before .before in
-    let a = c11 .args in
-    let l = c8 .loop in
+loop-less c =
+    let back = c .before .before .before .before in
+    let after-char16 = back .before in
+    let after-units-at = after-char16 .before in
+    let at-loop = after-units-at .before .before in
+    let start = at-loop .before .before .before in
+    let a = start .args in
+    let l = at-loop .loop in
     omega (
       arith,
-      goes (unitsOf (now (a .s)) (a .p) (a .n)) (now (a .out)) (l .out) (l .i) (l .at) (l .inv .0) (c11 .pre .2) (c5 .char16 .result .code) (c5 .char16 .result .units)
-          (taken-at (now (a .s)) (a .p) (a .n) (l .i) (c5 .char16 .ensures) (c6 .units-at .ensures)),
+      advances (unitsOf (now (a .s)) (a .p) (a .n)) (now (a .out)) (l .out) (l .i) (l .at) (l .inv .0) (start .pre .2) (after-char16 .char16 .result .code) (after-char16 .char16 .result .units)
+          (taken-at (now (a .s)) (a .p) (a .n) (l .i) (after-char16 .char16 .ensures) (after-units-at .units-at .ensures)),
     )
 
 loop-again : tie.Need-loop-again Inv-loop μ-loop
@@ -87,17 +73,5 @@ pub put-units-spec : {M : Type 1} → statement M
 put-units-spec =
     tie.close
     (tie.spec
-    Inv-loop
-    μ-loop
-    loop-holds
-    mul-units-at
-    add-units-at
-    sub-units-at
-    units-at-requires
-    char16-requires
-    put-char-requires
-    add-i
-    loop-less
-    loop-again
-    same-length
-    returns)
+    Inv-loop μ-loop loop-holds (λ c. omega arith) (λ c. omega arith) (λ c. omega arith) (λ c κs. omega arith)
+    (λ c κs. tt) put-char-requires (λ c. omega arith) loop-less loop-again same-length returns)

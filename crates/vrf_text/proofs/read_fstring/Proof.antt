@@ -1,23 +1,14 @@
--- `vrf_text::read_fstring` meets its contract: the text where it stands, and then its room.
-use denote.Ref.{now}
+-- `vrf_text::read_fstring` satisfies its contract: it tests the text, and then copies it if the target is long enough.
 use mathlib.Core.Path.{refl, subst}
 use lib.ListN.{length}
+use borrow.Author.Needs.{needs}
+use denote.Ref.{now}
 use Rattle.vrf_bitio.specs.Answers.{readAt}
 use Rattle.vrf_text.specs.Text.{fstring}
-use Rattle.vrf_text.specs.Steps.{FoundAnswer}
+use Rattle.vrf_text.specs.Inner.Steps.{FoundAnswer}
 use Rattle.vrf_text.proofs.Takes.{text-refused, text-then}
-use borrow.Author.Needs.{needs}
 use Rattle.vrf_text.proofs.read_fstring.Statement.{statement}
 use Rattle.vrf_text.proofs.read_fstring.Tie as tie
-
-find-text-requires : tie.Need-find-text-requires
-find-text-requires c κs = search needs
-
-enum-known-r : tie.Need-enum-known-r
-enum-known-r c = search needs
-
-enum-known-at : tie.Need-enum-known-at
-enum-known-at c = search needs
 
 take-bytes-requires : tie.Need-take-bytes-requires
 take-bytes-requires c κs = let c2 = c .before .before in
@@ -25,9 +16,6 @@ take-bytes-requires c κs = let c2 = c .before .before in
     let c7 = c4 .before .before .before in
     let a = c7 .args in
     (subst (FoundAnswer (now (a .s)) (a .c) (readAt (now (a .s)) (a .c) fstring)) (c2 .at .given .1) (c4 .find-text .ensures)) .1
-
-enum-known-at-2 : tie.Need-enum-known-at-2
-enum-known-at-2 c = search needs
 
 take-units-requires : tie.Need-take-units-requires
 take-units-requires c κs = let c2 = c .before .before in
@@ -44,9 +32,6 @@ returns c = let c1 = c .before in
     let a = c6 .args in
     (text-refused (now (a .s)) (a .c) (length (now (a .out))) _ (subst (FoundAnswer (now (a .s)) (a .c) (readAt (now (a .s)) (a .c) fstring)) (c1 .r .given .1) (c3 .find-text .ensures)), refl)
 
-same-length : tie.Need-same-length
-same-length c = search needs
-
 returns-2 : tie.Need-returns-2
 returns-2 c = let c2 = c .before .before in
     let c5 = c2 .before .before .before in
@@ -55,9 +40,6 @@ returns-2 c = let c2 = c .before .before in
     let a = c10 .args in
     let f = subst (FoundAnswer (now (a .s)) (a .c) (readAt (now (a .s)) (a .c) fstring)) (c5 .at .given .1) (c7 .find-text .ensures) in
     text-then (now (a .s)) (a .c) (length (now (a .out))) (f .0) (now (a .out)) (c2 .take-bytes .last .1 .1 .1 .1 .0) (c2 .take-bytes .result) (c2 .take-bytes .ensures)
-
-same-length-2 : tie.Need-same-length-2
-same-length-2 c = search needs
 
 returns-3 : tie.Need-returns-3
 returns-3 c = let c2 = c .before .before in
@@ -72,14 +54,5 @@ pub read-fstring-spec : {M : Type 1} → statement M
 read-fstring-spec =
     tie.close
     (tie.spec
-    find-text-requires
-    enum-known-r
-    enum-known-at
-    take-bytes-requires
-    enum-known-at-2
-    take-units-requires
-    returns
-    same-length
-    returns-2
-    same-length-2
-    returns-3)
+    (λ c κs. search needs) (λ c. search needs) (λ c. search needs) take-bytes-requires (λ c. search needs)
+    take-units-requires returns (λ c. search needs) returns-2 (λ c. search needs) returns-3)

@@ -1,12 +1,9 @@
--- `vrf_text::step` meets its contract: eight ASCII bytes, or four, or one character.
+-- `vrf_text::step` satisfies its contract: it passes eight ASCII bytes, or four, or one character.
 use native.Mathlib.Omega.{arith}
-use Rattle.vrf_text.proofs.Ascii.{ascii-8, ascii-4}
 use borrow.Author.Needs.{needs}
+use Rattle.vrf_text.proofs.Ascii.{ascii-8, ascii-4}
 use Rattle.vrf_text.proofs.step.Statement.{statement}
 use Rattle.vrf_text.proofs.step.Tie as tie
-
-char-len-requires : tie.Need-char-len-requires
-char-len-requires c κs = search needs
 
 returns : tie.Need-returns
 returns c = record { few = omega arith; passed = ascii-8 (c .before .args .w) (c .if1 .taken) }
@@ -18,4 +15,4 @@ returns-3 : tie.Need-returns-3
 returns-3 c = record { few = omega arith; passed = c .char-len .ensures .passed }
 
 pub step-spec : {M : Type 1} → statement M
-step-spec = tie.close (tie.spec char-len-requires returns returns-2 returns-3)
+step-spec = tie.close (tie.spec (λ c κs. search needs) returns returns-2 returns-3)

@@ -1,38 +1,20 @@
--- `vrf_text::take_bytes` meets its contract: where there is room, the copy is not refused.
-use denote.Ref.{now}
+-- `vrf_text::take_bytes` satisfies its contract: if the target is long enough, the copy is not refused.
 use mathlib.Core.Path.{refl, sym}
 use lib.ListN.{length}
-use Rattle.vrf_bitio.specs.Bits.{bytesOf}
-use Rattle.vrf_bitio.specs.WindowLaws.{bytes-length}
-use Rattle.vrf_text.specs.Steps.{bitAt}
-use Rattle.vrf_text.proofs.Takes.{no-room, room, copied-bytes, never-refused}
 use borrow.Author.Needs.{needs}
+use denote.Ref.{now}
+use Rattle.vrf_bitio.specs.Bits.{bytesOf}
+use Rattle.vrf_bitio.specs.Laws.Window.{bytes-length}
+use Rattle.vrf_text.specs.Inner.Steps.{bitAt}
+use Rattle.vrf_text.proofs.Takes.{target-short, space, copied-bytes, never-refused}
 use Rattle.vrf_text.proofs.take_bytes.Statement.{statement}
 use Rattle.vrf_text.proofs.take_bytes.Tie as tie
-
-no-room-requires : tie.Need-no-room-requires
-no-room-requires c κs = search needs
 
 returns : tie.Need-returns
 returns c = let c1 = c .before in
     let c4 = c1 .before .before .before in
     let a = c4 .args in
-    (no-room (now (a .s)) (a .next) (length (now (a .out))) (bytesOf (now (a .s)) (bitAt (a .c)) (a .n)) (a .n) (sym (bytes-length (now (a .s)) (bitAt (a .c)) (a .n))) (c1 .if1 .taken) (c .no-room .ensures), refl)
-
-mul-copy-bits-to : tie.Need-mul-copy-bits-to
-mul-copy-bits-to c = search needs
-
-copy-bits-to-requires : tie.Need-copy-bits-to-requires
-copy-bits-to-requires c κs = search needs
-
-enum-told : tie.Need-enum-told
-enum-told c = search needs
-
-enum-known-r : tie.Need-enum-known-r
-enum-known-r c = search needs
-
-same-length : tie.Need-same-length
-same-length c = search needs
+    (target-short (now (a .s)) (a .next) (length (now (a .out))) (bytesOf (now (a .s)) (bitAt (a .c)) (a .n)) (a .n) (sym (bytes-length (now (a .s)) (bitAt (a .c)) (a .n))) (c1 .if1 .taken) (c .target-short .ensures), refl)
 
 returns-2 : tie.Need-returns-2
 returns-2 c = let c4 = c .before .before .before .before in
@@ -41,7 +23,7 @@ returns-2 c = let c4 = c .before .before .before .before in
     let a = c9 .args in (
       bytesOf (now (a .s)) (bitAt (a .c)) (a .n),
       (
-        room (now (a .s)) (a .next) (length (now (a .out))) (bytesOf (now (a .s)) (bitAt (a .c)) (a .n)) (a .n) (sym (bytes-length (now (a .s)) (bitAt (a .c)) (a .n))) (c6 .if1 .left),
+        space (now (a .s)) (a .next) (length (now (a .out))) (bytesOf (now (a .s)) (bitAt (a .c)) (a .n)) (a .n) (sym (bytes-length (now (a .s)) (bitAt (a .c)) (a .n))) (c6 .if1 .left),
         (
           sym (bytes-length (now (a .s)) (bitAt (a .c)) (a .n)),
           copied-bytes (now (a .s)) (a .c) (length (now (a .out))) (a .n) (c6 .if1 .left) (c9 .pre)
@@ -49,9 +31,6 @@ returns-2 c = let c4 = c .before .before .before .before in
         ),
       ),
     )
-
-same-length-2 : tie.Need-same-length-2
-same-length-2 c = search needs
 
 returns-3 : tie.Need-returns-3
 returns-3 c = let c1 = c .before in
@@ -66,13 +45,5 @@ pub take-bytes-spec : {M : Type 1} → statement M
 take-bytes-spec =
     tie.close
     (tie.spec
-    no-room-requires
-    returns
-    mul-copy-bits-to
-    copy-bits-to-requires
-    enum-told
-    enum-known-r
-    same-length
-    returns-2
-    same-length-2
-    returns-3)
+    (λ c κs. search needs) returns (λ c. search needs) (λ c κs. search needs) (λ c. search needs) (λ c. search needs)
+    (λ c. search needs) returns-2 (λ c. search needs) returns-3)

@@ -1,12 +1,9 @@
--- `vrf_text::trimmed` meets its contract.
+-- `vrf_text::trimmed` satisfies its contract.
 use native.Mathlib.Omega.{arith}
-use borrow.Author.Tests.{eq-eqb, ne-eqb}
 use borrow.Author.Needs.{needs}
+use borrow.Author.Tests.{eq-eqb, ne-eqb}
 use Rattle.vrf_text.proofs.trimmed.Statement.{statement}
 use Rattle.vrf_text.proofs.trimmed.Tie as tie
-
-sub-result : tie.Need-sub-result
-sub-result c = search needs
 
 returns : tie.Need-returns
 returns c = (rw (eq-eqb (c .before .args .last) 0 (c .if1 .taken)), omega arith)
@@ -15,4 +12,4 @@ returns-2 : tie.Need-returns-2
 returns-2 c = (rw (ne-eqb (c .before .args .last) 0 (c .if1 .left)), omega arith)
 
 pub trimmed-spec : {M : Type 1} → statement M
-trimmed-spec = tie.close (tie.spec sub-result returns returns-2)
+trimmed-spec = tie.close (tie.spec (λ c. search needs) returns returns-2)

@@ -1,11 +1,11 @@
--- `vrf_text::utf16_length` meets its contract: at each place, what is decoded so far has `len` bytes.
-use native.Mathlib.Omega.{arith}
-use denote.Ref.{now}
+-- `vrf_text::utf16_length` satisfies its contract: at each place, what is decoded so far has `len` bytes.
 use mathlib.Core.Path.{sym}
 use Prim.Native.Nat.{_+_, _-_, _*_, _≤_}
-use Rattle.vrf_text.specs.Steps.{unitsOf}
-use Rattle.vrf_text.proofs.Runs.{units-length}
+use native.Mathlib.Omega.{arith}
+use denote.Ref.{now}
+use Rattle.vrf_text.specs.Inner.Steps.{unitsOf}
 use Rattle.vrf_text.proofs.Decoding.{Decoding, start, bad, on, end, taken-at}
+use Rattle.vrf_text.proofs.Runs.{units-length}
 use Rattle.vrf_text.proofs.utf16_length.Statement.{statement}
 use Rattle.vrf_text.proofs.utf16_length.Tie as tie
 
@@ -18,21 +18,6 @@ abbrev μ-loop : tie.MeasureT-loop
 loop-holds : tie.Need-loop-holds Inv-loop μ-loop
 loop-holds c = (start (unitsOf (now (c .before .args .s)) (c .before .args .p) (c .before .args .n)), omega arith, omega arith)
 
-mul-units-at : tie.Need-mul-units-at Inv-loop μ-loop
-mul-units-at c = omega arith
-
-add-units-at : tie.Need-add-units-at Inv-loop μ-loop
-add-units-at c = omega arith
-
-sub-units-at : tie.Need-sub-units-at Inv-loop μ-loop
-sub-units-at c = omega arith
-
-units-at-requires : tie.Need-units-at-requires Inv-loop μ-loop
-units-at-requires c κs = omega arith
-
-char16-requires : tie.Need-char16-requires Inv-loop μ-loop
-char16-requires c κs = tt
-
 returns : tie.Need-returns Inv-loop μ-loop
 returns c = let c1 = c .before in
     let c2 = c1 .before in
@@ -43,17 +28,8 @@ returns c = let c1 = c .before in
     bad (unitsOf (now (a .s)) (a .p) (a .n)) (l .i) (l .len) (l .inv .0) (c1 .char16 .result .code) (c1 .char16 .result .units) (c .if1 .taken)
     (taken-at (now (a .s)) (a .p) (a .n) (l .i) (c1 .char16 .ensures) (c2 .units-at .ensures))
 
-utf8-len-requires : tie.Need-utf8-len-requires Inv-loop μ-loop
-utf8-len-requires c κs = tt
-
-add-len : tie.Need-add-len Inv-loop μ-loop
-add-len c = omega (arith, c .utf8-len .ensures .1)
-
 add-i : tie.Need-add-i Inv-loop μ-loop
 add-i c = omega (arith, c .before .before .char16 .ensures .few)
-
-loop-less : tie.Need-loop-less Inv-loop μ-loop
-loop-less c = omega arith
 
 loop-again : tie.Need-loop-again Inv-loop μ-loop
 loop-again c = let c1 = c .before in
@@ -80,18 +56,6 @@ pub utf16-length-spec : {M : Type 1} → statement M
 utf16-length-spec =
     tie.close
     (tie.spec
-    Inv-loop
-    μ-loop
-    loop-holds
-    mul-units-at
-    add-units-at
-    sub-units-at
-    units-at-requires
-    char16-requires
-    returns
-    utf8-len-requires
-    add-len
-    add-i
-    loop-less
-    loop-again
+    Inv-loop μ-loop loop-holds (λ c. omega arith) (λ c. omega arith) (λ c. omega arith) (λ c κs. omega arith)
+    (λ c κs. tt) returns (λ c κs. tt) (λ c. omega (arith, c .utf8-len .ensures .1)) add-i (λ c. omega arith) loop-again
     returns-2)

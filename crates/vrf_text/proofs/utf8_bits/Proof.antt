@@ -1,11 +1,11 @@
--- `vrf_text::utf8_bits` meets its contract: each step passes bytes that decide nothing.
-use native.Mathlib.Omega.{arith}
-use denote.Ref.{now}
+-- `vrf_text::utf8_bits` satisfies its contract: at each place the text is valid if and only if the rest is.
 use mathlib.Core.Path.{_≡_}
 use Prim.Native.Nat.{_-_}
+use native.Mathlib.Omega.{arith}
 use lib.ListN.{drop}
+use denote.Ref.{now}
 use Rattle.vrf_bitio.specs.Bits.{bytesOf}
-use Rattle.vrf_bitio.specs.WindowLaws.{bytes-length}
+use Rattle.vrf_bitio.specs.Laws.Window.{bytes-length}
 use Rattle.vrf_text.specs.Utf8.{utf8}
 use Rattle.vrf_text.proofs.Walks.{bad, on, end, rest-at}
 use Rattle.vrf_text.proofs.utf8_bits.Statement.{statement}
@@ -16,27 +16,6 @@ Inv-loop s p n i₀ i = utf8 (drop i (bytesOf s p n)) ≡ utf8 (bytesOf s p n)
 
 abbrev μ-loop : tie.MeasureT-loop
 μ-loop s p n i₀ i = n - i
-
-ascii-at-requires : tie.Need-ascii-at-requires Inv-loop μ-loop
-ascii-at-requires c κs = omega arith
-
-loop-holds : tie.Need-loop-holds Inv-loop μ-loop
-loop-holds c = c .ascii-at .ensures
-
-mul-word-at : tie.Need-mul-word-at Inv-loop μ-loop
-mul-word-at c = omega arith
-
-add-word-at : tie.Need-add-word-at Inv-loop μ-loop
-add-word-at c = omega arith
-
-sub-word-at : tie.Need-sub-word-at Inv-loop μ-loop
-sub-word-at c = omega arith
-
-word-at-requires : tie.Need-word-at-requires Inv-loop μ-loop
-word-at-requires c κs = tt
-
-step-requires : tie.Need-step-requires Inv-loop μ-loop
-step-requires c κs = tt
 
 returns : tie.Need-returns Inv-loop μ-loop
 returns c = let c1 = c .before in
@@ -49,9 +28,6 @@ returns c = let c1 = c .before in
 
 add-i : tie.Need-add-i Inv-loop μ-loop
 add-i c = omega (arith, c .before .step .ensures .few)
-
-loop-less : tie.Need-loop-less Inv-loop μ-loop
-loop-less c = omega arith
 
 loop-again : tie.Need-loop-again Inv-loop μ-loop
 loop-again c = let c1 = c .before in
@@ -72,17 +48,5 @@ pub utf8-bits-spec : {M : Type 1} → statement M
 utf8-bits-spec =
     tie.close
     (tie.spec
-    Inv-loop
-    μ-loop
-    ascii-at-requires
-    loop-holds
-    mul-word-at
-    add-word-at
-    sub-word-at
-    word-at-requires
-    step-requires
-    returns
-    add-i
-    loop-less
-    loop-again
-    returns-2)
+    Inv-loop μ-loop (λ c κs. omega arith) (λ c. c .ascii-at .ensures) (λ c. omega arith) (λ c. omega arith)
+    (λ c. omega arith) (λ c κs. tt) (λ c κs. tt) returns add-i (λ c. omega arith) loop-again returns-2)

@@ -1,6 +1,6 @@
--- `vrf_text::utf8_len` meets its contract.
+-- `vrf_text::utf8_len` satisfies its contract.
 use native.Mathlib.Omega.{arith}
-use Rattle.vrf_text.proofs.Puts.{length-1, length-2, length-3, length-4}
+use Rattle.vrf_text.proofs.CharWrites.{length-1, length-2, length-3, length-4}
 use Rattle.vrf_text.proofs.utf8_len.Statement.{statement}
 use Rattle.vrf_text.proofs.utf8_len.Tie as tie
 

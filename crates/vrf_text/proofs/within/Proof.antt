@@ -1,4 +1,4 @@
--- `vrf_text::within` meets its contract.
+-- `vrf_text::within` satisfies its contract.
 use borrow.Author.Tests.{le-leb, lt-leb}
 use Rattle.vrf_text.specs.Utf8.{within}
 use Rattle.vrf_text.proofs.within.Statement.{statement}

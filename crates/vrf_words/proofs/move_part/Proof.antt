@@ -1,37 +1,19 @@
--- `vrf_words::move_part` meets its contract: the copy of k bytes grows by one in a turn.
-use native.Mathlib.Omega.{arith}
+-- `vrf_words::move_part` satisfies its contract: after k turns k bytes are copied.
 use Prim.Native.Nat.{_-_}
+use native.Mathlib.Omega.{arith}
 use denote.Ref.{now}
-use Rattle.vrf_words.proofs.Writes.{Copied, copy-start, copy-step, copy-end, unmoved}
+use Rattle.vrf_words.proofs.Writes.{CopyLoop, copy-start, copy-step, copy-end, unmoved}
 use Rattle.vrf_words.proofs.move_part.Statement.{statement}
 use Rattle.vrf_words.proofs.move_part.Tie as tie
 
 abbrev Inv-loop : tie.InvT-loop
-Inv-loop m₀ from to n k₀ m k = Copied m₀ m m₀ to from n k
+Inv-loop m₀ from to n k₀ m k = CopyLoop m₀ m m₀ to from n k
 
 abbrev μ-loop : tie.MeasureT-loop
 μ-loop m₀ from to n k₀ m k = n - k
 
 loop-holds : tie.Need-loop-holds Inv-loop μ-loop
 loop-holds c = copy-start (now (c .args .m)) (now (c .args .m)) (c .args .to) (c .args .from) (c .args .n)
-
-add-m : tie.Need-add-m Inv-loop μ-loop
-add-m c = omega arith
-
-slice-read-m : tie.Need-slice-read-m Inv-loop μ-loop
-slice-read-m c = omega arith
-
-add-m-2 : tie.Need-add-m-2 Inv-loop μ-loop
-add-m-2 c = omega arith
-
-slice-write-m : tie.Need-slice-write-m Inv-loop μ-loop
-slice-write-m c = omega arith
-
-add-k : tie.Need-add-k Inv-loop μ-loop
-add-k c = omega arith
-
-loop-less : tie.Need-loop-less Inv-loop μ-loop
-loop-less c = omega arith
 
 loop-again : tie.Need-loop-again Inv-loop μ-loop
 loop-again c =
@@ -56,15 +38,5 @@ pub move-part-spec : {M : Type 1} → statement M
 move-part-spec =
     tie.close
     (tie.spec
-    Inv-loop
-    μ-loop
-    loop-holds
-    add-m
-    slice-read-m
-    add-m-2
-    slice-write-m
-    add-k
-    loop-less
-    loop-again
-    same-length
-    returns)
+    Inv-loop μ-loop loop-holds (λ c. omega arith) (λ c. omega arith) (λ c. omega arith) (λ c. omega arith)
+    (λ c. omega arith) (λ c. omega arith) loop-again same-length returns)

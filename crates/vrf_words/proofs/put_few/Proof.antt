@@ -1,39 +1,24 @@
--- `vrf_words::put_few` meets its contract: the copy of k bytes grows by one in a turn.
-use native.Mathlib.Omega.{arith}
-use Prim.Native.Nat.{_-_}
+-- `vrf_words::put_few` satisfies its contract: after k turns k bytes are copied.
 use mathlib.Core.Path.{ap, _∙_}
-use denote.Ref.{now}
+use Prim.Native.Nat.{_-_}
+use native.Mathlib.Omega.{arith}
 use native.Mathlib.Nat.{zero-add}
 use lib.ListN.{length, getD}
+use denote.Ref.{now}
 use Rattle.vrf_bitio.specs.Pasted.{pasted}
-use Rattle.vrf_words.specs.WordsLaws.{whole-part}
-use Rattle.vrf_words.proofs.Writes.{Copied, copy-start, copy-step, copy-end}
+use Rattle.vrf_words.specs.Laws.Words.{whole-part}
+use Rattle.vrf_words.proofs.Writes.{CopyLoop, copy-start, copy-step, copy-end}
 use Rattle.vrf_words.proofs.put_few.Statement.{statement}
 use Rattle.vrf_words.proofs.put_few.Tie as tie
 
 abbrev Inv-loop : tie.InvT-loop
-Inv-loop m₀ at t k₀ m k = Copied m₀ m t at 0 (length t) k
+Inv-loop m₀ at t k₀ m k = CopyLoop m₀ m t at 0 (length t) k
 
 abbrev μ-loop : tie.MeasureT-loop
 μ-loop m₀ at t k₀ m k = length t - k
 
 loop-holds : tie.Need-loop-holds Inv-loop μ-loop
 loop-holds c = copy-start (now (c .args .m)) (now (c .args .t)) (c .args .at) 0 (length (now (c .args .t)))
-
-shared-slice-read-m : tie.Need-shared-slice-read-m Inv-loop μ-loop
-shared-slice-read-m c = omega arith
-
-add-m : tie.Need-add-m Inv-loop μ-loop
-add-m c = omega arith
-
-slice-write-m : tie.Need-slice-write-m Inv-loop μ-loop
-slice-write-m c = omega arith
-
-add-k : tie.Need-add-k Inv-loop μ-loop
-add-k c = omega arith
-
-loop-less : tie.Need-loop-less Inv-loop μ-loop
-loop-less c = omega arith
 
 loop-again : tie.Need-loop-again Inv-loop μ-loop
 loop-again c =
@@ -56,14 +41,5 @@ pub put-few-spec : {M : Type 1} → statement M
 put-few-spec =
     tie.close
     (tie.spec
-    Inv-loop
-    μ-loop
-    loop-holds
-    shared-slice-read-m
-    add-m
-    slice-write-m
-    add-k
-    loop-less
-    loop-again
-    same-length
-    returns)
+    Inv-loop μ-loop loop-holds (λ c. omega arith) (λ c. omega arith) (λ c. omega arith) (λ c. omega arith)
+    (λ c. omega arith) loop-again same-length returns)

@@ -1,5 +1,6 @@
-//! Links the ported code where the environment names a folder that has it. The
-//! driver builds without it too: the oracle and its samples need only the Rust.
+//! Links the ported code if the environment names a folder that has it. The
+//! driver also builds without it: the oracle and its samples need only the
+//! Rust.
 
 use std::env;
 use std::path::Path;
@@ -10,8 +11,8 @@ fn main() {
     link("VRF_BENCHLIB", "bench_loops", "has_bench");
 }
 
-/// Links `lib{library}.a` of the folder named by `variable`, and says so to the
-/// sources by `flag`.
+/// Links `lib{library}.a` from the folder that `variable` names, and sets the
+/// cfg `flag` for the sources.
 fn link(variable: &str, library: &str, flag: &str) {
     println!("cargo::rustc-check-cfg=cfg({flag})");
     println!("cargo::rerun-if-env-changed={variable}");

@@ -9,49 +9,10 @@ Inv-loop m sheet texts n sum₀ i₀ sum i = i ≤ n
 abbrev μ-loop : tie.MeasureT-loop
 μ-loop m sheet texts n sum₀ i₀ sum i = n - i
 
-loop-holds : tie.Need-loop-holds Inv-loop μ-loop
-loop-holds c = search needs
-
-row-at-requires : tie.Need-row-at-requires Inv-loop μ-loop
-row-at-requires c κs = search needs
-
-text-of-requires : tie.Need-text-of-requires Inv-loop μ-loop
-text-of-requires c κs = search needs
-
-unique-leaf-match-requires : tie.Need-unique-leaf-match-requires Inv-loop μ-loop
-unique-leaf-match-requires c κs = search needs
-
-hit-requires : tie.Need-hit-requires Inv-loop μ-loop
-hit-requires c κs = search needs
-
-wrapping-add-u64-requires : tie.Need-wrapping-add-u64-requires Inv-loop μ-loop
-wrapping-add-u64-requires c κs = search needs
-
-add-i : tie.Need-add-i Inv-loop μ-loop
-add-i c = search needs
-
-loop-less : tie.Need-loop-less Inv-loop μ-loop
-loop-less c = search needs
-
-loop-again : tie.Need-loop-again Inv-loop μ-loop
-loop-again c = search needs
-
-returns : tie.Need-returns Inv-loop μ-loop
-returns c = search needs
-
 pub by-leaf-spec : {M : Type 1} → statement M
 by-leaf-spec =
     tie.close
     (tie.spec
-    Inv-loop
-    μ-loop
-    loop-holds
-    row-at-requires
-    text-of-requires
-    unique-leaf-match-requires
-    hit-requires
-    wrapping-add-u64-requires
-    add-i
-    loop-less
-    loop-again
-    returns)
+    Inv-loop μ-loop (λ c. search needs) (λ c κs. search needs) (λ c κs. search needs) (λ c κs. search needs)
+    (λ c κs. search needs) (λ c κs. search needs) (λ c. search needs) (λ c. search needs) (λ c. search needs)
+    (λ c. search needs))

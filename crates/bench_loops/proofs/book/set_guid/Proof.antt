@@ -2,35 +2,18 @@ use borrow.Author.Needs.{needs}
 use Rattle.bench_loops.proofs.book.set_guid.Statement.{statement}
 use Rattle.bench_loops.proofs.book.set_guid.Tie as tie
 
-set-net-guid-path-requires : tie.Need-set-net-guid-path-requires
-set-net-guid-path-requires c κs = search needs
-
-enum-told : tie.Need-enum-told
-enum-told c = search needs
-
-enum-told-2 : tie.Need-enum-told-2
-enum-told-2 c = search needs
-
-same-length : tie.Need-same-length
-same-length c = search needs
-
 returns : tie.Need-returns
 returns c = (rw (c .enum-told .given .1) at (c .before .before .before .before .set-net-guid-path .ensures)) .holds .good
 
-same-length-2 : tie.Need-same-length-2
-same-length-2 c = search needs
-
 returns-2 : tie.Need-returns-2
-returns-2 c = rw ((rw (c .enum-told2 .given .1) at (c .before .before .before .before .set-net-guid-path .ensures)) .same) (c .before .before .before .before .before .before .before .before .pre .0)
+returns-2 c =
+    let after-set-net-guid-path = c .before .before .before .before in
+    let start = after-set-net-guid-path .before .before .before .before in
+    rw ((rw (c .enum-told2 .given .1) at (after-set-net-guid-path .set-net-guid-path .ensures)) .same) (start .pre .0)
 
 pub set-guid-spec : {M : Type 1} → statement M
 set-guid-spec =
     tie.close
     (tie.spec
-    set-net-guid-path-requires
-    enum-told
-    enum-told-2
-    same-length
-    returns
-    same-length-2
+    (λ c κs. search needs) (λ c. search needs) (λ c. search needs) (λ c. search needs) returns (λ c. search needs)
     returns-2)

@@ -1,78 +1,69 @@
--- `vrf_cache::fields::set_slot` meets its contract: the cases of `setFieldAt`.
+-- `vrf_cache::fields::set_slot` satisfies its contract: the cases of `setFieldAt`.
 use mathlib.Core.Path.{sym, ap, _∙_}
-use denote.Ref.{now}
 use borrow.Author.Needs.{needs}
-use Rattle.vrf_table.specs.Answers.{entry}
-use Rattle.vrf_store.specs.Stepped.{held}
-use Rattle.vrf_cache.specs.FieldSteps.{slot-free, set-past, set-within, row-known, set-row}
+use denote.Ref.{now}
+use Rattle.vrf_table.specs.Inner.Answers.{entry}
+use Rattle.vrf_store.specs.Inner.Stepped.{held}
+use Rattle.vrf_cache.specs.Laws.Fields.{slot-free, set-past, set-within, row-known, set-row}
 use Rattle.vrf_cache.proofs.fields.set_slot.Statement.{statement}
 use Rattle.vrf_cache.proofs.fields.set_slot.Tie as tie
 
-group-slots-requires : tie.Need-group-slots-requires
-group-slots-requires c κs = search needs
-
-drop-field-requires : tie.Need-drop-field-requires
-drop-field-requires c κs = search needs
-
-same-length : tie.Need-same-length
-same-length c = search needs
-
 returns : tie.Need-returns
 returns c =
-    let args = c .before .before .before .before .before .before .before .before .before .args in
+    let after-drop-field = c .before .before in
+    let at-if1 = after-drop-field .before .before in
+    let after-group-slots = at-if1 .before in
+    let start = after-group-slots .before .before .before .before in
+    let args = start .args in
     let book = held (now (args .m)) in
-    rw (set-past book (args .slot) (args .checksum) (now (args .name)) (args .place) (rw (c .before .before .before .before .before .group-slots .ensures) at (c .before .before .before .before .if1 .taken))) (c .before .before .drop-field .ensures)
-
-find-field-requires : tie.Need-find-field-requires
-find-field-requires c κs = search needs
-
-enum-known-e : tie.Need-enum-known-e
-enum-known-e c = search needs
+    rw (set-past book (args .slot) (args .checksum) (now (args .name)) (args .place) (rw (after-group-slots .group-slots .ensures) at (at-if1 .if1 .taken))) (after-drop-field .drop-field .ensures)
 
 change-field-requires : tie.Need-change-field-requires
 change-field-requires c κs =
-    let start = c .before .before .before .before .before .before .before .before .before .before .before .args in
-    record { good = c .before .before .before .before .before .before .before .before .before .before .before .pre .0; isText = c .before .before .before .before .before .before .before .before .before .before .before .pre .1; known = row-known (c .before .before .before .before .before .before .before .before .before .before .before .pre .0) (start .place) (rw (c .before .before .before .before .before .before .before .group-slots .ensures) at (c .before .before .before .before .before .before .if1 .left)) (sym (c .before .before .before .before .find-field .ensures) ∙ ap entry (c .before .before .e .given .1)) }
-
-enum-told : tie.Need-enum-told
-enum-told c = search needs
+    let at-e = c .before .before in
+    let after-find-field = at-e .before .before in
+    let at-if1 = after-find-field .before .before in
+    let after-group-slots = at-if1 .before in
+    let at-start = after-group-slots .before .before .before .before in
+    let start = at-start .args in
+    record { good = at-start .pre .0; isText = at-start .pre .1; known = row-known (at-start .pre .0) (start .place) (rw (after-group-slots .group-slots .ensures) at (at-if1 .if1 .left)) (sym (after-find-field .find-field .ensures) ∙ ap entry (at-e .e .given .1)) }
 
 add-field-requires : tie.Need-add-field-requires
 add-field-requires c κs =
-    let there = rw (c .before .before .before .before .before .before .group-slots .ensures) at (c .before .before .before .before .before .if1 .left) in
-    record { good = c .before .before .before .before .before .before .before .before .before .before .pre .0; isText = c .before .before .before .before .before .before .before .before .before .before .pre .1; slot-in = there; free = slot-free (c .before .before .before .before .before .before .before .before .before .before .pre .0) (c .before .before .before .before .before .before .before .before .before .before .args .place) there (sym (c .before .before .before .find-field .ensures) ∙ ap entry (c .before .enum-told .given .1)) }
-
-same-length-2 : tie.Need-same-length-2
-same-length-2 c = search needs
+    let at-enum-told = c .before in
+    let after-find-field = at-enum-told .before .before in
+    let at-if1 = after-find-field .before .before in
+    let after-group-slots = at-if1 .before in
+    let start = after-group-slots .before .before .before .before in
+    let there = rw (after-group-slots .group-slots .ensures) at (at-if1 .if1 .left) in
+    record { good = start .pre .0; isText = start .pre .1; slot-in = there; free = slot-free (start .pre .0) (start .args .place) there (sym (after-find-field .find-field .ensures) ∙ ap entry (at-enum-told .enum-told .given .1)) }
 
 returns-2 : tie.Need-returns-2
 returns-2 c =
-    let args = c .before .before .before .before .before .before .before .before .before .before .before .before .before .before .args in
-    rw (set-row (c .before .before .before .before .before .before .before .before .before .before .before .before .before .before .pre .0) (args .place) (rw (c .before .before .before .before .before .before .before .before .before .before .group-slots .ensures) at (c .before .before .before .before .before .before .before .before .before .if1 .left)) (sym (c .before .before .before .before .before .before .before .find-field .ensures) ∙ ap entry (c .before .before .before .before .before .e .given .1)) (args .checksum) (now (args .name))) (c .before .before .change-field .ensures)
-
-same-length-3 : tie.Need-same-length-3
-same-length-3 c = search needs
+    let after-change-field = c .before .before in
+    let at-e = after-change-field .before .before .before in
+    let after-find-field = at-e .before .before in
+    let at-if1 = after-find-field .before .before in
+    let after-group-slots = at-if1 .before in
+    let start = after-group-slots .before .before .before .before in
+    let args = start .args in
+    rw (set-row (start .pre .0) (args .place) (rw (after-group-slots .group-slots .ensures) at (at-if1 .if1 .left)) (sym (after-find-field .find-field .ensures) ∙ ap entry (at-e .e .given .1)) (args .checksum) (now (args .name))) (after-change-field .change-field .ensures)
 
 returns-3 : tie.Need-returns-3
 returns-3 c =
-    let args = c .before .before .before .before .before .before .before .before .before .before .before .before .before .args in
+    let after-add-field = c .before .before in
+    let back = after-add-field .before .before .before .before in
+    let at-if1 = back .before .before in
+    let after-group-slots = at-if1 .before in
+    let start = after-group-slots .before .before .before .before in
+    let args = start .args in
     let book = held (now (args .m)) in
-    rw (set-within book (args .slot) (args .checksum) (now (args .name)) (args .place) (rw (c .before .before .before .before .before .before .before .before .before .group-slots .ensures) at (c .before .before .before .before .before .before .before .before .if1 .left))) (c .before .before .add-field .ensures)
+    rw (set-within book (args .slot) (args .checksum) (now (args .name)) (args .place) (rw (after-group-slots .group-slots .ensures) at (at-if1 .if1 .left))) (after-add-field .add-field .ensures)
 
 pub set-slot-spec : {M : Type 1} → statement M
 set-slot-spec =
     tie.close
     (tie.spec
-    group-slots-requires
-    drop-field-requires
-    same-length
-    returns
-    find-field-requires
-    enum-known-e
-    change-field-requires
-    enum-told
-    add-field-requires
-    same-length-2
-    returns-2
-    same-length-3
+    (λ c κs. search needs) (λ c κs. search needs) (λ c. search needs) returns (λ c κs. search needs) (λ c. search needs)
+    change-field-requires (λ c. search needs) add-field-requires (λ c. search needs) returns-2 (λ c. search needs)
     returns-3)

@@ -1,15 +1,12 @@
--- `vrf_cache::full::passed` meets its contract: its tests are those of `passedBy`.
+-- `vrf_cache::full::passed` satisfies its contract: its tests are those of `passedBy`.
 use native.Mathlib.Omega.{arith}
-use denote.Ref.{now}
 use borrow.Author.Needs.{needs}
 use borrow.Author.Tests.{lt-ltb, le-ltb}
+use denote.Ref.{now}
 use Rattle.vrf_store.specs.Store.{allowancesOf}
-use Rattle.vrf_cache.specs.Passed.{passedBy}
+use Rattle.vrf_cache.specs.Inner.Passed.{passedBy}
 use Rattle.vrf_cache.proofs.full.passed.Statement.{statement}
 use Rattle.vrf_cache.proofs.full.passed.Tie as tie
-
-guids-allowed-requires : tie.Need-guids-allowed-requires
-guids-allowed-requires c κs = search needs
 
 returns : tie.Need-returns
 unfolding passedBy
@@ -18,40 +15,41 @@ returns c =
     let a = allowancesOf (now (args .m)) in
     rw (lt-ltb (a .guids) (args .guids) (omega arith))
 
-groups-allowed-requires : tie.Need-groups-allowed-requires
-groups-allowed-requires c κs = search needs
-
 returns-2 : tie.Need-returns-2
 unfolding passedBy
 returns-2 c =
-    let args = c .before .before .before .before .before .args in
+    let back = c .before .before .before .before in
+    let start = back .before in
+    let args = start .args in
     let a = allowancesOf (now (args .m)) in
     rw (le-ltb (a .guids) (args .guids) (omega arith), lt-ltb (a .groups) (args .groups) (omega arith))
-
-fields-allowed-requires : tie.Need-fields-allowed-requires
-fields-allowed-requires c κs = search needs
 
 returns-3 : tie.Need-returns-3
 unfolding passedBy
 returns-3 c =
-    let args = c .before .before .before .before .before .before .before .args in
+    let back = c .before .before .before .before in
+    let start = back .before .before .before in
+    let args = start .args in
     let a = allowancesOf (now (args .m)) in
     rw (le-ltb (a .guids) (args .guids) (omega arith), le-ltb (a .groups) (args .groups) (omega arith), lt-ltb (a .fields) (args .fields) (omega arith))
-
-text-allowed-requires : tie.Need-text-allowed-requires
-text-allowed-requires c κs = search needs
 
 returns-4 : tie.Need-returns-4
 unfolding passedBy
 returns-4 c =
-    let args = c .before .before .before .before .before .before .before .before .before .args in
+    let back = c .before .before .before .before in
+    let back2 = back .before .before .before .before in
+    let start = back2 .before in
+    let args = start .args in
     let a = allowancesOf (now (args .m)) in
     rw (le-ltb (a .guids) (args .guids) (omega arith), le-ltb (a .groups) (args .groups) (omega arith), le-ltb (a .fields) (args .fields) (omega arith), lt-ltb (a .text) (args .text) (omega arith))
 
 returns-5 : tie.Need-returns-5
 unfolding passedBy
 returns-5 c =
-    let args = c .before .before .before .before .before .before .before .before .before .args in
+    let back = c .before .before .before .before in
+    let back2 = back .before .before .before .before in
+    let start = back2 .before in
+    let args = start .args in
     let a = allowancesOf (now (args .m)) in
     rw (le-ltb (a .guids) (args .guids) (omega arith), le-ltb (a .groups) (args .groups) (omega arith), le-ltb (a .fields) (args .fields) (omega arith), le-ltb (a .text) (args .text) (omega arith))
 
@@ -59,12 +57,5 @@ pub passed-spec : {M : Type 1} → statement M
 passed-spec =
     tie.close
     (tie.spec
-    guids-allowed-requires
-    returns
-    groups-allowed-requires
-    returns-2
-    fields-allowed-requires
-    returns-3
-    text-allowed-requires
-    returns-4
-    returns-5)
+    (λ c κs. search needs) returns (λ c κs. search needs) returns-2 (λ c κs. search needs) returns-3
+    (λ c κs. search needs) returns-4 returns-5)

@@ -1,50 +1,39 @@
--- `vrf_cache::groups::add_export_group` meets its contract: the path is found, or not.
+-- `vrf_cache::groups::add_export_group` satisfies its contract: the path is found, or not.
 use mathlib.Core.Path.{sym, ap, _∙_}
-use denote.Ref.{now}
 use borrow.Author.Needs.{needs}
-use Rattle.vrf_table.specs.Answers.{entry}
-use Rattle.vrf_store.specs.Stepped.{held}
-use Rattle.vrf_cache.specs.GroupAdded.{path-found, added-by}
+use denote.Ref.{now}
+use Rattle.vrf_table.specs.Inner.Answers.{entry}
+use Rattle.vrf_store.specs.Inner.Stepped.{held}
+use Rattle.vrf_cache.specs.Laws.Groups.Added.{path-found, added-by}
 use Rattle.vrf_cache.proofs.groups.add_export_group.Statement.{statement}
 use Rattle.vrf_cache.proofs.groups.add_export_group.Tie as tie
 
-find-path-place-requires : tie.Need-find-path-place-requires
-find-path-place-requires c κs = search needs
-
-enum-known-e : tie.Need-enum-known-e
-enum-known-e c = search needs
-
 merge-at-requires : tie.Need-merge-at-requires
-merge-at-requires c κs = path-found (c .before .before .before .before .before .before .before .before .pre) (sym (ap entry (c .before .before .e .given .1)) ∙ c .before .before .before .before .find-path-place .ensures)
-
-enum-told : tie.Need-enum-told
-enum-told c = search needs
-
-add-unknown-requires : tie.Need-add-unknown-requires
-add-unknown-requires c κs = search needs
-
-same-length : tie.Need-same-length
-same-length c = search needs
+merge-at-requires c κs =
+    let at-e = c .before .before in
+    let after-find-path-place = at-e .before .before in
+    let start = after-find-path-place .before .before .before .before in
+    path-found (start .pre) (sym (ap entry (at-e .e .given .1)) ∙ after-find-path-place .find-path-place .ensures)
 
 returns : tie.Need-returns
-returns c = rw (added-by (now (c .before .before .before .before .before .before .before .before .before .before .before .args .path)) (c .before .before .before .before .before .before .before .before .before .before .before .args .index) (c .before .before .before .before .before .before .before .before .before .before .before .args .slots) (held (now (c .before .before .before .before .before .before .before .before .before .before .before .args .m))) (sym (ap entry (c .before .before .before .before .before .e .given .1)) ∙ c .before .before .before .before .before .before .before .find-path-place .ensures)) (c .before .before .merge-at .ensures)
-
-same-length-2 : tie.Need-same-length-2
-same-length-2 c = search needs
+returns c =
+    let after-merge-at = c .before .before in
+    let at-e = after-merge-at .before .before .before in
+    let after-find-path-place = at-e .before .before in
+    let start = after-find-path-place .before .before .before .before in
+    rw (added-by (now (start .args .path)) (start .args .index) (start .args .slots) (held (now (start .args .m))) (sym (ap entry (at-e .e .given .1)) ∙ after-find-path-place .find-path-place .ensures)) (after-merge-at .merge-at .ensures)
 
 returns-2 : tie.Need-returns-2
-returns-2 c = rw (added-by (now (c .before .before .before .before .before .before .before .before .before .before .args .path)) (c .before .before .before .before .before .before .before .before .before .before .args .index) (c .before .before .before .before .before .before .before .before .before .before .args .slots) (held (now (c .before .before .before .before .before .before .before .before .before .before .args .m))) (sym (ap entry (c .before .before .before .before .enum-told .given .1)) ∙ c .before .before .before .before .before .before .find-path-place .ensures)) (c .before .before .add-unknown .ensures)
+returns-2 c =
+    let after-add-unknown = c .before .before in
+    let at-enum-told = after-add-unknown .before .before in
+    let after-find-path-place = at-enum-told .before .before in
+    let start = after-find-path-place .before .before .before .before in
+    rw (added-by (now (start .args .path)) (start .args .index) (start .args .slots) (held (now (start .args .m))) (sym (ap entry (at-enum-told .enum-told .given .1)) ∙ after-find-path-place .find-path-place .ensures)) (after-add-unknown .add-unknown .ensures)
 
 pub add-export-group-spec : {M : Type 1} → statement M
 add-export-group-spec =
     tie.close
     (tie.spec
-    find-path-place-requires
-    enum-known-e
-    merge-at-requires
-    enum-told
-    add-unknown-requires
-    same-length
-    returns
-    same-length-2
-    returns-2)
+    (λ c κs. search needs) (λ c. search needs) merge-at-requires (λ c. search needs) (λ c κs. search needs)
+    (λ c. search needs) returns (λ c. search needs) returns-2)

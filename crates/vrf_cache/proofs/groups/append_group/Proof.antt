@@ -1,55 +1,46 @@
--- `vrf_cache::groups::append_group` meets its contract, by the laws of a group more.
+-- `vrf_cache::groups::append_group` satisfies its contract, by the laws about one more group.
 use mathlib.Core.Path.{refl}
 use borrow.Author.Needs.{needs}
-use Rattle.vrf_cache.specs.GroupSteps.{new-full, new-room, new-group, new-taken}
+use Rattle.vrf_cache.specs.Laws.Groups.Steps.{new-full, new-space, new-group, new-taken}
 use Rattle.vrf_cache.proofs.groups.append_group.Statement.{statement}
 use Rattle.vrf_cache.proofs.groups.append_group.Tie as tie
 
-passes-requires : tie.Need-passes-requires
-passes-requires c κs = search needs
-
-full-requires : tie.Need-full-requires
-full-requires c κs = search needs
-
-same-length : tie.Need-same-length
-same-length c = search needs
-
 returns : tie.Need-returns
-returns c = rw (c .full .ensures) (new-full (c .before .before .before .before .before .before .pre) (c .before .before .passes .ensures) (c .before .if1 .taken) refl)
-
-groups-requires : tie.Need-groups-requires
-groups-requires c κs = search needs
+returns c =
+    let at-if1 = c .before in
+    let after-passes = at-if1 .before in
+    let start = after-passes .before .before .before .before in
+    rw (c .full .ensures) (new-full (start .pre) (after-passes .passes .ensures) (at-if1 .if1 .taken) refl)
 
 keep-text-requires : tie.Need-keep-text-requires
-keep-text-requires c κs = (c .before .before .before .before .before .before .before .before .pre .good, new-room (c .before .before .before .before .before .before .before .before .pre) (c .before .before .before .before .passes .ensures) (c .before .before .before .if1 .left))
-
-cast-push-group : tie.Need-cast-push-group
-cast-push-group c = search needs
+keep-text-requires c κs =
+    let at-if1 = c .before .before .before in
+    let after-passes = at-if1 .before in
+    let start = after-passes .before .before .before .before in
+    (start .pre .good, new-space (start .pre) (after-passes .passes .ensures) (at-if1 .if1 .left))
 
 push-group-requires : tie.Need-push-group-requires
-push-group-requires c κs = new-group (c .before .before .before .before .before .before .before .before .before .before .before .before .pre) (c .before .before .before .before .before .before .before .before .passes .ensures) (c .before .before .before .before .before .before .before .if1 .left) (c .before .before .before .keep-text .ensures)
-
-step-schema-requires : tie.Need-step-schema-requires
-step-schema-requires c κs = search needs
-
-same-length-2 : tie.Need-same-length-2
-same-length-2 c = search needs
+push-group-requires c κs =
+    let after-keep-text = c .before .before .before in
+    let at-if1 = after-keep-text .before .before .before .before in
+    let after-passes = at-if1 .before in
+    let start = after-passes .before .before .before .before in
+    new-group (start .pre) (after-passes .passes .ensures) (at-if1 .if1 .left) (after-keep-text .keep-text .ensures)
 
 returns-2 : tie.Need-returns-2
-returns-2 c = new-taken (c .before .before .before .before .before .before .before .before .before .before .before .before .before .before .before .before .before .before .before .pre) (c .before .before .before .before .before .before .before .before .before .before .before .before .before .before .before .passes .ensures) (c .before .before .before .before .before .before .before .before .before .before .before .before .before .before .if1 .left) (c .before .before .before .before .before .before .before .before .before .before .keep-text .ensures) (c .before .before .before .before .before .before .before .before .before .before .before .before .groups .ensures) (c .before .before .before .before .before .before .push-group .ensures) (c .before .before .step-schema .ensures)
+returns-2 c =
+    let after-step-schema = c .before .before in
+    let after-push-group = after-step-schema .before .before .before .before in
+    let after-keep-text = after-push-group .before .before .before .before in
+    let after-groups = after-keep-text .before .before in
+    let at-if1 = after-groups .before .before in
+    let after-passes = at-if1 .before in
+    let start = after-passes .before .before .before .before in
+    new-taken (start .pre) (after-passes .passes .ensures) (at-if1 .if1 .left) (after-keep-text .keep-text .ensures) (after-groups .groups .ensures) (after-push-group .push-group .ensures) (after-step-schema .step-schema .ensures)
 
 pub append-group-spec : {M : Type 1} → statement M
 append-group-spec =
     tie.close
     (tie.spec
-    passes-requires
-    full-requires
-    same-length
-    returns
-    groups-requires
-    keep-text-requires
-    cast-push-group
-    push-group-requires
-    step-schema-requires
-    same-length-2
-    returns-2)
+    (λ c κs. search needs) (λ c κs. search needs) (λ c. search needs) returns (λ c κs. search needs) keep-text-requires
+    (λ c. search needs) push-group-requires (λ c κs. search needs) (λ c. search needs) returns-2)

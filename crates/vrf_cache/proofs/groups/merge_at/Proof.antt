@@ -1,56 +1,53 @@
--- `vrf_cache::groups::merge_at` meets its contract: the cases of `addGroupAt` where the path is found.
+-- `vrf_cache::groups::merge_at` satisfies its contract: the cases of `addGroupAt` where the path is found.
 use mathlib.Core.Path.{refl, sym, ap, _∙_}
 use borrow.Author.Needs.{needs}
-use Rattle.vrf_table.specs.Answers.{entry}
-use Rattle.vrf_cache.specs.GroupAdded.{merge-asked, merged-by, crossed-by}
+use Rattle.vrf_table.specs.Inner.Answers.{entry}
+use Rattle.vrf_cache.specs.Laws.Groups.Added.{merge-asked, merged-by, crossed-by}
 use Rattle.vrf_cache.proofs.groups.merge_at.Statement.{statement}
 use Rattle.vrf_cache.proofs.groups.merge_at.Tie as tie
 
-find-index-requires : tie.Need-find-index-requires
-find-index-requires c κs = search needs
-
-enum-known-j : tie.Need-enum-known-j
-enum-known-j c = search needs
-
 merge-group-requires : tie.Need-merge-group-requires
-merge-group-requires c κs = merge-asked (c .before .before .before .before .before .before .before .before .before .args .index) (c .before .before .before .before .before .before .before .before .before .pre) (sym (ap entry (c .before .before .before .j .given .1)) ∙ c .before .before .before .before .before .find-index .ensures) (sym (c .before .if1 .taken))
-
-same-length : tie.Need-same-length
-same-length c = search needs
+merge-group-requires c κs =
+    let at-if1 = c .before in
+    let at-j = at-if1 .before .before in
+    let after-find-index = at-j .before .before in
+    let start = after-find-index .before .before .before .before in
+    merge-asked (start .args .index) (start .pre) (sym (ap entry (at-j .j .given .1)) ∙ after-find-index .find-index .ensures) (sym (at-if1 .if1 .taken))
 
 returns : tie.Need-returns
-returns c = rw (merged-by (c .before .before .before .before .before .before .before .before .before .before .before .before .args .index) (c .before .before .before .before .before .before .before .before .before .before .before .before .pre) (merge-asked (c .before .before .before .before .before .before .before .before .before .before .before .before .args .index) (c .before .before .before .before .before .before .before .before .before .before .before .before .pre) (sym (ap entry (c .before .before .before .before .before .before .j .given .1)) ∙ c .before .before .before .before .before .before .before .before .find-index .ensures) (sym (c .before .before .before .before .if1 .taken)) .free)) (c .before .before .merge-group .ensures)
-
-enum-told : tie.Need-enum-told
-enum-told c = search needs
+returns c =
+    let after-merge-group = c .before .before in
+    let at-if1 = after-merge-group .before .before in
+    let at-j = at-if1 .before .before in
+    let after-find-index = at-j .before .before in
+    let start = after-find-index .before .before .before .before in
+    rw (merged-by (start .args .index) (start .pre) (merge-asked (start .args .index) (start .pre) (sym (ap entry (at-j .j .given .1)) ∙ after-find-index .find-index .ensures) (sym (at-if1 .if1 .taken)) .free)) (after-merge-group .merge-group .ensures)
 
 merge-group-requires-2 : tie.Need-merge-group-requires-2
-merge-group-requires-2 c κs = merge-asked (c .before .before .before .before .before .before .before .args .index) (c .before .before .before .before .before .before .before .pre) (sym (ap entry (c .before .enum-told .given .1)) ∙ c .before .before .before .find-index .ensures) tt
-
-same-length-2 : tie.Need-same-length-2
-same-length-2 c = search needs
+merge-group-requires-2 c κs =
+    let at-enum-told = c .before in
+    let after-find-index = at-enum-told .before .before in
+    let start = after-find-index .before .before .before .before in
+    merge-asked (start .args .index) (start .pre) (sym (ap entry (at-enum-told .enum-told .given .1)) ∙ after-find-index .find-index .ensures) tt
 
 returns-2 : tie.Need-returns-2
-returns-2 c = record { step = crossed-by (c .before .before .before .before .before .before .before .before .args .index) (c .before .before .before .before .before .before .before .before .pre) (sym (ap entry (c .before .before .j .given .1)) ∙ c .before .before .before .before .find-index .ensures) (c .if1 .left); same = refl }
-
-same-length-3 : tie.Need-same-length-3
-same-length-3 c = search needs
+returns-2 c =
+    let at-j = c .before .before in
+    let after-find-index = at-j .before .before in
+    let start = after-find-index .before .before .before .before in
+    record { step = crossed-by (start .args .index) (start .pre) (sym (ap entry (at-j .j .given .1)) ∙ after-find-index .find-index .ensures) (c .if1 .left); same = refl }
 
 returns-3 : tie.Need-returns-3
-returns-3 c = rw (merged-by (c .before .before .before .before .before .before .before .before .before .before .args .index) (c .before .before .before .before .before .before .before .before .before .before .pre) (merge-asked (c .before .before .before .before .before .before .before .before .before .before .args .index) (c .before .before .before .before .before .before .before .before .before .before .pre) (sym (ap entry (c .before .before .before .before .enum-told .given .1)) ∙ c .before .before .before .before .before .before .find-index .ensures) tt .free)) (c .before .before .merge-group2 .ensures)
+returns-3 c =
+    let after-merge-group2 = c .before .before in
+    let at-enum-told = after-merge-group2 .before .before in
+    let after-find-index = at-enum-told .before .before in
+    let start = after-find-index .before .before .before .before in
+    rw (merged-by (start .args .index) (start .pre) (merge-asked (start .args .index) (start .pre) (sym (ap entry (at-enum-told .enum-told .given .1)) ∙ after-find-index .find-index .ensures) tt .free)) (after-merge-group2 .merge-group2 .ensures)
 
 pub merge-at-spec : {M : Type 1} → statement M
 merge-at-spec =
     tie.close
     (tie.spec
-    find-index-requires
-    enum-known-j
-    merge-group-requires
-    same-length
-    returns
-    enum-told
-    merge-group-requires-2
-    same-length-2
-    returns-2
-    same-length-3
-    returns-3)
+    (λ c κs. search needs) (λ c. search needs) merge-group-requires (λ c. search needs) returns (λ c. search needs)
+    merge-group-requires-2 (λ c. search needs) returns-2 (λ c. search needs) returns-3)

@@ -1,5 +1,5 @@
--- `vrf_cache::resolve::decides` meets its contract.
-use Rattle.vrf_cache.specs.ResolveLaws.{decides-found}
+-- `vrf_cache::resolve::decides` satisfies its contract.
+use Rattle.vrf_cache.specs.Laws.Resolve.{decides-found}
 use Rattle.vrf_cache.proofs.resolve.decides.Statement.{statement}
 use Rattle.vrf_cache.proofs.resolve.decides.Tie as tie
 

@@ -1,78 +1,61 @@
--- `vrf_checkpoint::groups::read_declared` meets its contract: index, slots and adding, one after the other.
+-- `vrf_checkpoint::groups::read_declared` satisfies its contract: index, slots and adding, in sequence.
 use borrow.Author.Needs.{needs}
-use Rattle.vrf_checkpoint.specs.CountsLaws.{no-index, no-count, too-many, not-added, added}
+use Rattle.vrf_checkpoint.specs.Laws.Groups.{no-index, no-count, too-many, not-added, added}
 use Rattle.vrf_checkpoint.proofs.groups.read_declared.Statement.{statement}
 use Rattle.vrf_checkpoint.proofs.groups.read_declared.Tie as tie
 
-read-int-packed-requires : tie.Need-read-int-packed-requires
-read-int-packed-requires c κs = search needs
-
-enum-known-r : tie.Need-enum-known-r
-enum-known-r c = search needs
-
-enum-known-index : tie.Need-enum-known-index
-enum-known-index c = search needs
-
-read-int-packed-requires-2 : tie.Need-read-int-packed-requires-2
-read-int-packed-requires-2 c κs = search needs
-
-enum-known-r-2 : tie.Need-enum-known-r-2
-enum-known-r-2 c = search needs
-
-enum-known-slots : tie.Need-enum-known-slots
-enum-known-slots c = search needs
-
-cast-t17 : tie.Need-cast-t17
-cast-t17 c = search needs
-
 returns : tie.Need-returns
-returns c = too-many _ (c .before .before .before .before .before .before .before .before .before .before .before .before .pre .0) (rw (c .before .before .before .before .before .before .index .given .1) at (c .before .before .before .before .before .before .before .before .read-int-packed .ensures)) (rw (c .before .before .slots .given .1) at (c .before .before .before .before .read-int-packed2 .ensures)) (c .if1 .taken)
-
-add-first-requires : tie.Need-add-first-requires
-add-first-requires c κs = search needs
-
-enum-known-r-3 : tie.Need-enum-known-r-3
-enum-known-r-3 c = search needs
-
-enum-told : tie.Need-enum-told
-enum-told c = search needs
+returns c =
+    let at-slots = c .before .before in
+    let after-read-int-packed2 = at-slots .before .before in
+    let at-index = after-read-int-packed2 .before .before in
+    let after-read-int-packed = at-index .before .before in
+    let start = after-read-int-packed .before .before .before .before in
+    too-many _ (start .pre .0) (rw (at-index .index .given .1) at (after-read-int-packed .read-int-packed .ensures)) (rw (at-slots .slots .given .1) at (after-read-int-packed2 .read-int-packed2 .ensures)) (c .if1 .taken)
 
 returns-2 : tie.Need-returns-2
-returns-2 c = no-index _ (c .before .before .before .before .before .before .before .pre .0) (c .before .r .given .0 .0) (rw (c .before .r .given .1) at (c .before .before .before .read-int-packed .ensures))
+returns-2 c =
+    let at-r = c .before in
+    let after-read-int-packed = at-r .before .before in
+    let start = after-read-int-packed .before .before .before .before in
+    no-index _ (start .pre .0) (at-r .r .given .0 .0) (rw (at-r .r .given .1) at (after-read-int-packed .read-int-packed .ensures))
 
 returns-3 : tie.Need-returns-3
-returns-3 c = no-count _ (c .before .before .before .before .before .before .before .before .before .before .before .pre .0) (rw (c .before .before .before .before .before .index .given .1) at (c .before .before .before .before .before .before .before .read-int-packed .ensures)) (c .before .r2 .given .0 .0) (rw (c .before .r2 .given .1) at (c .before .before .before .read-int-packed2 .ensures))
-
-same-length : tie.Need-same-length
-same-length c = search needs
+returns-3 c =
+    let at-r2 = c .before in
+    let after-read-int-packed2 = at-r2 .before .before in
+    let at-index = after-read-int-packed2 .before .before in
+    let after-read-int-packed = at-index .before .before in
+    let start = after-read-int-packed .before .before .before .before in
+    no-count _ (start .pre .0) (rw (at-index .index .given .1) at (after-read-int-packed .read-int-packed .ensures)) (at-r2 .r2 .given .0 .0) (rw (at-r2 .r2 .given .1) at (after-read-int-packed2 .read-int-packed2 .ensures))
 
 returns-4 : tie.Need-returns-4
-returns-4 c = not-added _ (c .before .before .before .before .before .before .before .before .before .before .before .before .before .before .before .before .before .before .before .pre .0) (rw (c .before .before .before .before .before .before .before .before .before .before .before .before .before .index .given .1) at (c .before .before .before .before .before .before .before .before .before .before .before .before .before .before .before .read-int-packed .ensures)) (rw (c .before .before .before .before .before .before .before .before .before .slots .given .1) at (c .before .before .before .before .before .before .before .before .before .before .before .read-int-packed2 .ensures)) (c .before .before .before .before .before .before .before .if1 .left) (c .before .r3 .given .0 .0) (rw (c .before .r3 .given .1) at (c .before .before .before .before .before .add-first .ensures))
-
-same-length-2 : tie.Need-same-length-2
-same-length-2 c = search needs
+returns-4 c =
+    let at-r3 = c .before in
+    let after-add-first = at-r3 .before .before .before .before in
+    let at-if1 = after-add-first .before .before in
+    let at-slots = at-if1 .before .before in
+    let after-read-int-packed2 = at-slots .before .before in
+    let at-index = after-read-int-packed2 .before .before in
+    let after-read-int-packed = at-index .before .before in
+    let start = after-read-int-packed .before .before .before .before in
+    not-added _ (start .pre .0) (rw (at-index .index .given .1) at (after-read-int-packed .read-int-packed .ensures)) (rw (at-slots .slots .given .1) at (after-read-int-packed2 .read-int-packed2 .ensures)) (at-if1 .if1 .left) (at-r3 .r3 .given .0 .0) (rw (at-r3 .r3 .given .1) at (after-add-first .add-first .ensures))
 
 returns-5 : tie.Need-returns-5
-returns-5 c = (added _ (c .before .before .before .before .before .before .before .before .before .before .before .before .before .before .before .before .before .before .pre .0) (rw (c .before .before .before .before .before .before .before .before .before .before .before .before .index .given .1) at (c .before .before .before .before .before .before .before .before .before .before .before .before .before .before .read-int-packed .ensures)) (rw (c .before .before .before .before .before .before .before .before .slots .given .1) at (c .before .before .before .before .before .before .before .before .before .before .read-int-packed2 .ensures)) (c .before .before .before .before .before .before .if1 .left) (rw (c .enum-told .given .1) at (c .before .before .before .before .add-first .ensures)), c .before .before .before .before .before .before .if1 .left)
+returns-5 c =
+    let after-add-first = c .before .before .before .before in
+    let at-if1 = after-add-first .before .before in
+    let at-slots = at-if1 .before .before in
+    let after-read-int-packed2 = at-slots .before .before in
+    let at-index = after-read-int-packed2 .before .before in
+    let after-read-int-packed = at-index .before .before in
+    let start = after-read-int-packed .before .before .before .before in
+    (added _ (start .pre .0) (rw (at-index .index .given .1) at (after-read-int-packed .read-int-packed .ensures)) (rw (at-slots .slots .given .1) at (after-read-int-packed2 .read-int-packed2 .ensures)) (at-if1 .if1 .left) (rw (c .enum-told .given .1) at (after-add-first .add-first .ensures)), at-if1 .if1 .left)
 
 pub read-declared-spec : {M : Type 1} → statement M
 read-declared-spec =
     tie.close
     (tie.spec
-    read-int-packed-requires
-    enum-known-r
-    enum-known-index
-    read-int-packed-requires-2
-    enum-known-r-2
-    enum-known-slots
-    cast-t17
-    returns
-    add-first-requires
-    enum-known-r-3
-    enum-told
-    returns-2
-    returns-3
-    same-length
-    returns-4
-    same-length-2
-    returns-5)
+    (λ c κs. search needs) (λ c. search needs) (λ c. search needs) (λ c κs. search needs) (λ c. search needs)
+    (λ c. search needs) (λ c. search needs) returns (λ c κs. search needs) (λ c. search needs) (λ c. search needs)
+    returns-2 returns-3 (λ c. search needs) returns-4 (λ c. search needs) returns-5)

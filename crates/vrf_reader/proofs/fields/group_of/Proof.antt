@@ -1,70 +1,43 @@
--- `vrf_reader::fields::group_of` meets its contract: the cases of `groupOf`.
+-- `vrf_reader::fields::group_of` satisfies its contract: the cases of `groupOf`.
 use mathlib.Core.Path.{sym, ap, _∙_}
 use borrow.Author.Needs.{needs}
-use Rattle.vrf_table.specs.Answers.{entry}
-use Rattle.vrf_reader.specs.Goes.{moved}
-use Rattle.vrf_reader.specs.FieldsLaws.{index-known, index-unknown, bad-flag, group-declared}
+use Rattle.vrf_table.specs.Inner.Answers.{entry}
+use Rattle.vrf_reader.specs.Inner.Simulates.{cursorOutcome}
+use Rattle.vrf_reader.specs.Laws.Fields.{index-known, index-unknown, bad-flag, group-declared}
 use Rattle.vrf_reader.proofs.fields.group_of.Statement.{statement}
 use Rattle.vrf_reader.proofs.fields.group_of.Tie as tie
-
-declared-group-requires : tie.Need-declared-group-requires
-declared-group-requires c κs = search needs
-
-same-length : tie.Need-same-length
-same-length c = search needs
-
-same-length-2 : tie.Need-same-length-2
-same-length-2 c = search needs
 
 returns : tie.Need-returns
 returns c =
     let c4 = c .before .before .before .before in
     let c7 = c4 .before .before .before in
-    group-declared _ (c7 .if1 .taken) _ _ _ _ (moved (c4 .declared-group .result)) (c4 .declared-group .ensures)
+    group-declared _ (c7 .if1 .taken) _ _ _ _ (cursorOutcome (c4 .declared-group .result)) (c4 .declared-group .ensures)
 
 returns-2 : tie.Need-returns-2
-returns-2 c = bad-flag _ (c .before .before .before .before .before .pre .0) (c .if2 .taken) (c .before .if1 .left)
-
-find-index-requires : tie.Need-find-index-requires
-find-index-requires c κs = search needs
-
-enum-told : tie.Need-enum-told
-enum-told c = search needs
-
-enum-told-2 : tie.Need-enum-told-2
-enum-told-2 c = search needs
-
-same-length-3 : tie.Need-same-length-3
-same-length-3 c = search needs
+returns-2 c =
+    let at-if1 = c .before in
+    let start = at-if1 .before .before .before .before in
+    bad-flag _ (start .pre .0) (c .if2 .taken) (at-if1 .if1 .left)
 
 returns-3 : tie.Need-returns-3
 returns-3 c =
-    let c4 = c .before .before .before .before in
-    let c9 = c4 .before .before .before .before .before in
-    index-known _ (c9 .pre .0) (c4 .if2 .left) (sym (ap entry (c .enum-told .given .1)) ∙ c .before .before .find-index .ensures)
-
-same-length-4 : tie.Need-same-length-4
-same-length-4 c = search needs
+    let after-find-index = c .before .before in
+    let at-if2 = after-find-index .before .before in
+    let back = at-if2 .before .before .before .before in
+    let start = back .before in
+    index-known _ (start .pre .0) (at-if2 .if2 .left) (sym (ap entry (c .enum-told .given .1)) ∙ after-find-index .find-index .ensures)
 
 returns-4 : tie.Need-returns-4
 returns-4 c =
-    let c4 = c .before .before .before .before in
-    let c9 = c4 .before .before .before .before .before in
-    index-unknown _ (c9 .pre .0) (c4 .if2 .left) (sym (ap entry (c .enum-told2 .given .1)) ∙ c .before .before .find-index .ensures)
+    let after-find-index = c .before .before in
+    let at-if2 = after-find-index .before .before in
+    let back = at-if2 .before .before .before .before in
+    let start = back .before in
+    index-unknown _ (start .pre .0) (at-if2 .if2 .left) (sym (ap entry (c .enum-told2 .given .1)) ∙ after-find-index .find-index .ensures)
 
 pub group-of-spec : {M : Type 1} → statement M
 group-of-spec =
     tie.close
     (tie.spec
-    declared-group-requires
-    same-length
-    same-length-2
-    returns
-    returns-2
-    find-index-requires
-    enum-told
-    enum-told-2
-    same-length-3
-    returns-3
-    same-length-4
-    returns-4)
+    (λ c κs. search needs) (λ c. search needs) (λ c. search needs) returns returns-2 (λ c κs. search needs)
+    (λ c. search needs) (λ c. search needs) (λ c. search needs) returns-3 (λ c. search needs) returns-4)

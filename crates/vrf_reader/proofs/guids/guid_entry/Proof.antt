@@ -1,24 +1,12 @@
--- `vrf_reader::guids::guid_entry` meets its contract: the size, and then the payload.
+-- `vrf_reader::guids::guid_entry` satisfies its contract: the size, then the payload.
 use borrow.Author.Needs.{needs}
 use Rattle.vrf_bitio.specs.Number.{word32}
 use Rattle.vrf_model.specs.Runs.{guidEntry}
-use Rattle.vrf_reader.specs.GoesLaws.{read-stops}
-use Rattle.vrf_reader.specs.Within.{same-window}
-use Rattle.vrf_reader.specs.GuidSteps.{entry-negative, entry-refused, entry-read}
+use Rattle.vrf_reader.specs.Laws.Simulates.{read-stops}
+use Rattle.vrf_reader.specs.Laws.Within.{same-window}
+use Rattle.vrf_reader.specs.Laws.Guids.{entry-negative, entry-refused, entry-read}
 use Rattle.vrf_reader.proofs.guids.guid_entry.Statement.{statement}
 use Rattle.vrf_reader.proofs.guids.guid_entry.Tie as tie
-
-read-u32-requires : tie.Need-read-u32-requires
-read-u32-requires c κs = search needs
-
-enum-known-r : tie.Need-enum-known-r
-enum-known-r c = search needs
-
-enum-known-size : tie.Need-enum-known-size
-enum-known-size c = search needs
-
-cast-t13 : tie.Need-cast-t13
-cast-t13 c = search needs
 
 returns : tie.Need-returns
 returns c =
@@ -34,12 +22,6 @@ read-payload-requires c κs =
     let size = rw (c4 .size .given .1) at (c6 .read-u32 .ensures) in
     (c10 .pre .0, (c10 .pre .1 .0, same-window (c10 .pre .1 .1) (size .first) (size .count)))
 
-enum-known-r-2 : tie.Need-enum-known-r-2
-enum-known-r-2 c = search needs
-
-enum-known-behind : tie.Need-enum-known-behind
-enum-known-behind c = search needs
-
 returns-2 : tie.Need-returns-2
 unfolding guidEntry
 returns-2 c =
@@ -47,54 +29,34 @@ returns-2 c =
     let c7 = c3 .before .before .before .before in
     read-stops word32 _ (c7 .pre .0) (rw (c .before .r .given .1) at (c3 .read-u32 .ensures))
 
-same-length : tie.Need-same-length
-same-length c = search needs
-
-same-length-2 : tie.Need-same-length-2
-same-length-2 c = search needs
-
 returns-3 : tie.Need-returns-3
 returns-3 c =
-    let c7 = c .before .before .before .before .before .before .before in
-    let c10 = c7 .before .before .before in
-    let c12 = c10 .before .before in
-    let c14 = c12 .before .before in
-    let c18 = c14 .before .before .before .before in
-    let size = rw (c12 .size .given .1) at (c14 .read-u32 .ensures) in
-    entry-refused (c18 .pre .0) size (c10 .if1 .left) _ (rw (c .before .r2 .given .1) at (c7 .read-payload .ensures))
-
-same-length-3 : tie.Need-same-length-3
-same-length-3 c = search needs
-
-same-length-4 : tie.Need-same-length-4
-same-length-4 c = search needs
+    let at-r2 = c .before in
+    let back = at-r2 .before .before .before .before in
+    let after-read-payload = back .before .before in
+    let at-if1 = after-read-payload .before .before .before in
+    let at-size = at-if1 .before .before in
+    let after-read-u32 = at-size .before .before in
+    let start = after-read-u32 .before .before .before .before in
+    let size = rw (at-size .size .given .1) at (after-read-u32 .read-u32 .ensures) in
+    entry-refused (start .pre .0) size (at-if1 .if1 .left) _ (rw (at-r2 .r2 .given .1) at (after-read-payload .read-payload .ensures))
 
 returns-4 : tie.Need-returns-4
 returns-4 c =
-    let c7 = c .before .before .before .before .before .before .before in
-    let c10 = c7 .before .before .before in
-    let c12 = c10 .before .before in
-    let c14 = c12 .before .before in
-    let c18 = c14 .before .before .before .before in
-    let size = rw (c12 .size .given .1) at (c14 .read-u32 .ensures) in
-    entry-read (c18 .pre .0) size (c10 .if1 .left) _ (rw (c .before .behind .given .1) at (c7 .read-payload .ensures))
+    let at-following = c .before in
+    let back = at-following .before .before .before .before in
+    let after-read-payload = back .before .before in
+    let at-if1 = after-read-payload .before .before .before in
+    let at-size = at-if1 .before .before in
+    let after-read-u32 = at-size .before .before in
+    let start = after-read-u32 .before .before .before .before in
+    let size = rw (at-size .size .given .1) at (after-read-u32 .read-u32 .ensures) in
+    entry-read (start .pre .0) size (at-if1 .if1 .left) _ (rw (at-following .following .given .1) at (after-read-payload .read-payload .ensures))
 
 pub guid-entry-spec : {M : Type 1} → statement M
 guid-entry-spec =
     tie.close
     (tie.spec
-    read-u32-requires
-    enum-known-r
-    enum-known-size
-    cast-t13
-    returns
-    read-payload-requires
-    enum-known-r-2
-    enum-known-behind
-    returns-2
-    same-length
-    same-length-2
-    returns-3
-    same-length-3
-    same-length-4
-    returns-4)
+    (λ c κs. search needs) (λ c. search needs) (λ c. search needs) (λ c. search needs) returns read-payload-requires
+    (λ c. search needs) (λ c. search needs) returns-2 (λ c. search needs) (λ c. search needs) returns-3
+    (λ c. search needs) (λ c. search needs) returns-4)

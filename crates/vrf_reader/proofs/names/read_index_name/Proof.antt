@@ -1,24 +1,12 @@
--- `vrf_reader::names::read_index_name` meets its contract.
+-- `vrf_reader::names::read_index_name` satisfies its contract.
 use native.Mathlib.Omega.{arith}
 use borrow.Author.Needs.{needs}
 use Rattle.vrf_bitio.specs.Number.{packed}
-use Rattle.vrf_bitio.specs.AnswersLaws.{refused-first}
+use Rattle.vrf_bitio.specs.Laws.Answers.{refused-first}
 use Rattle.vrf_model.specs.Names.{indexName}
-use Rattle.vrf_reader.specs.TextsLaws.{is-small, index-in}
+use Rattle.vrf_reader.specs.Laws.Texts.{is-small, index-in}
 use Rattle.vrf_reader.proofs.names.read_index_name.Statement.{statement}
 use Rattle.vrf_reader.proofs.names.read_index_name.Tie as tie
-
-read-int-packed-requires : tie.Need-read-int-packed-requires
-read-int-packed-requires c κs = search needs
-
-enum-known-r : tie.Need-enum-known-r
-enum-known-r c = search needs
-
-enum-known-index : tie.Need-enum-known-index
-enum-known-index c = search needs
-
-render-index-requires : tie.Need-render-index-requires
-render-index-requires c κs = search needs
 
 named-requires : tie.Need-named-requires
 named-requires c κs = is-small _ _ _ (c .before .before .render-index .result) (c .before .before .render-index .ensures)
@@ -26,9 +14,6 @@ named-requires c κs = is-small _ _ _ (c .before .before .render-index .result) 
 returns : tie.Need-returns
 unfolding indexName
 returns c = refused-first _ _ packed _ (rw (c .before .r .given .1) at (c .before .before .before .read-int-packed .ensures))
-
-same-length : tie.Need-same-length
-same-length c = search needs
 
 returns-2 : tie.Need-returns-2
 returns-2 c =
@@ -43,11 +28,5 @@ pub read-index-name-spec : {M : Type 1} → statement M
 read-index-name-spec =
     tie.close
     (tie.spec
-    read-int-packed-requires
-    enum-known-r
-    enum-known-index
-    render-index-requires
-    named-requires
-    returns
-    same-length
-    returns-2)
+    (λ c κs. search needs) (λ c. search needs) (λ c. search needs) (λ c κs. search needs) named-requires returns
+    (λ c. search needs) returns-2)

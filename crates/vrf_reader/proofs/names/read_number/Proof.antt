@@ -1,32 +1,17 @@
--- `vrf_reader::names::read_number` meets its contract.
+-- `vrf_reader::names::read_number` satisfies its contract.
 use borrow.Author.Needs.{needs}
 use mir.Facts.{toZ-ofZ}
 use Rattle.vrf_bitio.specs.Number.{int32}
-use Rattle.vrf_bitio.specs.AnswersLaws.{refused-first}
-use Rattle.vrf_reader.specs.TextsLaws.{is-small, numbered-in}
+use Rattle.vrf_bitio.specs.Laws.Answers.{refused-first}
+use Rattle.vrf_reader.specs.Laws.Texts.{is-small, numbered-in}
 use Rattle.vrf_reader.proofs.names.read_number.Statement.{statement}
 use Rattle.vrf_reader.proofs.names.read_number.Tie as tie
-
-read-i32-requires : tie.Need-read-i32-requires
-read-i32-requires c κs = search needs
-
-enum-known-r : tie.Need-enum-known-r
-enum-known-r c = search needs
-
-enum-known-number : tie.Need-enum-known-number
-enum-known-number c = search needs
-
-render-fname-requires : tie.Need-render-fname-requires
-render-fname-requires c κs = search needs
 
 named-requires : tie.Need-named-requires
 named-requires c κs = is-small _ _ _ (c .before .before .render-fname .result) (c .before .before .render-fname .ensures)
 
 returns : tie.Need-returns
 returns c = refused-first _ _ int32 _ (rw (c .before .r .given .1) at (c .before .before .before .read-i32 .ensures))
-
-same-length : tie.Need-same-length
-same-length c = search needs
 
 returns-2 : tie.Need-returns-2
 returns-2 c =
@@ -43,11 +28,5 @@ pub read-number-spec : {M : Type 1} → statement M
 read-number-spec =
     tie.close
     (tie.spec
-    read-i32-requires
-    enum-known-r
-    enum-known-number
-    render-fname-requires
-    named-requires
-    returns
-    same-length
-    returns-2)
+    (λ c κs. search needs) (λ c. search needs) (λ c. search needs) (λ c κs. search needs) named-requires returns
+    (λ c. search needs) returns-2)

@@ -1,53 +1,37 @@
--- `vrf_reader::names::read_text_name` meets its contract: a text, and its number.
+-- `vrf_reader::names::read_text_name` satisfies its contract: a text, then its number.
 use native.Mathlib.Omega.{arith}
 use borrow.Author.Needs.{needs}
-use Rattle.vrf_bitio.specs.AnswersLaws.{refused-first}
+use Rattle.vrf_bitio.specs.Laws.Answers.{refused-first}
 use Rattle.vrf_text.specs.Text.{fstring}
 use Rattle.vrf_model.specs.Names.{textName}
-use Rattle.vrf_reader.specs.TextsLaws.{name-after}
+use Rattle.vrf_reader.specs.Laws.Texts.{name-after}
 use Rattle.vrf_reader.proofs.names.read_text_name.Statement.{statement}
 use Rattle.vrf_reader.proofs.names.read_text_name.Tie as tie
 
-read-text-requires : tie.Need-read-text-requires
-read-text-requires c κs = search needs
-
-enum-known-r : tie.Need-enum-known-r
-enum-known-r c = search needs
-
-enum-known-n : tie.Need-enum-known-n
-enum-known-n c = search needs
-
 read-number-requires : tie.Need-read-number-requires
 read-number-requires c κs =
-    let c6 = c .before .before .before .before .before .before in
-    (omega arith, (rw (c .before .before .n .given .1) at (c6 .read-text .ensures)) .fits)
-
-same-length : tie.Need-same-length
-same-length c = search needs
+    let at-n = c .before .before in
+    let after-read-text = at-n .before .before .before .before in
+    (omega arith, (rw (at-n .n .given .1) at (after-read-text .read-text .ensures)) .fits)
 
 returns : tie.Need-returns
 unfolding textName
-returns c = refused-first _ _ fstring _ (rw (c .before .r .given .1) at (c .before .before .before .before .before .read-text .ensures))
-
-same-length-2 : tie.Need-same-length-2
-same-length-2 c = search needs
+returns c =
+    let at-r = c .before in
+    let after-read-text = at-r .before .before .before .before in
+    refused-first _ _ fstring _ (rw (at-r .r .given .1) at (after-read-text .read-text .ensures))
 
 returns-2 : tie.Need-returns-2
 returns-2 c =
-    let c5 = c .before .before .before .before .before in
-    let c9 = c5 .before .before .before .before in
-    let base = rw (c5 .n .given .1) at (c9 .read-text .ensures) in
-    name-after base _ (c .before .before .read-number .result) (c .before .before .read-number .ensures)
+    let after-read-number = c .before .before in
+    let at-n = after-read-number .before .before .before in
+    let after-read-text = at-n .before .before .before .before in
+    let base = rw (at-n .n .given .1) at (after-read-text .read-text .ensures) in
+    name-after base _ (after-read-number .read-number .result) (after-read-number .read-number .ensures)
 
 pub read-text-name-spec : {M : Type 1} → statement M
 read-text-name-spec =
     tie.close
     (tie.spec
-    read-text-requires
-    enum-known-r
-    enum-known-n
-    read-number-requires
-    same-length
-    returns
-    same-length-2
-    returns-2)
+    (λ c κs. search needs) (λ c. search needs) (λ c. search needs) read-number-requires (λ c. search needs) returns
+    (λ c. search needs) returns-2)

@@ -1,23 +1,23 @@
--- `vrf_reader::objects::load_object`, which calls itself, meets its contract. The measure is the depth left.
+-- `vrf_reader::objects::load_object` satisfies its contract. It calls itself with less depth left.
+use Prim.Native.Nat.{_<_, ℕ}
 use native.Mathlib.Omega.{arith}
 use borrow.Author.Needs.{needs}
-use Prim.Native.Nat.{ℕ, _<_}
 use borrow.Fn.Kinds.{In}
 use borrow.Fn.PlainCycle.{Measures, is, falls, and}
-use Rattle.vrf_reader.specs.Goes.{valued}
-use Rattle.vrf_reader.specs.ObjectSteps.{too-deep, object-refused, object-ends, outer-refused, outer-then}
-use Rattle.vrf_reader.proofs.objects.load_object.Reads.{Pre, Post}
+use Rattle.vrf_reader.specs.Inner.Simulates.{wordOutcome}
+use Rattle.vrf_reader.specs.Laws.Objects.{too-deep, object-refused, object-ends, outer-refused, outer-then}
+use Rattle.vrf_reader.proofs.objects.+load_object.{statement}
+use Rattle.vrf_reader.proofs.objects.+load_object.Lts-load_object as lts
+use Rattle.vrf_reader.proofs.objects.+load_object.Tie.{close}
 use Rattle.vrf_reader.proofs.objects.load_object.Kinds.{ps}
+use Rattle.vrf_reader.proofs.objects.load_object.Reads.{Pre, Post}
 use Rattle.vrf_reader.proofs.objects.read_head.Reads as read-head-reads
 use Rattle.vrf_reader.proofs.objects.record_object.Reads as record-object-reads
-use Rattle.vrf_reader.proofs.objects.+load_object.Lts-load_object as lts
-use Rattle.vrf_reader.proofs.objects.+load_object.{statement}
-use Rattle.vrf_reader.proofs.objects.+load_object.Tie.{close}
 
 abbrev depth-left : Measures 3 ps ℕ
 depth-left κs a = a .1 .1 .1 .1 .1 .0
 
--- what is asked of a call with so much depth left, and of one with less
+-- what is required of a call with depth t left, and of a call with less
 abbrev Asked : ℕ → In 3 ps
 Asked t = and 3 ps (is 3 ps depth-left t) Pre
 
@@ -51,9 +51,10 @@ module _ (t : ℕ) where
 
   load-object-requires : lts.Need-load-object-requires (claims t) (Asked t) Post
   load-object-requires c κs =
-      let c6 = c .before .before .before .before .before .before in
-      let c10 = c6 .before .before .before .before in
-      (omega (arith, c10 .pre .0, c6 .if1 .left), c10 .pre .1)
+      let back = c .before .before .before .before in
+      let at-if1 = back .before .before in
+      let start = at-if1 .before .before .before .before in
+      (omega (arith, start .pre .0, at-if1 .if1 .left), start .pre .1)
 
   enum-known-r-2 : lts.Need-enum-known-r-2 (claims t) (Asked t) Post
   enum-known-r-2 c = search needs
@@ -63,11 +64,14 @@ module _ (t : ℕ) where
 
   record-object-requires : lts.Need-record-object-requires (claims t) (Asked t) Post
   record-object-requires c κs =
-      let c3 = c .before .before .before in
-      let c9 = c3 .before .before .before .before .before .before in
-      let c20 = c9 .before .before .before .before .before .before .before .before .before .before .before in
-      let outer = rw (c3 .outer .given .1) at (c9 .load-object .ensures) in
-      (outer .good, omega (arith, c9 .load-object .kept, c20 .pre .1 .1))
+      let at-outer = c .before .before .before in
+      let back = at-outer .before .before .before .before in
+      let after-load-object = back .before .before in
+      let back2 = after-load-object .before .before .before .before in
+      let back3 = back2 .before .before .before .before in
+      let start = back3 .before .before .before in
+      let outer = rw (at-outer .outer .given .1) at (after-load-object .load-object .ensures) in
+      (outer .good, omega (arith, after-load-object .load-object .kept, start .pre .1 .1))
 
   returns-2 : lts.Need-returns-2 (claims t) (Asked t) Post
   returns-2 c =
@@ -91,13 +95,15 @@ module _ (t : ℕ) where
 
   returns-4 : lts.Need-returns-4 (claims t) (Asked t) Post
   returns-4 c =
-      let c7 = c .before .before .before .before .before .before .before in
-      let c11 = c7 .before .before .before .before in
-      let c13 = c11 .before .before in
-      let c14 = c13 .before in
-      let c18 = c14 .before .before .before .before in
-      let head = rw (c11 .guid2 .given .1) at (c13 .read-head .ensures) in
-      outer-refused _ (c14 .if1 .left) (c18 .pre .1 .0) head _ (rw (c .before .r2 .given .1) at (c7 .load-object .ensures))
+      let at-r2 = c .before in
+      let back = at-r2 .before .before .before .before in
+      let after-load-object = back .before .before in
+      let at-guid2 = after-load-object .before .before .before .before in
+      let after-read-head = at-guid2 .before .before in
+      let at-if1 = after-read-head .before in
+      let start = at-if1 .before .before .before .before in
+      let head = rw (at-guid2 .guid2 .given .1) at (after-read-head .read-head .ensures) in
+      outer-refused _ (at-if1 .if1 .left) (start .pre .1 .0) head _ (rw (at-r2 .r2 .given .1) at (after-load-object .load-object .ensures))
 
   same-length-3 : lts.Need-same-length-3 (claims t) (Asked t) Post
   same-length-3 c = search needs
@@ -107,16 +113,17 @@ module _ (t : ℕ) where
 
   returns-5 : lts.Need-returns-5 (claims t) (Asked t) Post
   returns-5 c =
-      let c4 = c .before .before .before .before in
-      let c8 = c4 .before .before .before .before in
-      let c14 = c8 .before .before .before .before .before .before in
-      let c18 = c14 .before .before .before .before in
-      let c20 = c18 .before .before in
-      let c21 = c20 .before in
-      let c25 = c21 .before .before .before .before in
-      let head = rw (c18 .guid2 .given .1) at (c20 .read-head .ensures) in
-      let outer = rw (c8 .outer .given .1) at (c14 .load-object .ensures) in
-      outer-then _ (c21 .if1 .left) (c25 .pre .1 .0) head _ outer _ (valued (c4 .record-object .result)) (c4 .record-object .ensures)
+      let after-record-object = c .before .before .before .before in
+      let at-outer = after-record-object .before .before .before .before in
+      let back = at-outer .before .before .before .before in
+      let after-load-object = back .before .before in
+      let at-guid2 = after-load-object .before .before .before .before in
+      let after-read-head = at-guid2 .before .before in
+      let at-if1 = after-read-head .before in
+      let start = at-if1 .before .before .before .before in
+      let head = rw (at-guid2 .guid2 .given .1) at (after-read-head .read-head .ensures) in
+      let outer = rw (at-outer .outer .given .1) at (after-load-object .load-object .ensures) in
+      outer-then _ (at-if1 .if1 .left) (start .pre .1 .0) head _ outer _ (wordOutcome (after-record-object .record-object .result)) (after-record-object .record-object .ensures)
 
 pub +load-object-spec : {M : Type 1} → statement M
 +load-object-spec =

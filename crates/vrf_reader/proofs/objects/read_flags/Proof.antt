@@ -1,12 +1,9 @@
--- `vrf_reader::objects::read_flags` meets its contract.
+-- `vrf_reader::objects::read_flags` satisfies its contract.
 use mathlib.Core.Logic.{⊎-elim}
 use borrow.Author.Needs.{needs}
-use Rattle.vrf_reader.specs.ObjectSteps.{flags-read, flags-none}
+use Rattle.vrf_reader.specs.Laws.Objects.{flags-read, flags-none}
 use Rattle.vrf_reader.proofs.objects.read_flags.Statement.{statement}
 use Rattle.vrf_reader.proofs.objects.read_flags.Tie as tie
-
-read-u8-requires : tie.Need-read-u8-requires
-read-u8-requires c κs = search needs
 
 returns : tie.Need-returns
 returns c =
@@ -17,4 +14,4 @@ returns-2 : tie.Need-returns-2
 returns-2 c = flags-none _ _ (rw (c .before .if1 .left, c .if2 .left))
 
 pub read-flags-spec : {M : Type 1} → statement M
-read-flags-spec = tie.close (tie.spec read-u8-requires returns returns-2)
+read-flags-spec = tie.close (tie.spec (λ c κs. search needs) returns returns-2)

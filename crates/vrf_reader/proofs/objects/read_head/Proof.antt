@@ -1,31 +1,13 @@
--- `vrf_reader::objects::read_head` meets its contract: the GUID, and then its flags.
+-- `vrf_reader::objects::read_head` satisfies its contract: the GUID, then its flags.
 use borrow.Author.Needs.{needs}
-use Rattle.vrf_reader.specs.ObjectSteps.{head-refused, head-zero, head-flagless, head-path, head-ends}
+use Rattle.vrf_reader.specs.Laws.Objects.{head-refused, head-zero, head-flagless, head-path, head-ends}
 use Rattle.vrf_reader.proofs.objects.read_head.Statement.{statement}
 use Rattle.vrf_reader.proofs.objects.read_head.Tie as tie
-
-read-int-packed-requires : tie.Need-read-int-packed-requires
-read-int-packed-requires c κs = search needs
-
-enum-known-r : tie.Need-enum-known-r
-enum-known-r c = search needs
-
-enum-known-guid : tie.Need-enum-known-guid
-enum-known-guid c = search needs
 
 returns : tie.Need-returns
 returns c =
     let c4 = c .before .before .before .before in
     head-zero _ (rw (c .before .before .guid .given .1) at (c4 .read-int-packed .ensures)) (c .if1 .taken)
-
-read-flags-requires : tie.Need-read-flags-requires
-read-flags-requires c κs = search needs
-
-enum-known-r-2 : tie.Need-enum-known-r-2
-enum-known-r-2 c = search needs
-
-enum-known-flags : tie.Need-enum-known-flags
-enum-known-flags c = search needs
 
 returns-2 : tie.Need-returns-2
 returns-2 c =
@@ -61,14 +43,5 @@ pub read-head-spec : {M : Type 1} → statement M
 read-head-spec =
     tie.close
     (tie.spec
-    read-int-packed-requires
-    enum-known-r
-    enum-known-guid
-    returns
-    read-flags-requires
-    enum-known-r-2
-    enum-known-flags
-    returns-2
-    returns-3
-    returns-4
-    returns-5)
+    (λ c κs. search needs) (λ c. search needs) (λ c. search needs) returns (λ c κs. search needs) (λ c. search needs)
+    (λ c. search needs) returns-2 returns-3 returns-4 returns-5)

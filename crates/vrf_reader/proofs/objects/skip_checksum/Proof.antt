@@ -1,17 +1,8 @@
--- `vrf_reader::objects::skip_checksum` meets its contract.
+-- `vrf_reader::objects::skip_checksum` satisfies its contract.
 use borrow.Author.Needs.{needs}
-use Rattle.vrf_reader.specs.ObjectSteps.{checksum-none, checksum-read, checksum-refused}
+use Rattle.vrf_reader.specs.Laws.Objects.{checksum-none, checksum-read, checksum-refused}
 use Rattle.vrf_reader.proofs.objects.skip_checksum.Statement.{statement}
 use Rattle.vrf_reader.proofs.objects.skip_checksum.Tie as tie
-
-read-u32-requires : tie.Need-read-u32-requires
-read-u32-requires c κs = search needs
-
-enum-known-r : tie.Need-enum-known-r
-enum-known-r c = search needs
-
-enum-known-next : tie.Need-enum-known-next
-enum-known-next c = search needs
 
 returns : tie.Need-returns
 returns c =
@@ -29,4 +20,4 @@ returns-3 : tie.Need-returns-3
 returns-3 c = checksum-none _ (c .if1 .left)
 
 pub skip-checksum-spec : {M : Type 1} → statement M
-skip-checksum-spec = tie.close (tie.spec read-u32-requires enum-known-r enum-known-next returns returns-2 returns-3)
+skip-checksum-spec = tie.close (tie.spec (λ c κs. search needs) (λ c. search needs) (λ c. search needs) returns returns-2 returns-3)

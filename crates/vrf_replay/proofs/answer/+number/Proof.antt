@@ -1,13 +1,13 @@
+use Prim.Native.Nat.{_<_, ℕ}
 use borrow.Author.Needs.{needs}
-use Prim.Native.Nat.{ℕ, _<_}
 use borrow.Fn.Kinds.{In}
 use borrow.Fn.PlainCycle.{Measures, is, falls, and}
-use Rattle.vrf_replay.proofs.answer.number.Reads as number
-use Rattle.vrf_replay.proofs.answer.number.Kinds as number-kinds
-use Rattle.vrf_replay.proofs.answer.+number.Lts-number as number-lts
-use Rattle.vrf_replay.proofs.answer.byte.Reads as byte-reads
 use Rattle.vrf_replay.proofs.answer.+number.{statement}
+use Rattle.vrf_replay.proofs.answer.+number.Lts-number as number-lts
 use Rattle.vrf_replay.proofs.answer.+number.Tie.{close}
+use Rattle.vrf_replay.proofs.answer.byte.Reads as byte-reads
+use Rattle.vrf_replay.proofs.answer.number.Kinds as number-kinds
+use Rattle.vrf_replay.proofs.answer.number.Reads as number
 
 abbrev μ-number : Measures 1 number-kinds.ps ℕ
 μ-number κs a = a .1 .1 .0

@@ -1,69 +1,18 @@
-use Rattle.vrf_replay.proofs.Rooms.{in-room}
 use borrow.Author.Needs.{needs}
+use Rattle.vrf_replay.proofs.Scratch.{in-scratch}
 use Rattle.vrf_replay.proofs.bits.text_in.Statement.{statement}
 use Rattle.vrf_replay.proofs.bits.text_in.Tie as tie
 
-read-fstring-requires : tie.Need-read-fstring-requires
-read-fstring-requires c κs = search needs
-
-enum-known-r : tie.Need-enum-known-r
-enum-known-r c = search needs
-
-refused-requires : tie.Need-refused-requires
-refused-requires c κs = search needs
-
-enum-known-n : tie.Need-enum-known-n
-enum-known-n c = search needs
-
-cast-k : tie.Need-cast-k
-cast-k c = search needs
-
-sub-said : tie.Need-sub-said
-sub-said c = search needs
-
-part-said-start : tie.Need-part-said-start
-part-said-start c = search needs
-
-part-said-end : tie.Need-part-said-end
-part-said-end c = in-room _ _ _ _ _ _ _ (c .before .before .n .given .1) (c .before .before .before .before .before .before .read-fstring .ensures)
-
-said-requires : tie.Need-said-requires
-said-requires c κs = search needs
-
-same-length : tie.Need-same-length
-same-length c = search needs
-
-same-length-2 : tie.Need-same-length-2
-same-length-2 c = search needs
-
-returns : tie.Need-returns
-returns c = search needs
-
-same-length-3 : tie.Need-same-length-3
-same-length-3 c = search needs
-
-same-length-4 : tie.Need-same-length-4
-same-length-4 c = search needs
-
-returns-2 : tie.Need-returns-2
-returns-2 c = search needs
+part-text-value-end : tie.Need-part-text-value-end
+part-text-value-end c =
+    let at-n = c .before .before in
+    let after-read-fstring = at-n .before .before .before .before in
+    in-scratch _ _ _ _ _ _ _ (at-n .n .given .1) (after-read-fstring .read-fstring .ensures)
 
 pub text-in-spec : {M : Type 1} → statement M
 text-in-spec =
     tie.close
     (tie.spec
-    read-fstring-requires
-    enum-known-r
-    refused-requires
-    enum-known-n
-    cast-k
-    sub-said
-    part-said-start
-    part-said-end
-    said-requires
-    same-length
-    same-length-2
-    returns
-    same-length-3
-    same-length-4
-    returns-2)
+    (λ c κs. search needs) (λ c. search needs) (λ c κs. search needs) (λ c. search needs) (λ c. search needs)
+    (λ c. search needs) (λ c. search needs) part-text-value-end (λ c κs. search needs) (λ c. search needs)
+    (λ c. search needs) (λ c. search needs) (λ c. search needs) (λ c. search needs) (λ c. search needs))

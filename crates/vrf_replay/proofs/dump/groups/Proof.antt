@@ -1,7 +1,7 @@
 use mathlib.Core.Path.{_≡_}
+use Prim.Native.Nat.{_-_, _≤_}
 use lib.ListN.{length}
 use borrow.Author.Needs.{needs}
-use Prim.Native.Nat.{_-_, _≤_}
 use Rattle.vrf_replay.proofs.dump.groups.Statement.{statement}
 use Rattle.vrf_replay.proofs.dump.groups.Tie as tie
 
@@ -11,45 +11,9 @@ Inv-loop book n slots out₀ run₀ place₀ out run place = (place ≤ n) × (r
 abbrev μ-loop : tie.MeasureT-loop
 μ-loop book n slots out₀ run₀ place₀ out run place = n - place
 
-loop-holds : tie.Need-loop-holds Inv-loop μ-loop
-loop-holds c = search needs
-
-same-length : tie.Need-same-length Inv-loop μ-loop
-same-length c = search needs
-
-returns : tie.Need-returns Inv-loop μ-loop
-returns c = search needs
-
-group-requires : tie.Need-group-requires Inv-loop μ-loop
-group-requires c κs = search needs
-
-add-place : tie.Need-add-place Inv-loop μ-loop
-add-place c = search needs
-
-loop-less : tie.Need-loop-less Inv-loop μ-loop
-loop-less c = search needs
-
-loop-again : tie.Need-loop-again Inv-loop μ-loop
-loop-again c = search needs
-
-same-length-2 : tie.Need-same-length-2 Inv-loop μ-loop
-same-length-2 c = search needs
-
-returns-2 : tie.Need-returns-2 Inv-loop μ-loop
-returns-2 c = search needs
-
 pub groups-spec : {M : Type 1} → statement M
 groups-spec =
     tie.close
     (tie.spec
-    Inv-loop
-    μ-loop
-    loop-holds
-    same-length
-    returns
-    group-requires
-    add-place
-    loop-less
-    loop-again
-    same-length-2
-    returns-2)
+    Inv-loop μ-loop (λ c. search needs) (λ c. search needs) (λ c. search needs) (λ c κs. search needs)
+    (λ c. search needs) (λ c. search needs) (λ c. search needs) (λ c. search needs) (λ c. search needs))

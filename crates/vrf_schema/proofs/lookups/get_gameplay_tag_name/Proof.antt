@@ -1,33 +1,30 @@
--- `vrf_schema::lookups::get_gameplay_tag_name` meets its contract.
+-- `vrf_schema::lookups::get_gameplay_tag_name` satisfies its contract.
 use mathlib.Core.Path.{refl, ap, _∙_}
 use borrow.Author.Needs.{needs}
-use Rattle.vrf_model.specs.Calls.{found, onText, run}
-use Rattle.vrf_schema.specs.Door.{turned-away, admitted, admitted-good, looked}
+use Rattle.vrf_model.specs.Calls.{found, ifTextAccepted, run}
+use Rattle.vrf_schema.specs.Laws.Checked.{refused-by-checks, admitted, admitted-good, looked}
 use Rattle.vrf_schema.proofs.lookups.get_gameplay_tag_name.Statement.{statement}
 use Rattle.vrf_schema.proofs.lookups.get_gameplay_tag_name.Tie as tie
 
-meet-requires : tie.Need-meet-requires
-meet-requires c κs = search needs
-
-enum-known-r : tie.Need-enum-known-r
-enum-known-r c = search needs
-
-enum-told : tie.Need-enum-told
-enum-told c = search needs
-
 get-gameplay-tag-name-requires : tie.Need-get-gameplay-tag-name-requires
-get-gameplay-tag-name-requires c κs = admitted-good (c .before .before .meet .ensures) (c .enum-told .given .1)
-
-place-requires : tie.Need-place-requires
-place-requires c κs = search needs
+get-gameplay-tag-name-requires c κs = admitted-good (c .before .before .check-book .ensures) (c .enum-told .given .1)
 
 returns : tie.Need-returns
-unfolding run onText
-returns c = turned-away _ (λ i. c .before .before .before .before .shared-slice-known .given i .fits) (c .before .before .before .meet .ensures) (c .before .r .given .1) refl
+unfolding run ifTextAccepted
+returns c =
+    let at-r = c .before in
+    let after-check-book = at-r .before .before in
+    let at-shared-slice-known = after-check-book .before in
+    refused-by-checks _ (λ i. at-shared-slice-known .shared-slice-known .given i .fits) (after-check-book .check-book .ensures) (at-r .r .given .1) refl
 
 returns-2 : tie.Need-returns-2
-unfolding run onText
-returns-2 c = looked (admitted (c .before .before .before .before .meet .ensures) (c .before .before .enum-told .given .1)) (λ i. c .before .before .before .before .before .shared-slice-known .given i .fits) (c .place .ensures ∙ ap found (c .before .get-gameplay-tag-name .ensures)) refl
+unfolding run ifTextAccepted
+returns-2 c =
+    let after-get-gameplay-tag-name = c .before in
+    let at-enum-told = after-get-gameplay-tag-name .before in
+    let after-check-book = at-enum-told .before .before in
+    let at-shared-slice-known = after-check-book .before in
+    looked (admitted (after-check-book .check-book .ensures) (at-enum-told .enum-told .given .1)) (λ i. at-shared-slice-known .shared-slice-known .given i .fits) (c .place .ensures ∙ ap found (after-get-gameplay-tag-name .get-gameplay-tag-name .ensures)) refl
 
 pub get-gameplay-tag-name-spec : {M : Type 1} → statement M
-get-gameplay-tag-name-spec = tie.close (tie.spec meet-requires enum-known-r enum-told get-gameplay-tag-name-requires place-requires returns returns-2)
+get-gameplay-tag-name-spec = tie.close (tie.spec (λ c κs. search needs) (λ c. search needs) (λ c. search needs) get-gameplay-tag-name-requires (λ c κs. search needs) returns returns-2)

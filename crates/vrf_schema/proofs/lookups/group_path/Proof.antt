@@ -1,25 +1,13 @@
--- `vrf_schema::lookups::group_path` meets its contract.
+-- `vrf_schema::lookups::group_path` satisfies its contract.
 use mathlib.Core.Path.{refl, ap}
-use denote.Ref.{now}
 use borrow.Author.Needs.{needs}
-use Rattle.vrf_model.specs.Calls.{text, onText, run}
-use Rattle.vrf_store.specs.CheckSteps.{fails, holds}
-use Rattle.vrf_store.specs.Good.{check-good}
-use Rattle.vrf_schema.specs.Door.{text-refused, text-found, checked, looked}
+use denote.Ref.{now}
+use Rattle.vrf_model.specs.Calls.{text, ifTextAccepted, run}
+use Rattle.vrf_store.specs.Laws.Memory.Check.{check-good}
+use Rattle.vrf_store.specs.Laws.Check.Steps.{fails, holds}
+use Rattle.vrf_schema.specs.Laws.Checked.{text-refused, text-found, checked, looked}
 use Rattle.vrf_schema.proofs.lookups.group_path.Statement.{statement}
 use Rattle.vrf_schema.proofs.lookups.group_path.Tie as tie
-
-check-requires : tie.Need-check-requires
-check-requires c κs = search needs
-
-sub-result : tie.Need-sub-result
-sub-result c = search needs
-
-part-result-start : tie.Need-part-result-start
-part-result-start c = search needs
-
-part-result-end : tie.Need-part-result-end
-part-result-end c = search needs
 
 returns : tie.Need-returns
 returns c = text-refused (fails (c .before .before .check .ensures) (c .before .if1 .taken))
@@ -28,8 +16,12 @@ group-path-requires : tie.Need-group-path-requires
 group-path-requires c κs = check-good (now (c .before .before .before .args .book)) (holds (c .before .check .ensures) (c .if1 .left))
 
 returns-2 : tie.Need-returns-2
-unfolding run onText
-returns-2 c = text-found (looked (checked (holds (c .before .before .check .ensures) (c .before .if1 .left))) (λ i. c .before .before .before .shared-slice-known .given i .fits) (ap text (c .group-path .ensures)) refl)
+unfolding run ifTextAccepted
+returns-2 c =
+    let at-if1 = c .before in
+    let after-check = at-if1 .before in
+    let at-shared-slice-known = after-check .before in
+    text-found (looked (checked (holds (after-check .check .ensures) (at-if1 .if1 .left))) (λ i. at-shared-slice-known .shared-slice-known .given i .fits) (ap text (c .group-path .ensures)) refl)
 
 pub group-path-spec : {M : Type 1} → statement M
-group-path-spec = tie.close (tie.spec check-requires sub-result part-result-start part-result-end returns group-path-requires returns-2)
+group-path-spec = tie.close (tie.spec (λ c κs. search needs) (λ c. search needs) (λ c. search needs) (λ c. search needs) returns group-path-requires returns-2)

@@ -1,15 +1,9 @@
--- `vrf_schema::reading::ended` meets its contract, by cases.
+-- `vrf_schema::reading::ended` satisfies its contract, by cases.
 use mathlib.Core.Path.{ap, sym}
-use Rattle.vrf_schema.specs.Reading.{ranBy}
 use borrow.Author.Needs.{needs}
+use Rattle.vrf_schema.specs.Inner.Reading.{ranBy}
 use Rattle.vrf_schema.proofs.reading.ended.Statement.{statement}
 use Rattle.vrf_schema.proofs.reading.ended.Tie as tie
-
-enum-known-w : tie.Need-enum-known-w
-enum-known-w c = search needs
-
-enum-known-w-2 : tie.Need-enum-known-w-2
-enum-known-w-2 c = search needs
 
 returns : tie.Need-returns
 returns c = sym (ap ranBy (c .before .w .given .1))
@@ -18,4 +12,4 @@ returns-2 : tie.Need-returns-2
 returns-2 c = sym (ap ranBy (c .before .w2 .given .1))
 
 pub ended-spec : {M : Type 1} → statement M
-ended-spec = tie.close (tie.spec enum-known-w enum-known-w-2 returns returns-2)
+ended-spec = tie.close (tie.spec (λ c. search needs) (λ c. search needs) returns returns-2)

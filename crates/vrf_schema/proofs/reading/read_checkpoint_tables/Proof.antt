@@ -1,56 +1,46 @@
--- `vrf_schema::reading::read_checkpoint_tables` meets its contract.
+-- `vrf_schema::reading::read_checkpoint_tables` satisfies its contract.
 use mathlib.Core.Path.{refl, subst}
 use native.Mathlib.Omega.{arith}
+use borrow.Author.Needs.{needs}
 use denote.Ref.{now}
 use Rattle.vrf_model.specs.Block.{block}
-use Rattle.vrf_model.specs.Calls.{counted, over, run}
-use Rattle.vrf_schema.specs.Reading.{MetWindow, window-good, window-refused, block-read}
-use borrow.Author.Needs.{needs}
+use Rattle.vrf_model.specs.Calls.{block-counts, readWindow, run}
+use Rattle.vrf_schema.specs.Inner.Reading.{CheckedWindow}
+use Rattle.vrf_schema.specs.Laws.Reading.{window-good, window-refused, block-read}
 use Rattle.vrf_schema.proofs.reading.read_checkpoint_tables.Statement.{statement}
 use Rattle.vrf_schema.proofs.reading.read_checkpoint_tables.Tie as tie
 
-meet-window-requires : tie.Need-meet-window-requires
-meet-window-requires c κs = search needs
-
-enum-known-r : tie.Need-enum-known-r
-enum-known-r c = search needs
-
-enum-known-c : tie.Need-enum-known-c
-enum-known-c c = search needs
-
-slice-aggregate-read-checkpoint-tables : tie.Need-slice-aggregate-read-checkpoint-tables
-slice-aggregate-read-checkpoint-tables c = search needs
-
 read-checkpoint-tables-requires : tie.Need-read-checkpoint-tables-requires
-read-checkpoint-tables-requires c κs = let met = (subst (MetWindow (now (c .before .before .before .before .before .before .before .before .before .args .book)) (now (c .before .before .before .before .before .before .before .before .before .args .window)) (c .before .before .before .before .before .before .before .before .before .args .first) (c .before .before .before .before .before .before .before .before .before .args .count)) (c .before .before .before .c .given .1) (c .before .before .before .before .before .meet-window .ensures)) in
+read-checkpoint-tables-requires c κs =
+    let at-c = c .before .before .before in
+    let after-check-book-window = at-c .before .before in
+    let start = after-check-book-window .before .before .before .before in
+    let met = (subst (CheckedWindow (now (start .args .book)) (now (start .args .window)) (start .args .first) (start .args .count)) (at-c .c .given .1) (after-check-book-window .check-book-window .ensures)) in
     (window-good met, omega arith)
 
-same-length : tie.Need-same-length
-same-length c = search needs
-
 returns : tie.Need-returns
-unfolding run over
-returns c = window-refused (λ n p. counted n) block _ refl (λ i. c .before .before .before .before .before .before .slice-known .given i .fits) (subst (MetWindow (now (c .before .before .before .before .before .before .before .args .book)) (now (c .before .before .before .before .before .before .before .args .window)) (c .before .before .before .before .before .before .before .args .first) (c .before .before .before .before .before .before .before .args .count)) (c .before .r .given .1) (c .before .before .before .meet-window .ensures))
-
-same-length-2 : tie.Need-same-length-2
-same-length-2 c = search needs
+unfolding run readWindow
+returns c =
+    let at-r = c .before in
+    let after-check-book-window = at-r .before .before in
+    let at-slice-known = after-check-book-window .before .before .before in
+    let start = at-slice-known .before in
+    window-refused (λ n p. block-counts n) block _ refl (λ i. at-slice-known .slice-known .given i .fits) (subst (CheckedWindow (now (start .args .book)) (now (start .args .window)) (start .args .first) (start .args .count)) (at-r .r .given .1) (after-check-book-window .check-book-window .ensures))
 
 returns-2 : tie.Need-returns-2
-unfolding run over
+unfolding run readWindow
 returns-2 c =
-    let call = c .before .before .before .read-checkpoint-tables in
-    block-read _ refl (λ i. c .before .before .before .before .before .before .before .before .before .before .before .before .slice-known .given i .fits) (subst (MetWindow (now (c .before .before .before .before .before .before .before .before .before .before .before .before .before .args .book)) (now (c .before .before .before .before .before .before .before .before .before .before .before .before .before .args .window)) (c .before .before .before .before .before .before .before .before .before .before .before .before .before .args .first) (c .before .before .before .before .before .before .before .before .before .before .before .before .before .args .count)) (c .before .before .before .before .before .before .before .c .given .1) (c .before .before .before .before .before .before .before .before .before .meet-window .ensures)) (call .result) (call .ensures)
+    let after-read-checkpoint-tables = c .before .before .before in
+    let at-c = after-read-checkpoint-tables .before .before .before .before in
+    let after-check-book-window = at-c .before .before in
+    let at-slice-known = after-check-book-window .before .before .before in
+    let start = at-slice-known .before in
+    let call = after-read-checkpoint-tables .read-checkpoint-tables in
+    block-read _ refl (λ i. at-slice-known .slice-known .given i .fits) (subst (CheckedWindow (now (start .args .book)) (now (start .args .window)) (start .args .first) (start .args .count)) (at-c .c .given .1) (after-check-book-window .check-book-window .ensures)) (call .result) (call .ensures)
 
 pub read-checkpoint-tables-spec : {M : Type 1} → statement M
 read-checkpoint-tables-spec =
     tie.close
     (tie.spec
-    meet-window-requires
-    enum-known-r
-    enum-known-c
-    slice-aggregate-read-checkpoint-tables
-    read-checkpoint-tables-requires
-    same-length
-    returns
-    same-length-2
-    returns-2)
+    (λ c κs. search needs) (λ c. search needs) (λ c. search needs) (λ c. search needs) read-checkpoint-tables-requires
+    (λ c. search needs) returns (λ c. search needs) returns-2)

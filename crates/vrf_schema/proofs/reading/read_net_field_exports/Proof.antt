@@ -1,58 +1,47 @@
--- `vrf_schema::reading::read_net_field_exports` meets its contract.
+-- `vrf_schema::reading::read_net_field_exports` satisfies its contract.
 use mathlib.Core.Path.{refl, subst}
 use native.Mathlib.Omega.{arith}
-use denote.Ref.{now}
-use Rattle.vrf_model.specs.Calls.{ran, over, run}
-use Rattle.vrf_model.specs.Runs.{fieldsRun}
-use Rattle.vrf_schema.specs.Reading.{MetWindow, window-good, window-refused, run-read}
 use borrow.Author.Needs.{needs}
+use denote.Ref.{now}
+use Rattle.vrf_model.specs.Runs.{fieldsRun}
+use Rattle.vrf_model.specs.Calls.{ran, readWindow, run}
+use Rattle.vrf_schema.specs.Inner.Reading.{CheckedWindow}
+use Rattle.vrf_schema.specs.Laws.Reading.{window-good, window-refused, run-read}
 use Rattle.vrf_schema.proofs.reading.read_net_field_exports.Statement.{statement}
 use Rattle.vrf_schema.proofs.reading.read_net_field_exports.Tie as tie
 
-meet-window-requires : tie.Need-meet-window-requires
-meet-window-requires c κs = search needs
-
-enum-known-r : tie.Need-enum-known-r
-enum-known-r c = search needs
-
-enum-known-c : tie.Need-enum-known-c
-enum-known-c c = search needs
-
-slice-aggregate-read-net-field-exports : tie.Need-slice-aggregate-read-net-field-exports
-slice-aggregate-read-net-field-exports c = search needs
-
 read-net-field-exports-requires : tie.Need-read-net-field-exports-requires
-read-net-field-exports-requires c κs = let met = (subst (MetWindow (now (c .before .before .before .before .before .before .before .before .before .args .book)) (now (c .before .before .before .before .before .before .before .before .before .args .window)) (c .before .before .before .before .before .before .before .before .before .args .first) (c .before .before .before .before .before .before .before .before .before .args .count)) (c .before .before .before .c .given .1) (c .before .before .before .before .before .meet-window .ensures)) in
+read-net-field-exports-requires c κs =
+    let at-c = c .before .before .before in
+    let after-check-book-window = at-c .before .before in
+    let start = after-check-book-window .before .before .before .before in
+    let met = (subst (CheckedWindow (now (start .args .book)) (now (start .args .window)) (start .args .first) (start .args .count)) (at-c .c .given .1) (after-check-book-window .check-book-window .ensures)) in
     (window-good met, omega arith)
 
-ended-requires : tie.Need-ended-requires
-ended-requires c κs = search needs
-
-same-length : tie.Need-same-length
-same-length c = search needs
-
 returns : tie.Need-returns
-unfolding run over
-returns c = window-refused ran fieldsRun _ refl (λ i. c .before .before .before .before .before .before .slice-known .given i .fits) (subst (MetWindow (now (c .before .before .before .before .before .before .before .args .book)) (now (c .before .before .before .before .before .before .before .args .window)) (c .before .before .before .before .before .before .before .args .first) (c .before .before .before .before .before .before .before .args .count)) (c .before .r .given .1) (c .before .before .before .meet-window .ensures))
-
-same-length-2 : tie.Need-same-length-2
-same-length-2 c = search needs
+unfolding run readWindow
+returns c =
+    let at-r = c .before in
+    let after-check-book-window = at-r .before .before in
+    let at-slice-known = after-check-book-window .before .before .before in
+    let start = at-slice-known .before in
+    window-refused ran fieldsRun _ refl (λ i. at-slice-known .slice-known .given i .fits) (subst (CheckedWindow (now (start .args .book)) (now (start .args .window)) (start .args .first) (start .args .count)) (at-r .r .given .1) (after-check-book-window .check-book-window .ensures))
 
 returns-2 : tie.Need-returns-2
-unfolding run over
-returns-2 c = run-read fieldsRun _ refl (λ i. c .before .before .before .before .before .before .before .before .before .before .before .before .before .slice-known .given i .fits) (subst (MetWindow (now (c .before .before .before .before .before .before .before .before .before .before .before .before .before .before .args .book)) (now (c .before .before .before .before .before .before .before .before .before .before .before .before .before .before .args .window)) (c .before .before .before .before .before .before .before .before .before .before .before .before .before .before .args .first) (c .before .before .before .before .before .before .before .before .before .before .before .before .before .before .args .count)) (c .before .before .before .before .before .before .before .before .c .given .1) (c .before .before .before .before .before .before .before .before .before .before .meet-window .ensures)) (c .before .before .before .before .read-net-field-exports .result) (c .before .before .before .before .read-net-field-exports .ensures) (c .ended .ensures)
+unfolding run readWindow
+returns-2 c =
+    let after-read-net-field-exports = c .before .before .before .before in
+    let at-c = after-read-net-field-exports .before .before .before .before in
+    let after-check-book-window = at-c .before .before in
+    let at-slice-known = after-check-book-window .before .before .before in
+    let start = at-slice-known .before in
+    run-read fieldsRun _ refl (λ i. at-slice-known .slice-known .given i .fits)
+    (subst (CheckedWindow (now (start .args .book)) (now (start .args .window)) (start .args .first) (start .args .count)) (at-c .c .given .1) (after-check-book-window .check-book-window .ensures))
+    (after-read-net-field-exports .read-net-field-exports .result) (after-read-net-field-exports .read-net-field-exports .ensures) (c .ended .ensures)
 
 pub read-net-field-exports-spec : {M : Type 1} → statement M
 read-net-field-exports-spec =
     tie.close
     (tie.spec
-    meet-window-requires
-    enum-known-r
-    enum-known-c
-    slice-aggregate-read-net-field-exports
-    read-net-field-exports-requires
-    ended-requires
-    same-length
-    returns
-    same-length-2
-    returns-2)
+    (λ c κs. search needs) (λ c. search needs) (λ c. search needs) (λ c. search needs) read-net-field-exports-requires
+    (λ c κs. search needs) (λ c. search needs) returns (λ c. search needs) returns-2)

@@ -1,22 +1,8 @@
-use Rattle.vrf_store.specs.Store.{long, countersOf}
+-- `vrf_store::counters::read_counters` satisfies its contract: it reads two words for each counter.
 use borrow.Author.Needs.{needs}
+use Rattle.vrf_store.specs.Store.{long, countersOf}
 use Rattle.vrf_store.proofs.counters.read_counters.Statement.{statement}
 use Rattle.vrf_store.proofs.counters.read_counters.Tie as tie
-
-get64-requires : tie.Need-get64-requires
-get64-requires c κs = search needs
-
-get64-requires-2 : tie.Need-get64-requires-2
-get64-requires-2 c κs = search needs
-
-get64-requires-3 : tie.Need-get64-requires-3
-get64-requires-3 c κs = search needs
-
-get64-requires-4 : tie.Need-get64-requires-4
-get64-requires-4 c κs = search needs
-
-get64-requires-5 : tie.Need-get64-requires-5
-get64-requires-5 c κs = search needs
 
 returns : tie.Need-returns
 unfolding countersOf long
@@ -26,9 +12,5 @@ pub read-counters-spec : {M : Type 1} → statement M
 read-counters-spec =
     tie.close
     (tie.spec
-    get64-requires
-    get64-requires-2
-    get64-requires-3
-    get64-requires-4
-    get64-requires-5
+    (λ c κs. search needs) (λ c κs. search needs) (λ c κs. search needs) (λ c κs. search needs) (λ c κs. search needs)
     returns)

@@ -1,17 +1,16 @@
-use denote.Ref.{now}
-use Rattle.vrf_store.specs.Counted.{counted-replaced}
+-- `vrf_store::counters::step_replaced` satisfies its contract: it changes one counter and nothing else.
 use borrow.Author.Needs.{needs}
+use denote.Ref.{now}
+use Rattle.vrf_store.specs.Laws.Counters.{counted-replaced}
 use Rattle.vrf_store.proofs.counters.step_replaced.Statement.{statement}
 use Rattle.vrf_store.proofs.counters.step_replaced.Tie as tie
 
-step-requires : tie.Need-step-requires
-step-requires c κs = search needs
-
-same-length : tie.Need-same-length
-same-length c = search needs
-
 returns : tie.Need-returns
-returns c = counted-replaced (now (c .before .before .before .before .before .args .m)) (λ i. c .before .before .before .before .slice-known .given i .fits) (c .before .before .before .before .before .pre) (c .before .before .step .ensures)
+returns c =
+    let after-step = c .before .before in
+    let at-slice-known = after-step .before .before in
+    let start = at-slice-known .before in
+    counted-replaced (now (start .args .m)) (λ i. at-slice-known .slice-known .given i .fits) (start .pre) (after-step .step .ensures)
 
 pub step-replaced-spec : {M : Type 1} → statement M
-step-replaced-spec = tie.close (tie.spec step-requires same-length returns)
+step-replaced-spec = tie.close (tie.spec (λ c κs. search needs) (λ c. search needs) returns)

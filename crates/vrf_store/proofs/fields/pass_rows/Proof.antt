@@ -1,10 +1,10 @@
--- `vrf_store::fields::pass_rows` meets its contract. The loop's invariant: e rows are passed.
+-- `vrf_store::fields::pass_rows` satisfies its contract. The loop invariant: e rows are passed.
 use mathlib.Core.Path.{_≡_, _∙_}
 use Prim.Native.Nat.{_+_, _-_, _*_, _≤_}
 use native.Mathlib.Omega.{arith}
 use lib.ListN.{length}
 use borrow.Author.Needs.{needs}
-use Rattle.vrf_store.specs.FieldDrop.{Passing, pass-start, pass-step}
+use Rattle.vrf_store.specs.Laws.Fields.Drop.{Passing, pass-start, pass-step}
 use Rattle.vrf_store.proofs.fields.pass_rows.Statement.{statement}
 use Rattle.vrf_store.proofs.fields.pass_rows.Tie as tie
 
@@ -14,55 +14,29 @@ Inv-loop t₀ cap place n kept₀ e₀ t kept e = (e ≤ n) × (length t ≡ 24 
 abbrev μ-loop : tie.MeasureT-loop
 μ-loop t₀ cap place n kept₀ e₀ t kept e = n - e
 
-mul-zero-words : tie.Need-mul-zero-words Inv-loop μ-loop
-mul-zero-words c = search needs
-
-mul-zero-words-2 : tie.Need-mul-zero-words-2 Inv-loop μ-loop
-mul-zero-words-2 c = search needs
-
-add-zero-words : tie.Need-add-zero-words Inv-loop μ-loop
-add-zero-words c = search needs
-
-zero-words-requires : tie.Need-zero-words-requires Inv-loop μ-loop
-zero-words-requires c κs = search needs
-
 loop-holds : tie.Need-loop-holds Inv-loop μ-loop
-loop-holds c = (omega arith, omega (arith, c .before .before .zero-words .kept .0, c .before .before .before .before .before .pre), pass-start _ _ _)
-
-pass-row-requires : tie.Need-pass-row-requires Inv-loop μ-loop
-pass-row-requires c κs = search needs
-
-add-e : tie.Need-add-e Inv-loop μ-loop
-add-e c = search needs
-
-loop-less : tie.Need-loop-less Inv-loop μ-loop
-loop-less c = search needs
+loop-holds c =
+    let after-zero-words = c .before .before in
+    let start = after-zero-words .before .before .before in
+    (omega arith, omega (arith, after-zero-words .zero-words .kept .0, start .pre), pass-start _ _ _)
 
 loop-again : tie.Need-loop-again Inv-loop μ-loop
-loop-again c = (omega arith, omega (arith, c .before .before .pass-row .kept .0, c .before .before .before .before .before .loop .inv .1), pass-step (c .before .before .before .before .before .loop .inv .2) (c .before .before .pass-row .ensures))
-
-same-length : tie.Need-same-length Inv-loop μ-loop
-same-length c = search needs
+loop-again c =
+    let after-pass-row = c .before .before in
+    let at-loop = after-pass-row .before .before .before in
+    (omega arith, omega (arith, after-pass-row .pass-row .kept .0, at-loop .loop .inv .1), pass-step (at-loop .loop .inv .2) (after-pass-row .pass-row .ensures))
 
 returns : tie.Need-returns Inv-loop μ-loop
 returns c =
-    let all : c .before .loop .e ≡ c .before .before .before .before .before .before .before .args .n = omega arith in
-    c .before .loop .inv .2 .state ∙ rw (c .before .before .before .before .zero-words .ensures, all)
+    let at-loop = c .before in
+    let after-zero-words = at-loop .before .before .before in
+    let start = after-zero-words .before .before .before in
+    let all : at-loop .loop .e ≡ start .args .n = omega arith in
+    at-loop .loop .inv .2 .state ∙ rw (after-zero-words .zero-words .ensures, all)
 
 pub pass-rows-spec : {M : Type 1} → statement M
 pass-rows-spec =
     tie.close
     (tie.spec
-    Inv-loop
-    μ-loop
-    mul-zero-words
-    mul-zero-words-2
-    add-zero-words
-    zero-words-requires
-    loop-holds
-    pass-row-requires
-    add-e
-    loop-less
-    loop-again
-    same-length
-    returns)
+    Inv-loop μ-loop (λ c. search needs) (λ c. search needs) (λ c. search needs) (λ c κs. search needs) loop-holds
+    (λ c κs. search needs) (λ c. search needs) (λ c. search needs) loop-again (λ c. search needs) returns)

@@ -1,115 +1,31 @@
--- `vrf_store::fields::push_field` meets its contract: the writes are those of the law `push-field`.
+-- `vrf_store::fields::push_field` satisfies its contract: the law `push-field` gives the memory after its writes.
 use borrow.Author.Needs.{needs}
-use Rattle.vrf_store.specs.FieldMemory.{push-field}
+use Rattle.vrf_store.specs.Laws.Fields.Memory.{push-field}
 use Rattle.vrf_store.proofs.fields.push_field.Statement.{statement}
 use Rattle.vrf_store.proofs.fields.push_field.Tie as tie
 
-fields-allowed-requires : tie.Need-fields-allowed-requires
-fields-allowed-requires c κs = search needs
-
-fields-requires : tie.Need-fields-requires
-fields-requires c κs = search needs
-
-held-requires : tie.Need-held-requires
-held-requires c κs = search needs
-
-add-total : tie.Need-add-total
-add-total c = search needs
-
-fields-at-requires : tie.Need-fields-at-requires
-fields-at-requires c κs = search needs
-
-mul-to : tie.Need-mul-to
-mul-to c = search needs
-
-add-to : tie.Need-add-to
-add-to c = search needs
-
-mul-to-2 : tie.Need-mul-to-2
-mul-to-2 c = search needs
-
-add-to-2 : tie.Need-add-to-2
-add-to-2 c = search needs
-
-mul-to-3 : tie.Need-mul-to-3
-mul-to-3 c = search needs
-
-add-to-3 : tie.Need-add-to-3
-add-to-3 c = search needs
-
-mul-k : tie.Need-mul-k
-mul-k c = search needs
-
-add-k : tie.Need-add-k
-add-k c = search needs
-
-mul-b : tie.Need-mul-b
-mul-b c = search needs
-
-add-b : tie.Need-add-b
-add-b c = search needs
-
-cast-b : tie.Need-cast-b
-cast-b c = search needs
-
-sub-push-row : tie.Need-sub-push-row
-sub-push-row c = search needs
-
-part-push-row-start : tie.Need-part-push-row-start
-part-push-row-start c = search needs
-
-part-push-row-end : tie.Need-part-push-row-end
-part-push-row-end c = search needs
-
-push-row-requires : tie.Need-push-row-requires
-push-row-requires c κs = search needs
-
-add-put32 : tie.Need-add-put32
-add-put32 c = search needs
-
-put32-requires : tie.Need-put32-requires
-put32-requires c κs = search needs
-
-put32-requires-2 : tie.Need-put32-requires-2
-put32-requires-2 c κs = search needs
-
-same-length : tie.Need-same-length
-same-length c = search needs
-
 returns : tie.Need-returns
 returns c =
-    let start = c .before .before .before .before .before .before .before .before .before .before .before .before .before .before .before .before .before .before .before .before .before in
-    let row = c .before .before .before .before .before .before .before .before .before .before .push-row in
-    push-field (start .pre .0) (λ i. c .before .before .before .before .before .before .before .before .before .before .before .before .before .before .before .before .before .before .before .before .slice-known .given i .fits) _ _ _ _ _ (start .pre .1) (start .fits .checksum .fits)
-    (c .before .before .before .before .before .before .before .before .before .before .before .before .before .before .before .before .before .before .fields-allowed .ensures .0) (c .before .before .before .before .before .before .before .before .before .before .before .before .fields-at .ensures) (c .before .before .before .before .before .before .before .before .before .before .before .before .before .before .before .before .fields .ensures) (c .before .before .before .before .before .before .before .before .before .before .before .before .before .before .held .ensures)
-    (record { long = row .kept .0; made = row .ensures }) (c .before .before .before .before .before .before .put32 .ensures) (c .before .before .put322 .ensures)
+    let after-put322 = c .before .before in
+    let after-put32 = after-put322 .before .before .before .before in
+    let after-push-row = after-put32 .before .before .before .before in
+    let after-fields-at = after-push-row .before .before in
+    let after-held = after-fields-at .before .before in
+    let after-fields = after-held .before .before in
+    let after-fields-allowed = after-fields .before .before in
+    let at-slice-known = after-fields-allowed .before .before in
+    let start = at-slice-known .before in
+    let row = after-push-row .push-row in
+    push-field (start .pre .0) (λ i. at-slice-known .slice-known .given i .fits) _ _ _ _ _ (start .pre .1) (start .fits .checksum .fits)
+    (after-fields-allowed .fields-allowed .ensures .0) (after-fields-at .fields-at .ensures) (after-fields .fields .ensures) (after-held .held .ensures)
+    (record { long = row .kept .0; made = row .ensures }) (after-put32 .put32 .ensures) (after-put322 .put322 .ensures)
 
 pub push-field-spec : {M : Type 1} → statement M
 push-field-spec =
     tie.close
     (tie.spec
-    fields-allowed-requires
-    fields-requires
-    held-requires
-    add-total
-    fields-at-requires
-    mul-to
-    add-to
-    mul-to-2
-    add-to-2
-    mul-to-3
-    add-to-3
-    mul-k
-    add-k
-    mul-b
-    add-b
-    cast-b
-    sub-push-row
-    part-push-row-start
-    part-push-row-end
-    push-row-requires
-    add-put32
-    put32-requires
-    put32-requires-2
-    same-length
-    returns)
+    (λ c κs. search needs) (λ c κs. search needs) (λ c κs. search needs) (λ c. search needs) (λ c κs. search needs)
+    (λ c. search needs) (λ c. search needs) (λ c. search needs) (λ c. search needs) (λ c. search needs)
+    (λ c. search needs) (λ c. search needs) (λ c. search needs) (λ c. search needs) (λ c. search needs)
+    (λ c. search needs) (λ c. search needs) (λ c. search needs) (λ c. search needs) (λ c κs. search needs)
+    (λ c. search needs) (λ c κs. search needs) (λ c κs. search needs) (λ c. search needs) returns)

@@ -1,46 +1,35 @@
--- `vrf_store::groups::push_entry` meets its contract: two words of the index are written, or none.
+-- `vrf_store::groups::push_entry` satisfies its contract: it writes two words of the index, or none.
 use native.Mathlib.Omega.{arith}
-use denote.Ref.{now}
-use Rattle.vrf_store.specs.EntryMemory.{entry-written, entry-absent}
 use borrow.Author.Needs.{needs}
+use denote.Ref.{now}
+use Rattle.vrf_store.specs.Laws.Memory.Entries.{entry-written, entry-absent}
 use Rattle.vrf_store.proofs.groups.push_entry.Statement.{statement}
 use Rattle.vrf_store.proofs.groups.push_entry.Tie as tie
 
-enum-known-b : tie.Need-enum-known-b
-enum-known-b c = search needs
-
-add-head : tie.Need-add-head
-add-head c = search needs
-
-cast-head : tie.Need-cast-head
-cast-head c = search needs
-
-add-head-2 : tie.Need-add-head-2
-add-head-2 c = search needs
-
 get32-requires : tie.Need-get32-requires
-get32-requires c κs = let one = rw (c .before .before .b .given .1) at (c .before .before .before .before .before .pre .2) in omega (arith, one)
-
-add-put32 : tie.Need-add-put32
-add-put32 c = search needs
-
-put32-requires : tie.Need-put32-requires
-put32-requires c κs = search needs
+get32-requires c κs =
+    let at-b = c .before .before in
+    let start = at-b .before .before .before in
+    let one = rw (at-b .b .given .1) at (start .pre .2) in
+    omega (arith, one)
 
 put32-requires-2 : tie.Need-put32-requires-2
-put32-requires-2 c κs = let one = rw (c .before .before .before .before .before .before .before .before .b .given .1) at (c .before .before .before .before .before .before .before .before .before .before .before .pre .2) in omega (arith, one, c .before .before .before .before .before .before .before .before .before .before .before .pre .0, c .before .before .before .put32 .kept .0)
-
-enum-told : tie.Need-enum-told
-enum-told c = search needs
-
-same-length : tie.Need-same-length
-same-length c = search needs
+put32-requires-2 c κs =
+    let after-put32 = c .before .before .before in
+    let back = after-put32 .before .before .before .before in
+    let at-b = back .before in
+    let start = at-b .before .before .before in
+    let one = rw (at-b .b .given .1) at (start .pre .2) in
+    omega (arith, one, start .pre .0, after-put32 .put32 .kept .0)
 
 returns : tie.Need-returns
 returns c =
-    let start = c .before .before .before .before .before .before .before .before .before .before .before .before .before .before in
+    let back = c .before .before .before .before in
+    let back2 = back .before .before .before .before in
+    let at-b = back2 .before .before .before in
+    let start = at-b .before .before .before in
     let x = start .args in
-    let known = c .before .before .before .before .before .before .before .before .before .before .before .b .given in
+    let known = at-b .b .given in
     let one = rw (known .1) at (start .pre .2) in
     rw (known .1) (cc (entry-written (now (x .m)) (x .at) (x .n) (x .k) (start .pre .0) (x .i) (start .pre .1) (known .0 .0) one (x .p)))
 
@@ -54,15 +43,5 @@ pub push-entry-spec : {M : Type 1} → statement M
 push-entry-spec =
     tie.close
     (tie.spec
-    enum-known-b
-    add-head
-    cast-head
-    add-head-2
-    get32-requires
-    add-put32
-    put32-requires
-    put32-requires-2
-    enum-told
-    same-length
-    returns
-    returns-2)
+    (λ c. search needs) (λ c. search needs) (λ c. search needs) (λ c. search needs) get32-requires (λ c. search needs)
+    (λ c κs. search needs) put32-requires-2 (λ c. search needs) (λ c. search needs) returns returns-2)

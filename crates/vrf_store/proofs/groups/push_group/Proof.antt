@@ -1,57 +1,39 @@
--- `vrf_store::groups::push_group` meets its contract: the row and two numbers are written, and the group joins the indexes.
-use denote.Ref.{now}
-use Rattle.vrf_store.specs.GroupMoves.{push-written, push-indexable, push-stepped}
+-- `vrf_store::groups::push_group` satisfies its contract: it writes the row and two numbers, and adds the group to the indexes.
 use borrow.Author.Needs.{needs}
+use denote.Ref.{now}
+use Rattle.vrf_store.specs.Laws.Groups.Changes.{push-written, push-indexable, push-stepped}
 use Rattle.vrf_store.proofs.groups.push_group.Statement.{statement}
 use Rattle.vrf_store.proofs.groups.push_group.Tie as tie
 
-groups-requires : tie.Need-groups-requires
-groups-requires c κs = search needs
-
-held-requires : tie.Need-held-requires
-held-requires c κs = search needs
-
-add-total : tie.Need-add-total
-add-total c = search needs
-
-put-group-requires : tie.Need-put-group-requires
-put-group-requires c κs = search needs
-
-add-put32 : tie.Need-add-put32
-add-put32 c = search needs
-
-put32-requires : tie.Need-put32-requires
-put32-requires c κs = search needs
-
-put32-requires-2 : tie.Need-put32-requires-2
-put32-requires-2 c κs = search needs
-
 index-group-requires : tie.Need-index-group-requires
 index-group-requires c κs =
-    let start = c .before .before .before .before .before .before .before .before .before .before .before .before .before .before .before .before .before .before in
+    let after-put322 = c .before .before .before in
+    let after-put32 = after-put322 .before .before .before .before in
+    let after-put-group = after-put32 .before .before .before .before in
+    let after-held = after-put-group .before .before in
+    let after-groups = after-held .before .before in
+    let start = after-groups .before .before .before in
     let x = start .args in
-    push-indexable (now (x .m)) (x .index) (x .at) (x .len) (x .slots) (start .pre) (start .fits .index .fits) (c .before .before .before .before .before .before .before .before .before .before .before .before .before .before .before .groups .ensures) (push-written (now (x .m)) (x .index) (x .at) (x .len) (x .slots) (start .pre) (start .fits .index .fits) (c .before .before .before .before .before .before .before .before .before .before .before .before .before .before .before .groups .ensures) (c .before .before .before .before .before .before .before .before .before .before .before .before .before .held .ensures) (c .before .before .before .before .before .before .before .before .before .before .before .put-group .ensures) (c .before .before .before .before .before .before .before .put32 .ensures) (c .before .before .before .put322 .ensures))
-
-same-length : tie.Need-same-length
-same-length c = search needs
+    push-indexable (now (x .m)) (x .index) (x .at) (x .len) (x .slots) (start .pre) (start .fits .index .fits) (after-groups .groups .ensures)
+    (push-written (now (x .m)) (x .index) (x .at) (x .len) (x .slots) (start .pre) (start .fits .index .fits) (after-groups .groups .ensures) (after-held .held .ensures) (after-put-group .put-group .ensures) (after-put32 .put32 .ensures) (after-put322 .put322 .ensures))
 
 returns : tie.Need-returns
 returns c =
-    let start = c .before .before .before .before .before .before .before .before .before .before .before .before .before .before .before .before .before .before .before .before .before in
+    let after-index-group = c .before .before in
+    let after-put322 = after-index-group .before .before .before .before in
+    let after-put32 = after-put322 .before .before .before .before in
+    let after-put-group = after-put32 .before .before .before .before in
+    let after-held = after-put-group .before .before in
+    let after-groups = after-held .before .before in
+    let start = after-groups .before .before .before in
     let x = start .args in
-    push-stepped (now (x .m)) (x .index) (x .at) (x .len) (x .slots) (start .pre) (start .fits .index .fits) (c .before .before .before .before .before .before .before .before .before .before .before .before .before .before .before .before .before .before .groups .ensures) (push-written (now (x .m)) (x .index) (x .at) (x .len) (x .slots) (start .pre) (start .fits .index .fits) (c .before .before .before .before .before .before .before .before .before .before .before .before .before .before .before .before .before .before .groups .ensures) (c .before .before .before .before .before .before .before .before .before .before .before .before .before .before .before .before .held .ensures) (c .before .before .before .before .before .before .before .before .before .before .before .before .before .before .put-group .ensures) (c .before .before .before .before .before .before .before .before .before .before .put32 .ensures) (c .before .before .before .before .before .before .put322 .ensures)) (c .before .before .index-group .ensures)
+    push-stepped (now (x .m)) (x .index) (x .at) (x .len) (x .slots) (start .pre) (start .fits .index .fits) (after-groups .groups .ensures)
+    (push-written (now (x .m)) (x .index) (x .at) (x .len) (x .slots) (start .pre) (start .fits .index .fits) (after-groups .groups .ensures) (after-held .held .ensures) (after-put-group .put-group .ensures) (after-put32 .put32 .ensures) (after-put322 .put322 .ensures))
+    (after-index-group .index-group .ensures)
 
 pub push-group-spec : {M : Type 1} → statement M
 push-group-spec =
     tie.close
     (tie.spec
-    groups-requires
-    held-requires
-    add-total
-    put-group-requires
-    add-put32
-    put32-requires
-    put32-requires-2
-    index-group-requires
-    same-length
-    returns)
+    (λ c κs. search needs) (λ c κs. search needs) (λ c. search needs) (λ c κs. search needs) (λ c. search needs)
+    (λ c κs. search needs) (λ c κs. search needs) index-group-requires (λ c. search needs) returns)

@@ -1,64 +1,32 @@
--- `vrf_store::groups::push_key` meets its contract: the write is that of the law `key-written`.
+-- `vrf_store::groups::push_key` satisfies its contract: the law `key-written` gives the memory after its write.
 use native.Mathlib.Omega.{arith}
-use denote.Ref.{now}
-use Rattle.vrf_store.specs.GroupBuckets.{bucketed}
-use Rattle.vrf_store.specs.GroupMemory.{key-written}
 use borrow.Author.Needs.{needs}
+use denote.Ref.{now}
+use Rattle.vrf_store.specs.Inner.Groups.{bucketed}
+use Rattle.vrf_store.specs.Laws.Groups.Memory.{key-written}
 use Rattle.vrf_store.proofs.groups.push_key.Statement.{statement}
 use Rattle.vrf_store.proofs.groups.push_key.Tie as tie
 
-guids-allowed-requires : tie.Need-guids-allowed-requires
-guids-allowed-requires c κs = search needs
-
-groups-allowed-requires : tie.Need-groups-allowed-requires
-groups-allowed-requires c κs = search needs
-
-mul-link : tie.Need-mul-link
-mul-link c = search needs
-
-add-link : tie.Need-add-link
-add-link c = search needs
-
-mul-push-entry : tie.Need-mul-push-entry
-mul-push-entry c = search needs
-
-add-push-entry : tie.Need-add-push-entry
-add-push-entry c = search needs
-
-mul-push-entry-2 : tie.Need-mul-push-entry-2
-mul-push-entry-2 c = search needs
-
-add-push-entry-2 : tie.Need-add-push-entry-2
-add-push-entry-2 c = search needs
-
-add-push-entry-3 : tie.Need-add-push-entry-3
-add-push-entry-3 c = search needs
-
 push-entry-requires : tie.Need-push-entry-requires
-push-entry-requires c κs = (omega arith, omega arith, rw (c .before .groups-allowed .ensures .0) (c .before .before .before .before .before .before .pre .below))
-
-same-length : tie.Need-same-length
-same-length c = search needs
+push-entry-requires c κs =
+    let after-groups-allowed = c .before in
+    let back = after-groups-allowed .before .before .before .before in
+    let start = back .before in
+    (omega arith, omega arith, rw (after-groups-allowed .groups-allowed .ensures .0) (start .pre .below))
 
 returns : tie.Need-returns
 returns c =
-    let start = c .before .before .before .before .before .before .before .before .before in
+    let after-push-entry = c .before .before in
+    let after-groups-allowed = after-push-entry .before .before in
+    let after-guids-allowed = after-groups-allowed .before .before in
+    let start = after-guids-allowed .before .before .before in
     let x = start .args in
-    key-written (now (x .m)) _ _ _ (x .e) (bucketed (x .b)) (c .before .before .before .before .before .before .guids-allowed .ensures .0) (c .before .before .before .before .groups-allowed .ensures .0) (start .pre) (c .before .before .push-entry .ensures)
+    key-written (now (x .m)) _ _ _ (x .e) (bucketed (x .b)) (after-guids-allowed .guids-allowed .ensures .0) (after-groups-allowed .groups-allowed .ensures .0) (start .pre) (after-push-entry .push-entry .ensures)
 
 pub push-key-spec : {M : Type 1} → statement M
 push-key-spec =
     tie.close
     (tie.spec
-    guids-allowed-requires
-    groups-allowed-requires
-    mul-link
-    add-link
-    mul-push-entry
-    add-push-entry
-    mul-push-entry-2
-    add-push-entry-2
-    add-push-entry-3
-    push-entry-requires
-    same-length
-    returns)
+    (λ c κs. search needs) (λ c κs. search needs) (λ c. search needs) (λ c. search needs) (λ c. search needs)
+    (λ c. search needs) (λ c. search needs) (λ c. search needs) (λ c. search needs) push-entry-requires
+    (λ c. search needs) returns)

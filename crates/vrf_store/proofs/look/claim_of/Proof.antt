@@ -1,43 +1,30 @@
--- `vrf_store::look::claim_of` meets its contract.
-use Rattle.vrf_store.specs.Lookups.{first-found}
-use Rattle.vrf_store.specs.GoodLaws.{leaf-walk}
+-- `vrf_store::look::claim_of` satisfies its contract.
 use borrow.Author.Needs.{needs}
+use Rattle.vrf_store.specs.Laws.Memory.WellFormed.{leaf-walk}
+use Rattle.vrf_store.specs.Laws.Lookups.{first-found}
 use Rattle.vrf_store.proofs.look.claim_of.Statement.{statement}
 use Rattle.vrf_store.proofs.look.claim_of.Tie as tie
 
-leaf-start-requires : tie.Need-leaf-start-requires
-leaf-start-requires c κs = search needs
-
-front-start-requires : tie.Need-front-start-requires
-front-start-requires c κs = search needs
-
-group-rows-requires : tie.Need-group-rows-requires
-group-rows-requires c κs = search needs
-
-texts-requires : tie.Need-texts-requires
-texts-requires c κs = search needs
-
-leaf-links-requires : tie.Need-leaf-links-requires
-leaf-links-requires c κs = search needs
-
-groups-requires : tie.Need-groups-requires
-groups-requires c κs = search needs
-
 first-claim-requires : tie.Need-first-claim-requires
-first-claim-requires c κs = let s = c .before .before .before .before .before .before .before .before .before .before .before in leaf-walk (s .pre .0 .valid) (c .before .before .before .group-rows .ensures) (c .before .before .texts .ensures) (c .groups .ensures) (s .pre .1) (c .before .leaf-links .ensures)
+first-claim-requires c κs =
+    let after-leaf-links = c .before in
+    let after-texts = after-leaf-links .before in
+    let after-group-rows = after-texts .before in
+    let back = after-group-rows .before .before .before .before in
+    let s = back .before .before .before .before in
+    leaf-walk (s .pre .0 .valid) (after-group-rows .group-rows .ensures) (after-texts .texts .ensures) (c .groups .ensures) (s .pre .1) (after-leaf-links .leaf-links .ensures)
 
 returns : tie.Need-returns
-returns c = let s = c .before .before .before .before .before .before .before .before .before .before .before .before in cc (first-found (s .pre .0 .valid) (s .pre .1) (c .before .before .before .before .before .front-start .ensures) (c .before .before .before .before .before .before .leaf-start .ensures))
+returns c = cc (let back = c .before .before .before .before in
+    let after-front-start = back .before in
+    let after-leaf-start = after-front-start .before in
+    let back2 = after-leaf-start .before .before .before .before in
+    let s = back2 .before .before in
+    first-found (s .pre .0 .valid) (s .pre .1) (after-front-start .front-start .ensures) (after-leaf-start .leaf-start .ensures))
 
 pub claim-of-spec : {M : Type 1} → statement M
 claim-of-spec =
     tie.close
     (tie.spec
-    leaf-start-requires
-    front-start-requires
-    group-rows-requires
-    texts-requires
-    leaf-links-requires
-    groups-requires
-    first-claim-requires
-    returns)
+    (λ c κs. search needs) (λ c κs. search needs) (λ c κs. search needs) (λ c κs. search needs) (λ c κs. search needs)
+    (λ c κs. search needs) first-claim-requires returns)

@@ -1,12 +1,9 @@
--- `vrf_store::look::slot_row` meets its contract.
-use borrow.Author.Tests.{lt-ltb, le-ltb}
+-- `vrf_store::look::slot_row` satisfies its contract.
 use borrow.Author.Needs.{needs}
-use Rattle.vrf_store.specs.SlotRow.{slotRow}
+use borrow.Author.Tests.{lt-ltb, le-ltb}
+use Rattle.vrf_store.specs.Inner.Fields.{slotRow}
 use Rattle.vrf_store.proofs.look.slot_row.Statement.{statement}
 use Rattle.vrf_store.proofs.look.slot_row.Tie as tie
-
-find-field-requires : tie.Need-find-field-requires
-find-field-requires c κs = search needs
 
 returns : tie.Need-returns
 unfolding slotRow
@@ -17,4 +14,4 @@ unfolding slotRow
 returns-2 c = rw (le-ltb (c .before .before .args .slot) 65536 (c .if1 .left))
 
 pub slot-row-spec : {M : Type 1} → statement M
-slot-row-spec = tie.close (tie.spec find-field-requires returns returns-2)
+slot-row-spec = tie.close (tie.spec (λ c κs. search needs) returns returns-2)

@@ -1,4 +1,4 @@
--- `vrf_store::look::unless_zero` meets its contract.
+-- `vrf_store::look::unless_zero` satisfies its contract.
 use borrow.Author.Tests.{eq-eqb, ne-eqb}
 use Rattle.vrf_store.proofs.look.unless_zero.Statement.{statement}
 use Rattle.vrf_store.proofs.look.unless_zero.Tie as tie

@@ -1,20 +1,21 @@
--- `vrf_store::open::clear_book` meets its contract: the header is then one of a book that holds nothing.
-use Rattle.vrf_store.specs.OpeningLaws.{emptied-enough, cleared}
+-- `vrf_store::open::clear_book` satisfies its contract: the header is then that of a book that holds nothing.
 use borrow.Author.Needs.{needs}
+use Rattle.vrf_store.specs.Laws.Opening.Opening.{emptied-enough, cleared}
 use Rattle.vrf_store.proofs.open.clear_book.Statement.{statement}
 use Rattle.vrf_store.proofs.open.clear_book.Tie as tie
 
-zero-words-requires : tie.Need-zero-words-requires
-zero-words-requires c κs = search needs
-
 zero-heads-requires : tie.Need-zero-heads-requires
-zero-heads-requires c κs = emptied-enough (c .before .before .before .before .before .before .pre) (c .before .before .before .zero-words .ensures)
-
-same-length : tie.Need-same-length
-same-length c = search needs
+zero-heads-requires c κs =
+    let after-zero-words = c .before .before .before in
+    let start = after-zero-words .before .before .before in
+    emptied-enough (start .pre) (after-zero-words .zero-words .ensures)
 
 returns : tie.Need-returns
-returns c = cleared (c .before .before .before .before .before .before .before .before .before .pre) (c .before .before .before .before .before .before .zero-words .ensures) (c .before .before .zero-heads .ensures)
+returns c =
+    let after-zero-heads = c .before .before in
+    let after-zero-words = after-zero-heads .before .before .before .before in
+    let start = after-zero-words .before .before .before in
+    cleared (start .pre) (after-zero-words .zero-words .ensures) (after-zero-heads .zero-heads .ensures)
 
 pub clear-book-spec : {M : Type 1} → statement M
-clear-book-spec = tie.close (tie.spec zero-words-requires zero-heads-requires same-length returns)
+clear-book-spec = tie.close (tie.spec (λ c κs. search needs) zero-heads-requires (λ c. search needs) returns)

@@ -1,4 +1,4 @@
--- `vrf_store::parts::half_at` meets its contract: the test of the half is the one that `halfAt` makes.
+-- `vrf_store::parts::half_at` satisfies its contract: it makes the same test as `halfAt`.
 use mathlib.Core.Path.{sym, ap₂, _∙_}
 use Prim.Native.Nat.{_+_}
 use borrow.Author.Needs.{needs}
@@ -9,31 +9,26 @@ use Rattle.vrf_store.specs.Store.{halfAt}
 use Rattle.vrf_store.proofs.parts.half_at.Statement.{statement}
 use Rattle.vrf_store.proofs.parts.half_at.Tie as tie
 
-texts-at-requires : tie.Need-texts-at-requires
-texts-at-requires c κs = search needs
-
-half-requires : tie.Need-half-requires
-half-requires c κs = search needs
-
 returns : tie.Need-returns
 unfolding halfAt
 returns c =
-    let first = eq-eqb (word (now (c .before .before .before .before .args .m)) 10) 0 (sym (c .before .half .ensures) ∙ c .if1 .taken) in
-    rw first (c .before .before .texts-at .ensures)
-
-text-allowed-requires : tie.Need-text-allowed-requires
-text-allowed-requires c κs = search needs
-
-add-result : tie.Need-add-result
-add-result c = search needs
+    let after-half = c .before in
+    let after-texts-at = after-half .before in
+    let start = after-texts-at .before .before in
+    let first = eq-eqb (word (now (start .args .m)) 10) 0 (sym (after-half .half .ensures) ∙ c .if1 .taken) in
+    rw first (after-texts-at .texts-at .ensures)
 
 returns-2 : tie.Need-returns-2
 unfolding halfAt
 returns-2 c =
-    let second = ne-eqb (word (now (c .before .before .before .before .before .args .m)) 10) 0 (λ e. c .before .if1 .left (c .before .before .half .ensures ∙ e)) in
-    rw second (ap₂ _+_ (c .before .before .before .texts-at .ensures) (c .text-allowed .ensures .0))
+    let at-if1 = c .before in
+    let after-half = at-if1 .before in
+    let after-texts-at = after-half .before in
+    let start = after-texts-at .before .before in
+    let second = ne-eqb (word (now (start .args .m)) 10) 0 (λ e. at-if1 .if1 .left (after-half .half .ensures ∙ e)) in
+    rw second (ap₂ _+_ (after-texts-at .texts-at .ensures) (c .text-allowed .ensures .0))
 
 pub half-at-spec : {M : Type 1} → statement M
 half-at-spec =
     tie.close
-    (tie.spec texts-at-requires half-requires returns text-allowed-requires add-result returns-2)
+    (tie.spec (λ c κs. search needs) (λ c κs. search needs) returns (λ c κs. search needs) (λ c. search needs) returns-2)

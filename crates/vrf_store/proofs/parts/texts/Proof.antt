@@ -1,37 +1,23 @@
--- `vrf_store::parts::texts` meets its contract: the half in use lies within the memory.
+-- `vrf_store::parts::texts` satisfies its contract: the half in use is inside the memory.
 use mathlib.Core.Path.{_≡_}
 use Prim.Native.Nat.{_+_, _-_, _≤_}
 use native.Mathlib.Omega.{arith}
-use denote.Ref.{now}
 use borrow.Author.Needs.{needs}
+use denote.Ref.{now}
 use Rattle.vrf_words.specs.Words.{part}
 use Rattle.vrf_store.specs.Layout
 use Rattle.vrf_store.specs.Store.{allowancesOf, headerOf, halfAt}
-use Rattle.vrf_store.specs.MemoryLaws.{half-within}
+use Rattle.vrf_store.specs.Laws.Memory.Regions.{half-within}
 use Rattle.vrf_store.proofs.parts.texts.Statement.{statement}
 use Rattle.vrf_store.proofs.parts.texts.Tie as tie
 
-half-at-requires : tie.Need-half-at-requires
-half-at-requires c κs = search needs
-
-text-allowed-requires : tie.Need-text-allowed-requires
-text-allowed-requires c κs = search needs
-
--- the half ends within the memory
-within : (c : tie.After-text-allowed) → halfAt (allowancesOf (now (c .before .before .before .args .m))) (headerOf (now (c .before .before .before .args .m)) .half) + allowancesOf (now (c .before .before .before .args .m)) .text ≤ Layout.need (allowancesOf (now (c .before .before .before .args .m)))
-within c = half-within (allowancesOf (now (c .before .before .before .args .m))) (headerOf (now (c .before .before .before .args .m)) .half)
-
-add-to : tie.Need-add-to
-add-to c = omega (arith, within c)
-
-sub-result : tie.Need-sub-result
-sub-result c = search needs
-
-part-result-start : tie.Need-part-result-start
-part-result-start c = search needs
-
-part-result-end : tie.Need-part-result-end
-part-result-end c = omega (arith, within c)
+-- the half ends inside the memory
+within : (c : tie.After-text-allowed) →
+    let start = c .before .before .before in
+    halfAt (allowancesOf (now (start .args .m))) (headerOf (now (start .args .m)) .half) + allowancesOf (now (start .args .m)) .text ≤ Layout.need (allowancesOf (now (start .args .m)))
+within c =
+    let start = c .before .before .before in
+    half-within (allowancesOf (now (start .args .m))) (headerOf (now (start .args .m)) .half)
 
 returns : tie.Need-returns
 unfolding part
@@ -46,10 +32,5 @@ pub texts-spec : {M : Type 1} → statement M
 texts-spec =
     tie.close
     (tie.spec
-    half-at-requires
-    text-allowed-requires
-    add-to
-    sub-result
-    part-result-start
-    part-result-end
-    returns)
+    (λ c κs. search needs) (λ c κs. search needs) (λ c. omega (arith, within c)) (λ c. search needs) (λ c. search needs)
+    (λ c. omega (arith, within c)) returns)

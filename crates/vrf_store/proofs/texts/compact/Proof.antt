@@ -1,100 +1,83 @@
--- `vrf_store::texts::compact` meets its contract: what is read holds of the memory before the first move, and each move leaves the next table movable.
+-- `vrf_store::texts::compact` satisfies its contract: the numbers it reads first stay true, and after each table the next can be moved.
 use Prim.Native.Nat.{_+_, _*_}
 use native.Mathlib.Omega.{arith}
 use borrow.Author.Needs.{needs}
 use denote.Ref.{now}
-use Rattle.vrf_store.specs.Compacted.{Found, first-movable, second-movable, third-movable, compact-written}
+use Rattle.vrf_store.specs.Laws.Texts.Compacted.{CompactionStart, first-movable, second-movable, third-movable, compact-written}
 use Rattle.vrf_store.proofs.texts.compact.Statement.{statement}
 use Rattle.vrf_store.proofs.texts.compact.Tie as tie
 
--- what was read
-found : (c : tie.After-groups-allowed) → Found (now (c .before .before .before .before .before .before .before .before .before .before .before .before .before .before .before .before .before .args .m)) (c .before .before .before .before .before .before .before .before .before .before .before .before .before .before .half-at .result) (c .before .before .before .before .before .before .before .before .before .before .before .before .other-half-at .result) (c .before .before .before .before .before .before .before .before .guids .result) (c .before .before .before .before .before .before .groups .result) (c .before .before .before .before .fields .result)
-    (33 + 10 * c .before .before .guids-allowed .result) (33 + 10 * c .before .before .guids-allowed .result + 3 + 16 * c .groups-allowed .result)
-found c = record {
-  old-half = c .before .before .before .before .before .before .before .before .before .before .before .before .before .before .half-at .ensures;
-  new-half = c .before .before .before .before .before .before .before .before .before .before .before .before .other-half-at .ensures;
-  guid-count = c .before .before .before .before .before .before .before .before .guids .ensures;
-  group-count = c .before .before .before .before .before .before .groups .ensures;
-  field-count = c .before .before .before .before .fields .ensures;
-  group-rows = omega arith;
-  field-rows = omega arith;
-}
-
-half-at-requires : tie.Need-half-at-requires
-half-at-requires c κs = search needs
-
-other-half-at-requires : tie.Need-other-half-at-requires
-other-half-at-requires c κs = search needs
-
-half-requires : tie.Need-half-requires
-half-requires c κs = search needs
-
-sub-other : tie.Need-sub-other
-sub-other c = search needs
-
-guids-requires : tie.Need-guids-requires
-guids-requires c κs = search needs
-
-cast-guid-count : tie.Need-cast-guid-count
-cast-guid-count c = search needs
-
-groups-requires : tie.Need-groups-requires
-groups-requires c κs = search needs
-
-cast-group-count : tie.Need-cast-group-count
-cast-group-count c = search needs
-
-fields-requires : tie.Need-fields-requires
-fields-requires c κs = search needs
-
-cast-field-count : tie.Need-cast-field-count
-cast-field-count c = search needs
-
-guids-allowed-requires : tie.Need-guids-allowed-requires
-guids-allowed-requires c κs = search needs
-
-mul-groups-at : tie.Need-mul-groups-at
-mul-groups-at c = search needs
-
-add-groups-at : tie.Need-add-groups-at
-add-groups-at c = search needs
-
-add-fields-at : tie.Need-add-fields-at
-add-fields-at c = search needs
-
-groups-allowed-requires : tie.Need-groups-allowed-requires
-groups-allowed-requires c κs = search needs
-
-mul-fields-at : tie.Need-mul-fields-at
-mul-fields-at c = search needs
-
-add-fields-at-2 : tie.Need-add-fields-at-2
-add-fields-at-2 c = search needs
+-- what the code has read
+found : (c : tie.After-groups-allowed) →
+    let after-guids-allowed = c .before .before in
+    let after-fields = after-guids-allowed .before .before in
+    let after-groups = after-fields .before .before in
+    let after-guids = after-groups .before .before in
+    let after-other-half-at = after-guids .before .before .before .before in
+    let after-half-at = after-other-half-at .before .before in
+    let start = after-half-at .before .before .before in
+    CompactionStart (now (start .args .m)) (after-half-at .half-at .result) (after-other-half-at .other-half-at .result) (after-guids .guids .result) (after-groups .groups .result) (after-fields .fields .result)
+    (33 + 10 * after-guids-allowed .guids-allowed .result) (33 + 10 * after-guids-allowed .guids-allowed .result + 3 + 16 * c .groups-allowed .result)
+found c =
+    let after-fields = c .before .before .before .before in
+    let after-groups = after-fields .before .before in
+    let after-guids = after-groups .before .before in
+    let after-other-half-at = after-guids .before .before .before .before in
+    let after-half-at = after-other-half-at .before .before in
+    record {
+      old-half = after-half-at .half-at .ensures;
+      new-half = after-other-half-at .other-half-at .ensures;
+      guid-count = after-guids .guids .ensures;
+      group-count = after-groups .groups .ensures;
+      field-count = after-fields .fields .ensures;
+      group-rows = omega arith;
+      field-rows = omega arith;
+    }
 
 move-texts-requires : tie.Need-move-texts-requires
 move-texts-requires c κs =
     let read = c .before in
-    first-movable (read .before .before .before .before .before .before .before .before .before .before .before .before .before .before .before .before .before .pre) (found read)
+    let back = read .before .before .before .before in
+    let back2 = back .before .before .before .before in
+    let back3 = back2 .before .before .before .before in
+    let back4 = back3 .before .before .before .before in
+    let start = back4 .before in
+    first-movable (start .pre) (found read)
 
 move-texts-requires-2 : tie.Need-move-texts-requires-2
 move-texts-requires-2 c κs =
     let one = c .before .before .before in
     let read = one .before .before in
-    second-movable (read .before .before .before .before .before .before .before .before .before .before .before .before .before .before .before .before .before .pre) (found read) (one .move-texts .ensures)
+    let back = read .before .before .before .before in
+    let back2 = back .before .before .before .before in
+    let back3 = back2 .before .before .before .before in
+    let back4 = back3 .before .before .before .before in
+    let start = back4 .before in
+    second-movable (start .pre) (found read) (one .move-texts .ensures)
 
 move-texts-requires-3 : tie.Need-move-texts-requires-3
 move-texts-requires-3 c κs =
     let two = c .before .before .before in
     let one = two .before .before .before .before in
     let read = one .before .before in
-    third-movable (read .before .before .before .before .before .before .before .before .before .before .before .before .before .before .before .before .before .pre) (found read) (one .move-texts .ensures) (two .move-texts2 .ensures)
+    let back = read .before .before .before .before in
+    let back2 = back .before .before .before .before in
+    let back3 = back2 .before .before .before .before in
+    let back4 = back3 .before .before .before .before in
+    let start = back4 .before in
+    third-movable (start .pre) (found read) (one .move-texts .ensures) (two .move-texts2 .ensures)
 
 put32-requires : tie.Need-put32-requires
 put32-requires c κs =
     let three = c .before .before .before in
     let two = three .before .before .before .before in
     let one = two .before .before .before .before in
-    omega (arith, one .move-texts .ensures .long, two .move-texts2 .ensures .long, three .move-texts3 .ensures .long, one .before .before .before .before .before .before .before .before .before .before .before .before .before .before .before .before .before .before .before .pre .enough)
+    let back = one .before .before .before .before in
+    let back2 = back .before .before .before .before in
+    let back3 = back2 .before .before .before .before in
+    let back4 = back3 .before .before .before .before in
+    let start = back4 .before .before .before in
+    omega (arith, one .move-texts .ensures .long, two .move-texts2 .ensures .long, three .move-texts3 .ensures .long, start .pre .enough)
 
 put32-requires-2 : tie.Need-put32-requires-2
 put32-requires-2 c κs =
@@ -102,10 +85,12 @@ put32-requires-2 c κs =
     let three = four .before .before .before .before in
     let two = three .before .before .before .before in
     let one = two .before .before .before .before in
-    omega (arith, one .move-texts .ensures .long, two .move-texts2 .ensures .long, three .move-texts3 .ensures .long, four .put32 .kept .0, one .before .before .before .before .before .before .before .before .before .before .before .before .before .before .before .before .before .before .before .pre .enough)
-
-same-length : tie.Need-same-length
-same-length c = search needs
+    let back = one .before .before .before .before in
+    let back2 = back .before .before .before .before in
+    let back3 = back2 .before .before .before .before in
+    let back4 = back3 .before .before .before .before in
+    let start = back4 .before .before .before in
+    omega (arith, one .move-texts .ensures .long, two .move-texts2 .ensures .long, three .move-texts3 .ensures .long, four .put32 .kept .0, start .pre .enough)
 
 returns : tie.Need-returns
 returns c =
@@ -115,33 +100,19 @@ returns c =
     let two = three .before .before .before .before in
     let one = two .before .before .before .before in
     let read = one .before .before in
-    compact-written (read .before .before .before .before .before .before .before .before .before .before .before .before .before .before .before .before .before .pre) (found read) (one .move-texts .ensures) (two .move-texts2 .ensures) (three .move-texts3 .ensures) _ _ _ (read .before .before .before .before .before .before .before .before .before .before .half .ensures) (four .put32 .ensures) (five .put322 .ensures)
+    let back = read .before .before .before .before in
+    let back2 = back .before .before .before .before in
+    let after-half = back2 .before .before in
+    let back3 = after-half .before .before .before .before in
+    let start = back3 .before .before .before in
+    compact-written (start .pre) (found read) (one .move-texts .ensures) (two .move-texts2 .ensures) (three .move-texts3 .ensures) _ _ _ (after-half .half .ensures) (four .put32 .ensures) (five .put322 .ensures)
 
 pub compact-spec : {M : Type 1} → statement M
 compact-spec =
     tie.close
     (tie.spec
-    half-at-requires
-    other-half-at-requires
-    half-requires
-    sub-other
-    guids-requires
-    cast-guid-count
-    groups-requires
-    cast-group-count
-    fields-requires
-    cast-field-count
-    guids-allowed-requires
-    mul-groups-at
-    add-groups-at
-    add-fields-at
-    groups-allowed-requires
-    mul-fields-at
-    add-fields-at-2
-    move-texts-requires
-    move-texts-requires-2
-    move-texts-requires-3
-    put32-requires
-    put32-requires-2
-    same-length
-    returns)
+    (λ c κs. search needs) (λ c κs. search needs) (λ c κs. search needs) (λ c. search needs) (λ c κs. search needs)
+    (λ c. search needs) (λ c κs. search needs) (λ c. search needs) (λ c κs. search needs) (λ c. search needs)
+    (λ c κs. search needs) (λ c. search needs) (λ c. search needs) (λ c. search needs) (λ c κs. search needs)
+    (λ c. search needs) (λ c. search needs) move-texts-requires move-texts-requires-2 move-texts-requires-3
+    put32-requires put32-requires-2 (λ c. search needs) returns)

@@ -1,49 +1,17 @@
--- `vrf_store::texts::move_text` meets its contract: a copy apart from the text, and one word of its row.
+-- `vrf_store::texts::move_text` satisfies its contract: it copies to a place that does not overlap the text, and writes one word of the
+-- row.
 use borrow.Author.Needs.{needs}
-use Rattle.vrf_store.specs.Moved.{moveText}
+use Rattle.vrf_store.specs.Inner.Texts.{moveText}
 use Rattle.vrf_store.proofs.texts.move_text.Statement.{statement}
 use Rattle.vrf_store.proofs.texts.move_text.Tie as tie
 
-add-get32 : tie.Need-add-get32
-add-get32 c = search needs
-
-get32-requires : tie.Need-get32-requires
-get32-requires c κs = search needs
-
-cast-at : tie.Need-cast-at
-cast-at c = search needs
-
-add-get32-2 : tie.Need-add-get32-2
-add-get32-2 c = search needs
-
-get32-requires-2 : tie.Need-get32-requires-2
-get32-requires-2 c κs = search needs
-
-add-move-part : tie.Need-add-move-part
-add-move-part c = search needs
-
-add-move-part-2 : tie.Need-add-move-part-2
-add-move-part-2 c = search needs
-
-cast-move-part : tie.Need-cast-move-part
-cast-move-part c = search needs
-
 move-part-requires : tie.Need-move-part-requires
 move-part-requires c κs =
-    let pre = c .before .before .before .before .before .before .pre in
-    (search needs, search needs, rw (c .before .before .before .get32 .ensures, c .before .get322 .ensures) (pre .apart))
-
-add-put32 : tie.Need-add-put32
-add-put32 c = search needs
-
-put32-requires : tie.Need-put32-requires
-put32-requires c κs = search needs
-
-add-result : tie.Need-add-result
-add-result c = search needs
-
-same-length : tie.Need-same-length
-same-length c = search needs
+    let after-get322 = c .before in
+    let after-get32 = after-get322 .before .before in
+    let start = after-get32 .before .before .before in
+    let pre = start .pre in
+    (search needs, search needs, rw (after-get32 .get32 .ensures, after-get322 .get322 .ensures) (pre .apart))
 
 returns : tie.Need-returns
 unfolding moveText
@@ -53,17 +21,6 @@ pub move-text-spec : {M : Type 1} → statement M
 move-text-spec =
     tie.close
     (tie.spec
-    add-get32
-    get32-requires
-    cast-at
-    add-get32-2
-    get32-requires-2
-    add-move-part
-    add-move-part-2
-    cast-move-part
-    move-part-requires
-    add-put32
-    put32-requires
-    add-result
-    same-length
-    returns)
+    (λ c. search needs) (λ c κs. search needs) (λ c. search needs) (λ c. search needs) (λ c κs. search needs)
+    (λ c. search needs) (λ c. search needs) (λ c. search needs) move-part-requires (λ c. search needs)
+    (λ c κs. search needs) (λ c. search needs) (λ c. search needs) returns)

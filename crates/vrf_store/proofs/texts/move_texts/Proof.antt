@@ -1,38 +1,34 @@
--- `vrf_store::texts::move_texts` meets its contract: the rows before e are moved, and the others stand as they were.
+-- `vrf_store::texts::move_texts` satisfies its contract. The loop invariant: the texts of the first e rows are moved, the others are
+-- unchanged.
 use mathlib.Core.Path.{_≡_}
 use Prim.Native.Nat.{_-_, _≤_}
 use native.Mathlib.Omega.{arith}
 use borrow.Author.Needs.{needs}
-use Rattle.vrf_store.specs.Moved.{Moved, moved-none, next-roomed, moved-next}
+use Rattle.vrf_store.specs.Inner.Texts.{TextsMoved}
+use Rattle.vrf_store.specs.Laws.Texts.Moved.{moved-none, next-fitting, moved-next}
 use Rattle.vrf_store.proofs.texts.move_texts.Statement.{statement}
 use Rattle.vrf_store.proofs.texts.move_texts.Tie as tie
 
 abbrev Inv-loop : tie.InvT-loop
-Inv-loop m₀ rows n from to used end₀ e₀ m end e = (e ≤ n) × Moved m₀ m rows e from to used end
+Inv-loop m₀ rows n from to used end₀ e₀ m end e = (e ≤ n) × TextsMoved m₀ m rows e from to used end
 
 abbrev μ-loop : tie.MeasureT-loop
 μ-loop m₀ rows n from to used end₀ e₀ m end e = n - e
 
-loop-holds : tie.Need-loop-holds Inv-loop μ-loop
-loop-holds c = (search needs, moved-none _ _ _ _ _)
-
-mul-move-text : tie.Need-mul-move-text Inv-loop μ-loop
-mul-move-text c = search needs
-
-add-move-text : tie.Need-add-move-text Inv-loop μ-loop
-add-move-text c = search needs
-
 move-text-requires : tie.Need-move-text-requires Inv-loop μ-loop
-move-text-requires c κs = next-roomed _ _ _ _ _ _ _ _ (c .before .before .before .before .pre) _ _ (c .before .loop-test .taken) (c .before .before .loop .inv .1)
-
-add-e : tie.Need-add-e Inv-loop μ-loop
-add-e c = search needs
-
-loop-less : tie.Need-loop-less Inv-loop μ-loop
-loop-less c = search needs
+move-text-requires c κs =
+    let at-loop-test = c .before in
+    let at-loop = at-loop-test .before in
+    let start = at-loop .before .before in
+    next-fitting _ _ _ _ _ _ _ _ (start .pre) _ _ (at-loop-test .loop-test .taken) (at-loop .loop .inv .1)
 
 loop-again : tie.Need-loop-again Inv-loop μ-loop
-loop-again c = (search needs, moved-next _ _ _ _ _ _ _ _ (c .before .before .before .before .before .before .before .pre) _ _ (c .before .before .before .before .loop-test .taken) (c .before .before .before .before .before .loop .inv .1) _ _ (c .before .before .move-text .ensures .0) (c .before .before .move-text .ensures .1))
+loop-again c =
+    let after-move-text = c .before .before in
+    let at-loop-test = after-move-text .before .before in
+    let at-loop = at-loop-test .before in
+    let start = at-loop .before .before in
+    (search needs, moved-next _ _ _ _ _ _ _ _ (start .pre) _ _ (at-loop-test .loop-test .taken) (at-loop .loop .inv .1) _ _ (after-move-text .move-text .ensures .0) (after-move-text .move-text .ensures .1))
 
 same-length : tie.Need-same-length Inv-loop μ-loop
 same-length c = c .before .loop .inv .1 .long
@@ -47,14 +43,5 @@ pub move-texts-spec : {M : Type 1} → statement M
 move-texts-spec =
     tie.close
     (tie.spec
-    Inv-loop
-    μ-loop
-    loop-holds
-    mul-move-text
-    add-move-text
-    move-text-requires
-    add-e
-    loop-less
-    loop-again
-    same-length
-    returns)
+    Inv-loop μ-loop (λ c. (search needs, moved-none _ _ _ _ _)) (λ c. search needs) (λ c. search needs)
+    move-text-requires (λ c. search needs) (λ c. search needs) loop-again same-length returns)

@@ -1,26 +1,20 @@
--- `vrf_table::spell::join` meets its contract.
+-- `vrf_table::spell::join` satisfies its contract.
 use native.Mathlib.Omega.{arith}
-use denote.Ref.{now}
-use Rattle.vrf_table.specs.Rooms.{joined}
 use borrow.Author.Needs.{needs}
+use denote.Ref.{now}
+use Rattle.vrf_table.specs.Laws.Spelled.{joined}
 use Rattle.vrf_table.proofs.spell.join.Statement.{statement}
 use Rattle.vrf_table.proofs.spell.join.Tie as tie
 
-put-part-requires : tie.Need-put-part-requires
-put-part-requires c κs = search needs
-
-put-part-requires-2 : tie.Need-put-part-requires-2
-put-part-requires-2 c κs = search needs
-
-add-result : tie.Need-add-result
-add-result c = search needs
-
-same-length : tie.Need-same-length
-same-length c = search needs
-
 returns : tie.Need-returns
-returns c = let x = c .before .before .before .before .before .before .before .before .before .before .before .args in joined (now (x .a)) (now (x .b)) (c .before .before .before .before .before .before .put-part .ensures) (c .before .before .put-part2 .ensures) (omega arith) (omega arith)
+returns c =
+    let after-put-part2 = c .before .before in
+    let after-put-part = after-put-part2 .before .before .before .before in
+    let back = after-put-part .before .before .before .before in
+    let start = back .before in
+    let x = start .args in
+    joined (now (x .a)) (now (x .b)) (after-put-part .put-part .ensures) (after-put-part2 .put-part2 .ensures) (omega arith) (omega arith)
 
 pub join-spec : {M : Type 1} → statement M
 join-spec =
-    tie.close (tie.spec put-part-requires put-part-requires-2 add-result same-length returns)
+    tie.close (tie.spec (λ c κs. search needs) (λ c κs. search needs) (λ c. search needs) (λ c. search needs) returns)

@@ -1,77 +1,65 @@
--- `vrf_table::spell::spell_cut` meets its contract: what stands before the place, the slash, and what stands behind.
+-- `vrf_table::spell::spell_cut` satisfies its contract: the bytes before the place, the slash, and the bytes after.
 use mathlib.Core.Path.{ap, _∙_}
 use Prim.Native.Nat.{ℕ}
 use native.Mathlib.Omega.{arith}
-use denote.Ref.{now}
 use lib.ListN.{length, length-append, length-take, length-set}
-use Rattle.vrf_table.specs.Rooms.{cut-front, cut-behind, cut-written}
 use borrow.Author.Needs.{needs}
+use denote.Ref.{now}
+use Rattle.vrf_table.specs.Laws.Spelled.{cut-front, cut-following, cut-written}
 use Rattle.vrf_table.proofs.spell.spell_cut.Statement.{statement}
 use Rattle.vrf_table.proofs.spell.spell_cut.Tie as tie
-
-lower-requires : tie.Need-lower-requires
-lower-requires c κs = search needs
 
 slice-aggregate-put-part : tie.Need-slice-aggregate-put-part
 slice-aggregate-put-part c = rw length-take (omega (arith, (c .before .before .lower .ensures)))
 
 put-part-requires : tie.Need-put-part-requires
-put-part-requires c κs = let fits = simp length-append at (c .before .before .before .before .before .pre) in omega (arith, ap length (cut-front (now (c .before .before .before .before .before .args .path)) (c .before .before .before .before .before .args .at) _ (c .before .before .lower .ensures)), fits)
+put-part-requires c κs =
+    let after-lower = c .before .before in
+    let start = after-lower .before .before .before in
+    let fits = simp length-append at (start .pre) in
+    omega (arith, ap length (cut-front (now (start .args .path)) (start .args .at) _ (after-lower .lower .ensures)), fits)
 
-slice-write-room : tie.Need-slice-write-room
-slice-write-room c = let fits = simp length-append at (c .before .before .before .before .before .before .before .before .pre) in omega (arith, ap length (cut-front (now (c .before .before .before .before .before .before .before .before .args .path)) (c .before .before .before .before .before .before .before .before .args .at) _ (c .before .before .before .before .before .lower .ensures)), length-take (c .before .before .before .before .before .lower .result) (now (c .before .before .before .before .before .before .before .before .args .path)), (c .before .before .before .before .before .lower .ensures), fits, c .before .before .put-part .kept .0)
-
-sub-behind : tie.Need-sub-behind
-sub-behind c = search needs
-
-part-behind-start : tie.Need-part-behind-start
-part-behind-start c = search needs
-
-part-behind-end : tie.Need-part-behind-end
-part-behind-end c = search needs
-
-behind-requires : tie.Need-behind-requires
-behind-requires c κs = search needs
-
-add-put-part : tie.Need-add-put-part
-add-put-part c = search needs
+slice-write-scratch : tie.Need-slice-write-scratch
+slice-write-scratch c =
+    let after-put-part = c .before .before in
+    let after-lower = after-put-part .before .before .before in
+    let start = after-lower .before .before .before in
+    let fits = simp length-append at (start .pre) in
+    omega (arith, ap length (cut-front (now (start .args .path)) (start .args .at) _ (after-lower .lower .ensures)), length-take (after-lower .lower .result) (now (start .args .path)), (after-lower .lower .ensures), fits, after-put-part .put-part .kept .0)
 
 put-part-requires-2 : tie.Need-put-part-requires-2
 put-part-requires-2 c κs =
-    let x = c .before .before .before .before .before .before .before .before .before .before .before in
+    let after-following = c .before in
+    let after-put-part = after-following .before .before .before .before in
+    let after-lower = after-put-part .before .before .before in
+    let x = after-lower .before .before .before in
     let t = now (x .args .path) in
     let fits = simp length-append at (x .pre) in
-    let front = ap length (cut-front t (x .args .at) _ (c .before .before .before .before .before .before .before .before .lower .ensures)) in
-    let rest = ap length (c .before .behind .ensures ∙ cut-behind t (x .args .at) _ (c .before .before .before .before .before .before .before .before .lower .ensures)) in
-    rw length-set (omega (arith, front, length-take (c .before .before .before .before .before .before .before .before .lower .result) t, (c .before .before .before .before .before .before .before .before .lower .ensures), rest, fits, c .before .before .before .before .before .put-part .kept .0))
-
-add-result : tie.Need-add-result
-add-result c = search needs
-
-add-result-2 : tie.Need-add-result-2
-add-result-2 c = search needs
+    let front = ap length (cut-front t (x .args .at) _ (after-lower .lower .ensures)) in
+    let rest = ap length (after-following .following .ensures ∙ cut-following t (x .args .at) _ (after-lower .lower .ensures)) in
+    rw length-set (omega (arith, front, length-take (after-lower .lower .result) t, (after-lower .lower .ensures), rest, fits, after-put-part .put-part .kept .0))
 
 same-length : tie.Need-same-length
-same-length c = c .before .before .put-part2 .kept .0 ∙ length-set {A = ℕ} (c .before .before .before .before .before .before .before .before .put-part .last .0) (c .before .before .before .before .before .before .before .before .before .before .before .lower .result) 47 ∙ c .before .before .before .before .before .before .before .before .put-part .kept .0
+same-length c =
+    let after-put-part2 = c .before .before in
+    let back = after-put-part2 .before .before .before .before in
+    let after-put-part = back .before .before in
+    let after-lower = after-put-part .before .before .before in
+    after-put-part2 .put-part2 .kept .0 ∙ length-set {A = ℕ} (after-put-part .put-part .last .0) (after-lower .lower .result) 47 ∙ after-put-part .put-part .kept .0
 
 returns : tie.Need-returns
-returns c = let x = c .before .before .before .before .before .before .before .before .before .before .before .before .before .before in cut-written (now (x .args .path)) (x .args .at) _ (c .before .before .before .before .before .before .before .before .before .before .before .lower .ensures) (c .before .before .before .before .before .before .before .before .put-part .ensures) (c .before .before .before .before .behind .ensures) (c .before .before .put-part2 .ensures) (x .pre)
+returns c =
+    let after-put-part2 = c .before .before in
+    let after-following = after-put-part2 .before .before in
+    let after-put-part = after-following .before .before .before .before in
+    let after-lower = after-put-part .before .before .before in
+    let x = after-lower .before .before .before in
+    cut-written (now (x .args .path)) (x .args .at) _ (after-lower .lower .ensures) (after-put-part .put-part .ensures) (after-following .following .ensures) (after-put-part2 .put-part2 .ensures) (x .pre)
 
 pub spell-cut-spec : {M : Type 1} → statement M
 spell-cut-spec =
     tie.close
     (tie.spec
-    lower-requires
-    slice-aggregate-put-part
-    put-part-requires
-    slice-write-room
-    sub-behind
-    part-behind-start
-    part-behind-end
-    behind-requires
-    add-put-part
-    put-part-requires-2
-    add-result
-    add-result-2
-    same-length
-    returns)
+    (λ c κs. search needs) slice-aggregate-put-part put-part-requires slice-write-scratch (λ c. search needs)
+    (λ c. search needs) (λ c. search needs) (λ c κs. search needs) (λ c. search needs) put-part-requires-2
+    (λ c. search needs) (λ c. search needs) same-length returns)

@@ -1,13 +1,10 @@
--- `vrf_writer::clash::is_key_of` meets its contract: a path has no key of another length.
+-- `vrf_writer::clash::is_key_of` satisfies its contract: a key differs from its path by 0, 6 or 9 bytes in length.
 use mathlib.Core.Path.{sym}
-use denote.Ref.{now}
 use borrow.Author.Needs.{needs}
-use Rattle.vrf_writer.specs.ClashLaws.{far-key}
+use denote.Ref.{now}
+use Rattle.vrf_writer.specs.Laws.Clash.{far-key}
 use Rattle.vrf_writer.proofs.clash.is_key_of.Statement.{statement}
 use Rattle.vrf_writer.proofs.clash.is_key_of.Tie as tie
-
-apart-requires : tie.Need-apart-requires
-apart-requires c κs = search needs
 
 returns : tie.Need-returns
 returns c =
@@ -15,11 +12,5 @@ returns c =
     let s = d .before .before .before in
     sym (far-key (now (s .args .path)) (now (s .args .k)) (d .apart .ensures) (c .before .before .if1 .taken) (c .before .if2 .taken) (c .if3 .taken))
 
-has-key-requires : tie.Need-has-key-requires
-has-key-requires c κs = search needs
-
-returns-2 : tie.Need-returns-2
-returns-2 c = search needs
-
 pub is-key-of-spec : {M : Type 1} → statement M
-is-key-of-spec = tie.close (tie.spec apart-requires returns has-key-requires returns-2)
+is-key-of-spec = tie.close (tie.spec (λ c κs. search needs) returns (λ c κs. search needs) (λ c. search needs))

@@ -1,16 +1,17 @@
--- `vrf_writer::guids::put_guids` meets its contract: a record more is written after a turn.
+-- `vrf_writer::guids::put_guids` satisfies its contract: after an iteration, one more record is written.
 use mathlib.Core.Path.{refl}
 use Prim.Native.Nat.{ℕ, _-_}
 use native.Mathlib.Omega.{arith}
-use denote.Ref.{now}
 use borrow.Author.Needs.{needs}
-use Rattle.vrf_model.specs.Writer.{encodeGuid}
+use denote.Ref.{now}
 use Rattle.vrf_model.specs.Book.{Guid}
+use Rattle.vrf_model.specs.Writer.{encodeGuid}
 use Rattle.vrf_store.specs.Store.{storeOf}
-use Rattle.vrf_writer.specs.GuidPuts.{guids-code}
-use Rattle.vrf_writer.specs.EachPuts.{sent-room, sent-long, Sent, sent-start, sent-under, sent-step, sent-end}
-use Rattle.vrf_writer.specs.PutsLaws.{fits-as, puts-as, under-room, last-lent}
-use Rattle.vrf_writer.specs.Rows.{guidIn, guid-good}
+use Rattle.vrf_writer.specs.Inner.Rows.{guidIn}
+use Rattle.vrf_writer.specs.Laws.Prefix.{fits-as, writes-as, under-space, last-lent}
+use Rattle.vrf_writer.specs.Laws.Each.{sent-space, sent-long, Sent, sent-start, sent-under, sent-step, sent-end}
+use Rattle.vrf_writer.specs.Laws.Rows.{guid-good}
+use Rattle.vrf_writer.specs.Laws.Guids.{guids-code}
 use Rattle.vrf_writer.proofs.guids.put_guids.Statement.{statement}
 use Rattle.vrf_writer.proofs.guids.put_guids.Tie as tie
 
@@ -24,75 +25,58 @@ abbrev μ-loop : tie.MeasureT-loop
 abbrev its : tie.After-guids Inv-loop μ-loop → ℕ → Guid
 its c = guidIn (now (c .before .before .guid-rows .result)) (now (c .before .texts .result))
 
-guid-rows-requires : tie.Need-guid-rows-requires Inv-loop μ-loop
-guid-rows-requires c κs = search needs
-
-texts-requires : tie.Need-texts-requires Inv-loop μ-loop
-texts-requires c κs = search needs
-
-guids-requires : tie.Need-guids-requires Inv-loop μ-loop
-guids-requires c κs = search needs
-
 loop-holds : tie.Need-loop-holds Inv-loop μ-loop
 loop-holds c =
-    let s = c .before .before .before .before .before in
-    sent-start encodeGuid (its c) (c .guids .result) (now (s .args .out)) (fits-as (guids-code (storeOf (now (s .args .m))) (c .before .before .guid-rows .ensures) (c .before .texts .ensures) (c .guids .ensures)) (s .pre .1))
+    let after-texts = c .before in
+    let after-guid-rows = after-texts .before in
+    let s = after-guid-rows .before .before .before in
+    sent-start encodeGuid (its c) (c .guids .result) (now (s .args .out)) (fits-as (guids-code (storeOf (now (s .args .m))) (after-guid-rows .guid-rows .ensures) (after-texts .texts .ensures) (c .guids .ensures)) (s .pre .1))
 
 sub-put-guid : tie.Need-sub-put-guid Inv-loop μ-loop
-sub-put-guid c = omega (arith, under-room (sent-under encodeGuid (its (c .before .before)) (c .before .loop .inv) (omega arith)))
+sub-put-guid c = omega (arith, under-space (sent-under encodeGuid (its (c .before .before)) (c .before .loop .inv) (omega arith)))
 
 part-put-guid-start : tie.Need-part-put-guid-start Inv-loop μ-loop
-part-put-guid-start c = omega (arith, under-room (sent-under encodeGuid (its (c .before .before)) (c .before .loop .inv) (omega arith)))
-
-part-put-guid-end : tie.Need-part-put-guid-end Inv-loop μ-loop
-part-put-guid-end c = search needs
+part-put-guid-start c = omega (arith, under-space (sent-under encodeGuid (its (c .before .before)) (c .before .loop .inv) (omega arith)))
 
 put-guid-requires : tie.Need-put-guid-requires Inv-loop μ-loop
 put-guid-requires c κs =
-    let g = c .before .before .before in
-    let s = g .before .before .before .before .before in
-    (guid-good (s .pre .0 .valid) (g .before .texts .ensures) (g .before .before .guid-rows .ensures) (omega (arith, g .guids .ensures)), last-lent (sent-under encodeGuid (its g) (c .before .before .loop .inv) (omega arith)) refl)
+    let at-loop = c .before .before in
+    let g = at-loop .before in
+    let after-texts = g .before in
+    let after-guid-rows = after-texts .before in
+    let s = after-guid-rows .before .before .before in
+    (guid-good (s .pre .0 .valid) (after-texts .texts .ensures) (after-guid-rows .guid-rows .ensures) (omega (arith, g .guids .ensures)), last-lent (sent-under encodeGuid (its g) (at-loop .loop .inv) (omega arith)) refl)
 
 add-at : tie.Need-add-at Inv-loop μ-loop
 add-at c =
-    let g = c .before .before .before .before .before .before in
-    omega (arith, sent-room encodeGuid (its g) (sent-step encodeGuid (its g) (c .before .before .before .before .before .loop .inv) (omega arith) (c .before .before .put-guid .ensures)))
-
-add-i : tie.Need-add-i Inv-loop μ-loop
-add-i c = omega arith
-
-loop-less : tie.Need-loop-less Inv-loop μ-loop
-loop-less c = omega arith
+    let after-put-guid = c .before .before in
+    let at-loop = after-put-guid .before .before .before in
+    let g = at-loop .before in
+    omega (arith, sent-space encodeGuid (its g) (sent-step encodeGuid (its g) (at-loop .loop .inv) (omega arith) (after-put-guid .put-guid .ensures)))
 
 loop-again : tie.Need-loop-again Inv-loop μ-loop
-loop-again c = sent-step encodeGuid (its (c .before .before .before .before .before .before)) (c .before .before .before .before .before .loop .inv) (omega arith) (c .before .before .put-guid .ensures)
+loop-again c =
+    let after-put-guid = c .before .before in
+    let at-loop = after-put-guid .before .before .before in
+    let after-guids = at-loop .before in
+    sent-step encodeGuid (its after-guids) (at-loop .loop .inv) (omega arith) (after-put-guid .put-guid .ensures)
 
 same-length : tie.Need-same-length Inv-loop μ-loop
 same-length c = sent-long encodeGuid (its (c .before .before)) (c .before .loop .inv)
 
 returns : tie.Need-returns Inv-loop μ-loop
 returns c =
-    let g = c .before .before in
-    let s = g .before .before .before .before .before in
-    puts-as (guids-code (storeOf (now (s .args .m))) (g .before .before .guid-rows .ensures) (g .before .texts .ensures) (g .guids .ensures)) (sent-end encodeGuid (its g) (c .before .loop .inv) (omega arith))
+    let at-loop = c .before in
+    let g = at-loop .before in
+    let after-texts = g .before in
+    let after-guid-rows = after-texts .before in
+    let s = after-guid-rows .before .before .before in
+    writes-as (guids-code (storeOf (now (s .args .m))) (after-guid-rows .guid-rows .ensures) (after-texts .texts .ensures) (g .guids .ensures)) (sent-end encodeGuid (its g) (at-loop .loop .inv) (omega arith))
 
 pub put-guids-spec : {M : Type 1} → statement M
 put-guids-spec =
     tie.close
     (tie.spec
-    Inv-loop
-    μ-loop
-    guid-rows-requires
-    texts-requires
-    guids-requires
-    loop-holds
-    sub-put-guid
-    part-put-guid-start
-    part-put-guid-end
-    put-guid-requires
-    add-at
-    add-i
-    loop-less
-    loop-again
-    same-length
-    returns)
+    Inv-loop μ-loop (λ c κs. search needs) (λ c κs. search needs) (λ c κs. search needs) loop-holds sub-put-guid
+    part-put-guid-start (λ c. search needs) put-guid-requires add-at (λ c. omega arith) (λ c. omega arith) loop-again
+    same-length returns)

@@ -1,7 +1,7 @@
--- `vrf_writer::size::one_from` meets its contract.
+-- `vrf_writer::size::one_from` satisfies its contract.
 use mathlib.Core.Path.{sym}
 use native.Mathlib.Omega.{arith}
-use Rattle.vrf_writer.specs.NumberLengths.{below, from}
+use Rattle.vrf_writer.specs.Laws.Lengths.{below, from}
 use Rattle.vrf_writer.proofs.size.one_from.Statement.{statement}
 use Rattle.vrf_writer.proofs.size.one_from.Tie as tie
 

@@ -1,6 +1,6 @@
 //! The text of the answers.
 
-/// A refusal with its number and details, as document 01 numbers them.
+/// A refusal with its number and its two details, as in document 01.
 #[derive(Clone, Copy, Debug, PartialEq, Eq)]
 pub struct Refusal {
     pub number: u32,
@@ -14,14 +14,15 @@ impl Refusal {
     }
 }
 
-/// The lines printed so far. The pieces of a line bring no spaces of their own.
+/// The lines printed so far. Callers write the spaces between the parts of a
+/// line.
 pub struct Answers {
     text: Vec<u8>,
     call: u64,
 }
 
 impl Answers {
-    /// Writes behind what `text` already holds; its room is used again.
+    /// Appends to `text`, so that its memory is used again.
     pub fn new(text: Vec<u8>) -> Self {
         Answers { text, call: 0 }
     }
@@ -30,12 +31,13 @@ impl Answers {
         self.text
     }
 
-    /// From here on, lines belong to the call after this one.
+    /// The lines that follow belong to the next call.
     pub fn next_call(&mut self) {
         self.call += 1;
     }
 
-    /// A line of the present call, with the pieces that `write` puts there.
+    /// A line of the current call; `write` writes what follows the call's
+    /// number.
     pub fn line(&mut self, write: impl FnOnce(&mut Self)) {
         self.number(self.call);
         self.text.push(b' ');
@@ -62,14 +64,14 @@ impl Answers {
         self.text.extend_from_slice(&digits[at..]);
     }
 
-    /// A word and the number that it announces.
+    /// A label, a space and a number.
     pub fn labelled(&mut self, label: &str, number: u64) {
         self.word(label);
         self.word(" ");
         self.number(number);
     }
 
-    /// All 16 digits.
+    /// Always 16 digits.
     pub fn hexadecimal(&mut self, number: u64) {
         self.word(&format!("{number:016x}"));
     }

@@ -1,4 +1,4 @@
-//! Both sides on the same scripts, up to the first difference.
+//! Plays the same scripts on both sides, up to the first difference.
 
 mod difference;
 mod shrink;
@@ -10,32 +10,32 @@ use std::env;
 use std::fs;
 use std::path::Path;
 
-use crate::met::Met;
+use crate::coverage::Coverage;
+use crate::error::Error;
 use crate::oracle;
 use crate::ported::Player;
 use crate::script::{Decoder, Reading, Script, Win};
-use crate::trouble::Trouble;
 
-/// A script of calls that stand alone is played as soon as it is this long.
+/// A script of independent calls is played when it has this many bytes.
 const CHUNK: usize = 100_000;
 
-/// Room for the ported side's text beyond the oracle's, so that it can show
-/// what it answers too much.
+/// Space for the ported side's text beyond the length of the oracle's, so that
+/// additional lines are shown too.
 const SLACK: usize = 1 << 22;
 
-/// Memory lent to the ported side for books where nothing asks for more, and as
-/// much again for windows and blocks.
+/// Memory lent to the ported side for books, unless a part needs more. Windows
+/// and blocks get a second buffer of this size.
 pub const MEMORY: usize = 1 << 26;
 
-/// The oracle and the ported code, side by side.
+/// The oracle and the ported code.
 pub struct Sides {
     player: Player,
-    /// The oracle's answers; kept for its room.
+    /// The oracle's answers to the last script. The buffer is used again.
     answers: Vec<u8>,
 }
 
 impl Sides {
-    pub fn open(memory: usize) -> Result<Self, Trouble> {
+    pub fn open(memory: usize) -> Result<Self, Error> {
         Ok(Self::with(Player::new(memory)?))
     }
 
@@ -46,41 +46,41 @@ impl Sides {
         }
     }
 
-    /// Plays a whole script on both. Where they differ, a short script that
-    /// shows it is told and kept.
-    pub fn check(&mut self, script: &[u8]) -> Result<(), Trouble> {
+    /// Plays a script on both sides. If they differ, the error has a shortened
+    /// script, which is also stored.
+    pub fn check(&mut self, script: &[u8]) -> Result<(), Error> {
         match self.differ(script) {
             Ok(None) => Ok(()),
             Ok(Some(difference)) => {
                 let short = shrink::shortened(self, script, difference);
                 let text = short.to_string() + keep(&short.script);
-                Err(Trouble::Differs(text))
+                Err(Error::Differs(text))
             }
-            Err(Trouble::Oracle(text)) => Err(Trouble::Oracle(text + keep(script))),
-            Err(trouble) => Err(trouble),
+            Err(Error::Oracle(text)) => Err(Error::Oracle(text + keep(script))),
+            Err(error) => Err(error),
         }
     }
 
-    /// A short script that shows a difference, if there is one.
-    pub fn shortened(&mut self, script: &[u8]) -> Result<Option<Shortened>, Trouble> {
+    /// A shortened script that shows the difference, if there is one.
+    pub fn shortened(&mut self, script: &[u8]) -> Result<Option<Shortened>, Error> {
         let difference = self.differ(script)?;
         Ok(difference.map(|difference| shrink::shortened(self, script, difference)))
     }
 
-    /// What the oracle answered to the last script.
+    /// The oracle's answers to the last script.
     pub fn answers(&self) -> &[u8] {
         &self.answers
     }
 
-    fn differ(&mut self, script: &[u8]) -> Result<Option<Difference>, Trouble> {
+    fn differ(&mut self, script: &[u8]) -> Result<Option<Difference>, Error> {
         self.answers = oracle::play(script, std::mem::take(&mut self.answers))?;
         let ported = self.player.play(script, self.answers.len() + SLACK)?;
         Ok(first_difference(&self.answers, ported))
     }
 }
 
-/// Writes a script that is worth a look; a folder that takes no file costs only
-/// this help.
+/// Stores a script for a later look. A folder that cannot be written to is no
+/// error.
 fn keep(script: &[u8]) -> &'static str {
     let written = env::var_os("VRF_COMPARE_DIR")
         .map(|folder| Path::new(&folder).join("difference.vjs"))
@@ -92,7 +92,7 @@ fn keep(script: &[u8]) -> &'static str {
     }
 }
 
-/// Takes calls that stand alone, and plays them on both sides once there are
+/// Collects independent calls, and plays them on both sides when there are
 /// enough of them.
 pub struct Session {
     sides: Sides,
@@ -101,7 +101,7 @@ pub struct Session {
 }
 
 impl Session {
-    pub fn open(memory: usize) -> Result<Self, Trouble> {
+    pub fn open(memory: usize) -> Result<Self, Error> {
         Ok(Session {
             sides: Sides::open(memory)?,
             script: Script::new(),
@@ -109,7 +109,7 @@ impl Session {
         })
     }
 
-    pub fn bits(&mut self, win: &Win<'_>, readings: &[Reading]) -> Result<(), Trouble> {
+    pub fn bits(&mut self, win: &Win<'_>, readings: &[Reading]) -> Result<(), Error> {
         self.script.bits(win, readings);
         self.calls += 1;
         if self.script.len() < CHUNK {
@@ -118,26 +118,27 @@ impl Session {
         self.flush()
     }
 
-    /// Plays a script by itself, whose calls go together.
-    pub fn whole(&mut self, script: &Script) -> Result<(), Trouble> {
+    /// Plays a script whose calls depend on each other.
+    pub fn whole(&mut self, script: &Script) -> Result<(), Error> {
         self.calls += count_calls(script)?;
         self.sides.check(script.as_bytes())
     }
 
-    /// Plays what is waiting, and answers how many calls there were in all.
-    pub fn finish(mut self) -> Result<u64, Trouble> {
+    /// Plays the calls that were not played yet, and returns the number of all
+    /// calls.
+    pub fn finish(mut self) -> Result<u64, Error> {
         self.flush()?;
         Ok(self.calls)
     }
 
-    fn flush(&mut self) -> Result<(), Trouble> {
+    fn flush(&mut self) -> Result<(), Error> {
         self.sides.check(self.script.as_bytes())?;
         self.script.clear();
         Ok(())
     }
 }
 
-fn count_calls(script: &Script) -> Result<u64, Trouble> {
+fn count_calls(script: &Script) -> Result<u64, Error> {
     let mut decoder = Decoder::new(script.as_bytes())?;
     let mut calls = 0;
     while decoder.next_call()?.is_some() {
@@ -146,16 +147,16 @@ fn count_calls(script: &Script) -> Result<u64, Trouble> {
     Ok(calls)
 }
 
-/// Compares whole scripts, and notes what they met.
+/// Compares whole scripts, and records which calls and refusals occurred.
 pub struct Scripts {
     sides: Sides,
     pub scripts: u64,
     pub calls: u64,
-    pub met: Met,
+    pub coverage: Coverage,
 }
 
 impl Scripts {
-    pub fn open(memory: usize) -> Result<Self, Trouble> {
+    pub fn open(memory: usize) -> Result<Self, Error> {
         Ok(Self::on(Sides::open(memory)?))
     }
 
@@ -164,20 +165,20 @@ impl Scripts {
             sides,
             scripts: 0,
             calls: 0,
-            met: Met::default(),
+            coverage: Coverage::default(),
         }
     }
 
-    /// Answers what the oracle answered.
-    pub fn check(&mut self, script: &Script) -> Result<&[u8], Trouble> {
+    /// Returns the oracle's answers.
+    pub fn check(&mut self, script: &Script) -> Result<&[u8], Error> {
         self.sides.check(script.as_bytes())?;
         self.scripts += 1;
         let mut calls = Decoder::new(script.as_bytes())?;
         while let Some(call) = calls.next_call()? {
-            self.met.note_call(&call);
+            self.coverage.note_call(&call);
             self.calls += 1;
         }
-        self.met.note_answers(self.sides.answers());
+        self.coverage.note_answers(self.sides.answers());
         Ok(self.sides.answers())
     }
 }

@@ -1,21 +1,21 @@
 //! Plays scripts of calls on the original Rust and on the code ported from it,
-//! and compares what the two answer.
+//! and compares their answers.
 
 mod answer;
 mod compare;
-mod laid;
-mod met;
+mod coverage;
+mod error;
 mod modes;
 mod oracle;
+mod owned_win;
 mod ported;
 mod random_books;
 mod random_calls;
 mod rng;
-mod scene;
-mod scenes;
+mod scenario;
+mod scenarios;
 mod script;
 mod stream;
-mod trouble;
 
 use std::env;
 use std::process::ExitCode;
@@ -28,9 +28,9 @@ fn main() -> ExitCode {
     };
     match done {
         Ok(()) => ExitCode::SUCCESS,
-        Err(trouble) => {
-            eprintln!("{trouble}");
-            ExitCode::from(trouble.status())
+        Err(error) => {
+            eprintln!("{error}");
+            ExitCode::from(error.status())
         }
     }
 }

@@ -1,12 +1,12 @@
-//! Plays scripts on the original Rust, and prints what it answers.
+//! Plays scripts on the original Rust, and prints its answers.
 //!
-//! What document 01 adds to the Rust stands here, around the original's calls:
-//! its further refusals and allowances, that a refused reading moves nothing,
-//! the order of GUID records, the block writer and `tally`.
+//! It adds what document 01 adds to the original's calls: more refusals, the
+//! allowances, that a refused reading moves nothing, the order of GUID records,
+//! the block writer and `tally`.
 
 mod bits;
 mod book;
-mod desk;
+mod books;
 mod ledger;
 mod lookups;
 mod refusals;
@@ -17,22 +17,22 @@ mod windows;
 mod writer;
 
 use crate::answer::{Answers, Refusal};
+use crate::error::Error;
 use crate::script::{Call, Decoder};
-use crate::trouble::Trouble;
 
-use desk::{Desk, Flow};
+use books::{Books, Flow};
 
-/// What a call answers, before it is text.
+/// A call's answer before it is printed.
 type Answered<T> = Result<T, Refusal>;
 
-/// The answers to `script`, written over what `room` held.
-pub fn play(script: &[u8], mut room: Vec<u8>) -> Result<Vec<u8>, Trouble> {
-    room.clear();
-    let mut answers = Answers::new(room);
-    let mut desk = Desk::default();
+/// The answers to `script`. They replace the contents of `buffer`.
+pub fn play(script: &[u8], mut buffer: Vec<u8>) -> Result<Vec<u8>, Error> {
+    buffer.clear();
+    let mut answers = Answers::new(buffer);
+    let mut books = Books::default();
     let mut calls = Decoder::new(script)?;
     while let Some(call) = calls.next_call()? {
-        if play_call(&call, &mut desk, &mut answers)? == Flow::Ends {
+        if play_call(&call, &mut books, &mut answers)? == Flow::Stop {
             break;
         }
         answers.next_call();
@@ -40,16 +40,16 @@ pub fn play(script: &[u8], mut room: Vec<u8>) -> Result<Vec<u8>, Trouble> {
     Ok(answers.into_text())
 }
 
-fn play_call(call: &Call<'_>, desk: &mut Desk, answers: &mut Answers) -> Result<Flow, Trouble> {
+fn play_call(call: &Call<'_>, books: &mut Books, answers: &mut Answers) -> Result<Flow, Error> {
     match call {
         Call::Bits { win, readings } => bits::play(win, readings, answers),
         Call::Tally(input) => tally::play(input, answers)?,
-        _ => return desk.play(call, answers),
+        _ => return books.play(call, answers),
     }
-    Ok(Flow::GoesOn)
+    Ok(Flow::Continue)
 }
 
-/// Prints a refusal, or a success the way that `show` does it.
+/// Prints a refusal, or a success with `show`.
 fn print<T>(answers: &mut Answers, answer: Answered<T>, show: impl FnOnce(&mut Answers, T)) {
     match answer {
         Ok(value) => show(answers, value),

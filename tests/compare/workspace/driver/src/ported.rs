@@ -1,22 +1,22 @@
-//! The ported code behind its C functions, where it was linked.
+//! Calls the C functions of the ported code, if it was linked.
 
 use std::env;
 
+use crate::error::Error;
 use crate::oracle;
-use crate::trouble::Trouble;
 
-/// Bytes behind each lent buffer that the ported code must leave alone.
+/// Bytes after each lent buffer that the ported code must not change.
 const GUARD: usize = 64;
 const GUARD_BYTE: u8 = 0xC3;
 
-/// A buffer to lend, with a guard behind it.
+/// A lent buffer with a guard after it.
 struct Lent {
     bytes: Vec<u8>,
 }
 
 impl Lent {
-    /// Zeroes from the system are not backed by memory until they are used, so
-    /// a long buffer costs no more than what is touched of it.
+    /// The system provides memory for zeroes only when they are written to, so
+    /// a long buffer costs only the part that is used.
     fn new(len: usize) -> Self {
         let mut bytes = vec![0; len + GUARD];
         bytes[len..].fill(GUARD_BYTE);
@@ -35,22 +35,21 @@ impl Lent {
 /// The side that is compared with the oracle.
 pub enum Player {
     Ported(Ported),
-    /// The oracle once more: what shows that the comparison itself is sound
-    /// needs no ported code.
+    /// The oracle again. It can test the comparison without ported code.
     Oracle(Oracle),
 }
 
-/// The oracle, and what it answers differently when it stands in for ported
-/// code that is wrong.
+/// The oracle in place of the ported code. `flaw` changes its answers, as wrong
+/// ported code would.
 pub struct Oracle {
-    /// Kept for its room.
+    /// The answers to the last script. The buffer is used again.
     answers: Vec<u8>,
     flaw: Option<fn(Vec<u8>) -> Vec<u8>>,
 }
 
 impl Player {
-    /// The ported code, or the oracle in its place if the environment says so.
-    pub fn new(memory: usize) -> Result<Self, Trouble> {
+    /// The ported code, or the oracle if `VRF_COMPARE_SELF` is set.
+    pub fn new(memory: usize) -> Result<Self, Error> {
         if env::var_os("VRF_COMPARE_SELF").is_some_and(|value| !value.is_empty()) {
             return Ok(Self::oracle(None));
         }
@@ -64,17 +63,18 @@ impl Player {
         })
     }
 
-    /// The answers to `script`, for which there is room for `room` bytes.
-    pub fn play(&mut self, script: &[u8], room: usize) -> Result<&[u8], Trouble> {
+    /// The answers to `script`. The ported code gets a buffer of at least
+    /// `space` bytes for them.
+    pub fn play(&mut self, script: &[u8], space: usize) -> Result<&[u8], Error> {
         match self {
-            Player::Ported(ported) => ported.play(script, room),
+            Player::Ported(ported) => ported.play(script, space),
             Player::Oracle(oracle) => oracle.play(script),
         }
     }
 }
 
 impl Oracle {
-    fn play(&mut self, script: &[u8]) -> Result<&[u8], Trouble> {
+    fn play(&mut self, script: &[u8]) -> Result<&[u8], Error> {
         let mut answers = oracle::play(script, std::mem::take(&mut self.answers))?;
         if let Some(flaw) = self.flaw {
             answers = flaw(answers);
@@ -84,42 +84,44 @@ impl Oracle {
     }
 }
 
-/// Plays scripts with the ported code. Memory and room are not cleaned between
-/// two scripts: what an earlier one left there must not matter.
+/// Plays scripts with the ported code. The buffers are not cleared between two
+/// scripts: what a script left there must not matter to the next.
 pub struct Ported {
     memory: Lent,
-    room: Lent,
+    scratch: Lent,
     out: Lent,
 }
 
 impl Ported {
-    fn new(memory: usize) -> Result<Self, Trouble> {
+    fn new(memory: usize) -> Result<Self, Error> {
         if !cfg!(has_replay) {
-            return Err(Trouble::NoLibrary("VRF_STATICLIB", "libvrf_replay.a"));
+            return Err(Error::NoLibrary("VRF_STATICLIB", "libvrf_replay.a"));
         }
         Ok(Ported {
             memory: Lent::new(memory),
-            room: Lent::new(memory),
+            scratch: Lent::new(memory),
             out: Lent::new(0),
         })
     }
 
-    fn play(&mut self, script: &[u8], room: usize) -> Result<&[u8], Trouble> {
-        if self.out.len() < room {
-            self.out = Lent::new(room);
+    fn play(&mut self, script: &[u8], space: usize) -> Result<&[u8], Error> {
+        if self.out.len() < space {
+            self.out = Lent::new(space);
         }
-        let len = call_replay(script, &mut self.memory, &mut self.room, &mut self.out);
-        let lent = [&self.memory, &self.room, &self.out];
+        let len = call_replay(script, &mut self.memory, &mut self.scratch, &mut self.out);
+        let lent = [&self.memory, &self.scratch, &self.out];
         if !lent.iter().all(|lent| lent.is_intact()) {
-            return Err(Trouble::Ported("it wrote behind a lent buffer".into()));
+            return Err(Error::Ported(
+                "it wrote past the end of a lent buffer".into(),
+            ));
         }
         match usize::try_from(len)
             .ok()
             .and_then(|n| self.out.bytes[..self.out.len()].get(..n))
         {
             Some(text) => Ok(text),
-            None => Err(Trouble::Ported(format!(
-                "it answered {len} bytes of text into {}",
+            None => Err(Error::Ported(format!(
+                "it returned {len} bytes of text for a buffer of {}",
                 self.out.len()
             ))),
         }
@@ -127,15 +129,15 @@ impl Ported {
 }
 
 #[cfg(has_replay)]
-fn call_replay(script: &[u8], memory: &mut Lent, room: &mut Lent, out: &mut Lent) -> u64 {
+fn call_replay(script: &[u8], memory: &mut Lent, scratch: &mut Lent, out: &mut Lent) -> u64 {
     unsafe extern "C" {
         fn vrf_replay(
             script: *const u8,
             script_len: usize,
             memory: *mut u8,
             memory_len: usize,
-            room: *mut u8,
-            room_len: usize,
+            scratch: *mut u8,
+            scratch_len: usize,
             out: *mut u8,
             out_len: usize,
         ) -> u64;
@@ -147,8 +149,8 @@ fn call_replay(script: &[u8], memory: &mut Lent, room: &mut Lent, out: &mut Lent
             script.len(),
             memory.bytes.as_mut_ptr(),
             memory.len(),
-            room.bytes.as_mut_ptr(),
-            room.len(),
+            scratch.bytes.as_mut_ptr(),
+            scratch.len(),
             out.bytes.as_mut_ptr(),
             out.len(),
         )
@@ -160,7 +162,7 @@ fn call_replay(_: &[u8], _: &mut Lent, _: &mut Lent, _: &mut Lent) -> u64 {
     unreachable!("a player needs the library")
 }
 
-/// The loops that are timed against the original's.
+/// The C functions that the bench times.
 #[cfg(has_bench)]
 pub mod loops {
     mod c {
@@ -213,7 +215,7 @@ pub mod loops {
                 text: u64,
                 block: *const u8,
                 block_len: usize,
-                door: bool,
+                checked: bool,
             ) -> u64;
             pub fn bench_read_runs(
                 memory: *mut u8,
@@ -221,19 +223,20 @@ pub mod loops {
                 runs: *const u8,
                 runs_len: usize,
                 count: u32,
-                door: bool,
+                checked: bool,
             ) -> u64;
             pub fn bench_write_block(
                 memory: *const u8,
                 memory_len: usize,
                 out: *mut u8,
                 out_len: usize,
-                door: bool,
+                checked: bool,
             ) -> u64;
         }
     }
 
-    // SAFETY, for all of them: slices with their own lengths, borrowed for the call.
+    // SAFETY, for all of them: slices with their own lengths, borrowed for the
+    // call.
 
     pub fn read_bits(s: &[u8], widths: &[u8]) -> u64 {
         unsafe { c::bench_read_bits(s.as_ptr(), s.len(), widths.as_ptr(), widths.len()) }
@@ -253,7 +256,7 @@ pub mod loops {
         }
     }
 
-    /// Opens a book and plays a sheet of calls on it.
+    /// Opens a book and makes a sheet's calls on it.
     pub fn fill(memory: &mut [u8], allowances: [u64; 4], sheet: &[u8], texts: &[u8]) -> u64 {
         let [guids, groups, fields, text] = allowances;
         unsafe {
@@ -276,7 +279,8 @@ pub mod loops {
         unsafe { c::bench_check(memory.as_ptr(), memory.len()) }
     }
 
-    /// A sheet's lookups, all of one kind, in a book that passed its check.
+    /// Makes a sheet's lookups, all of one kind. The book must have passed its
+    /// check.
     pub fn look(memory: &[u8], what: u32, sheet: &[u8], texts: &[u8]) -> u64 {
         unsafe {
             c::bench_look(
@@ -291,8 +295,8 @@ pub mod loops {
         }
     }
 
-    /// Opens a book, with a literal for each GUID, and reads a block into it.
-    pub fn read_block(memory: &mut [u8], allowances: [u64; 4], block: &[u8], door: bool) -> u64 {
+    /// Opens a book, with one literal for each GUID, and reads a block into it.
+    pub fn read_block(memory: &mut [u8], allowances: [u64; 4], block: &[u8], checked: bool) -> u64 {
         let [guids, groups, fields, text] = allowances;
         unsafe {
             c::bench_read_block(
@@ -304,13 +308,13 @@ pub mod loops {
                 text,
                 block.as_ptr(),
                 block.len(),
-                door,
+                checked,
             )
         }
     }
 
-    /// Reads fields runs, one behind another, into a book that passed its check.
-    pub fn read_runs(memory: &mut [u8], runs: &[u8], count: u32, door: bool) -> u64 {
+    /// Reads `count` fields runs into a book that has passed its check.
+    pub fn read_runs(memory: &mut [u8], runs: &[u8], count: u32, checked: bool) -> u64 {
         unsafe {
             c::bench_read_runs(
                 memory.as_mut_ptr(),
@@ -318,20 +322,20 @@ pub mod loops {
                 runs.as_ptr(),
                 runs.len(),
                 count,
-                door,
+                checked,
             )
         }
     }
 
-    /// Writes a book that passed its check.
-    pub fn write_block(memory: &[u8], out: &mut [u8], door: bool) -> u64 {
+    /// Writes the block of a book that has passed its check.
+    pub fn write_block(memory: &[u8], out: &mut [u8], checked: bool) -> u64 {
         unsafe {
             c::bench_write_block(
                 memory.as_ptr(),
                 memory.len(),
                 out.as_mut_ptr(),
                 out.len(),
-                door,
+                checked,
             )
         }
     }

@@ -1,13 +1,13 @@
 //! Random scripts of book calls.
 //!
-//! Each script draws its texts, indices and GUIDs from a small pool of related
+//! Each script takes its texts, indices and GUIDs from a small pool of related
 //! ones, so that merges, replacements, crossings, ambiguity and full allowances
 //! are common.
 
 pub mod calls;
+pub mod late;
 mod pool;
 pub mod reads;
-pub mod seats;
 mod wire;
 
 use crate::rng::Rng;
@@ -15,20 +15,21 @@ use crate::script::{Call, Script};
 
 use pool::Pool;
 
-/// Allowances that a script of short texts never exhausts.
+/// Allowances that are enough for every script of short texts.
 const AMPLE: [u64; 5] = [200, 100, 300, 40_000, 200];
 
-/// The tops of the allowances, for openings that go beyond them.
+/// The tops of the allowances.
 const TOPS: [u64; 5] = [1_000_000, 100_000, 1_000_000, 67_108_864, 1_000_000];
 
-/// Ample most often; else some of them so small that they are soon used up.
+/// Usually ample. Otherwise some allowances are so small that they are soon
+/// used up.
 fn allowances(rng: &mut Rng, pool: &Pool) -> [u64; 5] {
     let mut allowances = AMPLE;
     allowances[3] = AMPLE[3].max(pool.longest * 30);
     if !rng.once_in(3) {
         return allowances;
     }
-    let few = if pool.is_crowd() { 80 } else { 6 };
+    let few = if pool.has_many() { 80 } else { 6 };
     for (which, allowance) in allowances.iter_mut().enumerate() {
         if !rng.once_in(2) {
             continue;
@@ -42,7 +43,7 @@ fn allowances(rng: &mut Rng, pool: &Pool) -> [u64; 5] {
     allowances
 }
 
-/// One or more allowances beyond their tops, the others anything.
+/// One or more allowances above their tops. The others are any.
 fn allowances_beyond(rng: &mut Rng) -> [u64; 5] {
     let mut allowances = TOPS.map(|top| rng.pick(&[0, 1, top]));
     let which = rng.below(5) as usize;
@@ -54,9 +55,10 @@ fn allowances_beyond(rng: &mut Rng) -> [u64; 5] {
     allowances
 }
 
-/// All of a book that has no more than its pool, and its counters.
+/// Dumps the groups and GUIDs that a script can make of its pool, and the
+/// counters.
 fn look_at_all(pool: &Pool, script: &mut Script) {
-    let (groups, guids) = if pool.is_crowd() { (90, 90) } else { (9, 12) };
+    let (groups, guids) = if pool.has_many() { (90, 90) } else { (9, 12) };
     script.call(&Call::Dump {
         groups,
         slots: 9,

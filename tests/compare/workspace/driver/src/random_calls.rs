@@ -1,20 +1,20 @@
-//! Random calls of `bits`: mostly streams written for the readings that follow,
-//! with flaws here and there, at every place in a byte; sometimes pure noise.
+//! Random calls of `bits`. Most streams are written for the readings, at any
+//! bit of a byte, some with flaws. The others are random bytes.
 
-use crate::laid::Laid;
+use crate::owned_win::OwnedWin;
 use crate::rng::Rng;
 use crate::script::{Reading, Win};
 use crate::stream::Stream;
 
-/// How deep a stream is written inside another.
+/// The most streams inside each other.
 const DEEPEST: u32 = 6;
 
-/// How many windows the readings enter at most without leaving one.
+/// The most inner windows that the readings enter without leaving one.
 const MOST_INNER: u32 = 8;
 
-/// A window and readings, owning its bytes.
+/// A window, which owns its bytes, and readings.
 pub struct RandomCall {
-    laid: Laid,
+    window: OwnedWin,
     pub readings: Vec<Reading>,
 }
 
@@ -25,25 +25,25 @@ impl RandomCall {
         }
         let mut plan = Plan::default();
         if rng.once_in(8) {
-            plan.noise(rng);
+            plan.random_bytes(rng);
         } else {
             for _ in 0..=rng.below(10) {
                 plan.element(rng, 0);
             }
         }
-        hold_nesting(&mut plan.readings);
+        limit_nesting(&mut plan.readings);
         RandomCall {
-            laid: Laid::out(rng, &plan.stream),
+            window: OwnedWin::random(rng, &plan.stream),
             readings: plan.readings,
         }
     }
 
     pub fn win(&self) -> Win<'_> {
-        self.laid.win()
+        self.window.win()
     }
 }
 
-/// A stream and the readings it is written for.
+/// A stream, and the readings for which it is written.
 #[derive(Default)]
 struct Plan {
     stream: Stream,
@@ -51,7 +51,7 @@ struct Plan {
 }
 
 impl Plan {
-    /// One thing to read, or a window with several in it.
+    /// Adds one value to read, or a window with several values.
     fn element(&mut self, rng: &mut Rng, depth: u32) {
         match rng.below(16) {
             0 => self.number(rng, Reading::Bit, 1),
@@ -99,7 +99,7 @@ impl Plan {
         self.readings.push(Reading::Bits(width));
     }
 
-    /// A copy into a target that just holds it, or is a byte short or longer.
+    /// A copy into a target that fits exactly, or is shorter or longer.
     fn copy(&mut self, rng: &mut Rng) {
         let bits = match rng.below(4) {
             0 => rng.below(20),
@@ -110,7 +110,8 @@ impl Plan {
         for _ in 0..bits {
             self.stream.bit(rng.next() >> 63 == 1);
         }
-        // The target first, then now and then other bits than it was made for.
+        // The target fits the copy most often. Then the number of bits may
+        // change too.
         let fitting = bits.div_ceil(8) as u32;
         let target = match rng.below(6) {
             0 => fitting.saturating_sub(1),
@@ -126,8 +127,8 @@ impl Plan {
         self.readings.push(Reading::Copy { target, bits });
     }
 
-    /// A window with readings of its own, just long enough for them, cut or
-    /// longer; most often left again.
+    /// An inner window with its own readings. Most often it fits them exactly,
+    /// and is left again.
     fn inner(&mut self, rng: &mut Rng, depth: u32) {
         let mut inner = Plan::default();
         for _ in 0..rng.below(5) {
@@ -149,8 +150,8 @@ impl Plan {
         }
     }
 
-    /// Random bytes, and readings that know nothing of them.
-    fn noise(&mut self, rng: &mut Rng) {
+    /// Random bytes, and readings that were not chosen for them.
+    fn random_bytes(&mut self, rng: &mut Rng) {
         let len = rng.below(40);
         let few = rng.once_in(2);
         for _ in 0..len {
@@ -167,9 +168,9 @@ impl Plan {
     }
 }
 
-/// Leaves a window instead of entering yet another one. Windows that will be
-/// refused are counted too, which errs on the safe side.
-fn hold_nesting(readings: &mut [Reading]) {
+/// Replaces the entry into a window by an exit if the nesting is too deep.
+/// Refused windows are counted too, so the real nesting is never deeper.
+fn limit_nesting(readings: &mut [Reading]) {
     let mut depth: u32 = 0;
     for reading in readings {
         if depth == MOST_INNER && matches!(reading, Reading::Sub(_)) {
@@ -202,7 +203,7 @@ fn random_reading(rng: &mut Rng) -> Reading {
     }
 }
 
-/// A number in some spelling, most often one that can be read.
+/// A packed number in some encoding. Most of them can be read.
 fn write_packed(rng: &mut Rng, stream: &mut Stream) {
     match rng.below(8) {
         0 => stream.bytes(&rng.bytes(5)),
@@ -220,7 +221,8 @@ fn write_packed(rng: &mut Rng, stream: &mut Stream) {
     }
 }
 
-/// Lengths at a limit of the number, of the text, or of what may be there.
+/// Lengths at the limits of the number, of a text and of the bytes that can
+/// follow.
 const LIMIT_LENGTHS: [i32; 14] = [
     0,
     1,
@@ -238,21 +240,21 @@ const LIMIT_LENGTHS: [i32; 14] = [
     -1_073_741_824,
 ];
 
-/// A text in some spelling, most often one that can be read.
+/// A text in some encoding. Most of them can be read.
 fn write_text(rng: &mut Rng, stream: &mut Stream) {
     let text = random_text(rng);
     match rng.below(16) {
         0 => stream.i32(0),
         1..=5 => stream.text8(&with_zeroes(rng, text).into_bytes()),
-        6 | 7 => stream.text8(&spoil(rng, text.into_bytes())),
+        6 | 7 => stream.text8(&corrupt(rng, text.into_bytes())),
         8..=10 => stream.text16(&units(&with_zeroes(rng, text))),
-        11 | 12 => stream.text16(&spoil_units(rng, units(&text))),
+        11 | 12 => stream.text16(&corrupt_units(rng, units(&text))),
         13 => {
             stream.i32(rng.pick(&LIMIT_LENGTHS));
             stream.bytes(text.as_bytes());
         }
         14 => {
-            // As long as is there, or a little more or less.
+            // The length is at most two bytes off.
             let delta = rng.below(5) as i32 - 2;
             stream.i32(text.len() as i32 + delta);
             stream.bytes(text.as_bytes());
@@ -264,7 +266,7 @@ fn write_text(rng: &mut Rng, stream: &mut Stream) {
     }
 }
 
-/// By index or by text and number, most often one that can be read.
+/// A name by index, or by text and number. Most of them can be read.
 fn write_name(rng: &mut Rng, stream: &mut Stream) {
     if rng.once_in(3) {
         let kind = 1 + rng.below(255);
@@ -284,7 +286,8 @@ fn write_name(rng: &mut Rng, stream: &mut Stream) {
     stream.i32(number);
 }
 
-/// Characters that begin or end a length in UTF-8, or stand beside surrogates.
+/// The first and the last character of each length in UTF-8, those next to the
+/// surrogates, and those that are escaped in answers.
 const CHARACTERS: [char; 14] = [
     '\0',
     '\u{1}',
@@ -302,7 +305,7 @@ const CHARACTERS: [char; 14] = [
     '\u{10ffff}',
 ];
 
-/// Short, but for a few that are about as long as a text may be.
+/// A short text, rarely one of about the maximum length.
 fn random_text(rng: &mut Rng) -> String {
     let ascii = rng.once_in(2);
     let mut text = String::new();
@@ -335,7 +338,7 @@ fn random_character(rng: &mut Rng) -> char {
     char::from_u32(rng.magnitude(widest) as u32).unwrap_or('\u{fffd}')
 }
 
-/// No zero at the end, one, or one too many.
+/// With no final zero, with one, or with two.
 fn with_zeroes(rng: &mut Rng, text: String) -> String {
     let zeroes = rng.pick(&[0, 1, 1, 1, 2]);
     text + &"\0".repeat(zeroes)
@@ -345,8 +348,8 @@ fn units(text: &str) -> Vec<u16> {
     text.encode_utf16().collect()
 }
 
-/// Changes, drops or doubles a byte, which most often ends in bad UTF-8.
-fn spoil(rng: &mut Rng, mut bytes: Vec<u8>) -> Vec<u8> {
+/// Changes, removes or repeats a byte, which usually makes bad UTF-8.
+fn corrupt(rng: &mut Rng, mut bytes: Vec<u8>) -> Vec<u8> {
     if bytes.is_empty() {
         return vec![rng.byte()];
     }
@@ -362,8 +365,8 @@ fn spoil(rng: &mut Rng, mut bytes: Vec<u8>) -> Vec<u8> {
     bytes
 }
 
-/// Puts a surrogate somewhere, or takes a unit away.
-fn spoil_units(rng: &mut Rng, mut units: Vec<u16>) -> Vec<u16> {
+/// Inserts a surrogate, or removes a unit.
+fn corrupt_units(rng: &mut Rng, mut units: Vec<u16>) -> Vec<u16> {
     let surrogate = 0xD800 + rng.below(0x800) as u16;
     if units.is_empty() {
         return vec![surrogate];
@@ -379,7 +382,8 @@ fn spoil_units(rng: &mut Rng, mut units: Vec<u16>) -> Vec<u16> {
     units
 }
 
-/// A text or a name about as long as the wire may carry, short in the script.
+/// A text or a name of about the longest length that a stream can have. A fill
+/// byte keeps the script short.
 fn huge_text(rng: &mut Rng) -> RandomCall {
     let bytes = 1_048_575 + rng.below(3) as u32;
     let units = bytes / 2;
@@ -393,7 +397,7 @@ fn huge_text(rng: &mut Rng) -> RandomCall {
     head.i32(length);
     let len = head.as_bytes().len() as u32 + bytes + rng.below(6) as u32;
     RandomCall {
-        laid: Laid {
+        window: OwnedWin {
             head: head.into_bytes(),
             filled: Some((len, rng.pick(&[b'a', 0x00, 0x80, 0xC3]))),
             first: 0,

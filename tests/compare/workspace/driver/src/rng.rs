@@ -1,4 +1,4 @@
-//! Random numbers that depend on their seed alone (splitmix64).
+//! Random numbers that depend only on their seed (splitmix64).
 
 pub struct Rng {
     state: u64,
@@ -17,13 +17,13 @@ impl Rng {
         mixed ^ (mixed >> 31)
     }
 
-    /// Below `top`, which is not 0. The slight preference for small numbers
-    /// does no harm to tests.
+    /// A number below `top`, which is not 0. Small numbers are slightly more
+    /// likely, which does not matter here.
     pub fn below(&mut self, top: u64) -> u64 {
         self.next() % top
     }
 
-    /// True once in `times`.
+    /// True with probability 1 in `times`.
     pub fn once_in(&mut self, times: u64) -> bool {
         self.below(times) == 0
     }
@@ -40,7 +40,8 @@ impl Rng {
         choices[self.below(choices.len() as u64) as usize]
     }
 
-    /// Every number of bits is equally likely, so small ones are not rare.
+    /// A number of at most `widest` bits. Every number of bits is equally
+    /// likely, so small numbers are common.
     pub fn magnitude(&mut self, widest: u32) -> u64 {
         let width = self.below(u64::from(widest) + 1) as u32;
         if width == 0 {

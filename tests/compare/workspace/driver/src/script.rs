@@ -1,7 +1,7 @@
-//! Scripts: a list of calls as bytes, written and read back.
+//! Scripts: lists of calls, encoded and decoded.
 //!
-//! Both directions share the types below. They borrow their bytes, because a
-//! comparison writes and reads many millions of calls.
+//! The types below are used in both directions. They borrow their bytes,
+//! because a comparison encodes and decodes many millions of calls.
 
 mod decode;
 mod encode;
@@ -14,7 +14,7 @@ use std::borrow::Cow;
 
 const MAGIC: [u8; 4] = *b"VJS1";
 
-/// Added to a blob's length when it is given by its beginning and a fill byte.
+/// Added to the length of a blob that has a fill byte.
 const FILLED: u32 = 1 << 31;
 
 /// The byte that begins each call.
@@ -50,19 +50,19 @@ mod code {
     pub const TALLY: u8 = 0x31;
 }
 
-/// A run of bytes, spelt out or as a beginning and one byte that fills the
-/// rest, so that long windows stay short in a script.
+/// A string of bytes: all of them, or its beginning and one byte that fills the
+/// rest, so that long windows are short in a script.
 #[derive(Clone, Copy, Debug, PartialEq, Eq)]
 pub enum Blob<'a> {
     Plain(&'a [u8]),
     Filled { len: u32, head: &'a [u8], fill: u8 },
 }
 
-/// A tail of equal bytes that is at least this long is spelt as filling.
+/// A tail of at least this many equal bytes becomes a fill byte.
 const WORTH_FILLING: usize = 24;
 
 impl<'a> Blob<'a> {
-    /// Plain, or filled where that makes the script much shorter.
+    /// Plain, or filled if that makes the script much shorter.
     pub fn of(bytes: &'a [u8]) -> Self {
         let Some(&fill) = bytes.last() else {
             return Blob::Plain(bytes);
@@ -85,7 +85,7 @@ impl<'a> Blob<'a> {
         }
     }
 
-    /// The bytes it stands for; only a filled blob needs room of its own.
+    /// The bytes. Only a filled blob needs new memory.
     pub fn bytes(&self) -> Cow<'a, [u8]> {
         match *self {
             Blob::Plain(bytes) => Cow::Borrowed(bytes),
@@ -98,8 +98,8 @@ impl<'a> Blob<'a> {
     }
 }
 
-/// Bytes, a first bit and a bit count, any numbers at all: whether they make a
-/// window is for the call to say.
+/// Bytes, a first bit and a bit count. The numbers may be any: the call says
+/// whether they make a window.
 #[derive(Clone, Copy, Debug, PartialEq, Eq)]
 pub struct Win<'a> {
     pub blob: Blob<'a>,
@@ -116,7 +116,7 @@ impl<'a> Win<'a> {
         }
     }
 
-    /// Every bit of `bytes`.
+    /// All bits of `bytes`.
     pub fn whole(bytes: &'a [u8]) -> Self {
         Self::new(bytes, 0, bytes.len() as u64 * 8)
     }
@@ -209,13 +209,13 @@ pub enum Call<'a> {
     Tally(Blob<'a>),
 }
 
-/// How many kinds of calls there are, and of readings.
+/// The number of kinds of calls, and of readings.
 pub const KINDS: usize = 29;
 pub const READINGS: usize = 11;
 
 impl Call<'_> {
-    /// Whether its answer is its own, whatever was called before it.
-    pub fn stands_alone(&self) -> bool {
+    /// Whether its answer depends on no earlier call.
+    pub fn is_independent(&self) -> bool {
         matches!(self, Call::Bits { .. } | Call::Tally(_))
     }
 }

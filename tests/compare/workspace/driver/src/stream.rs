@@ -1,5 +1,5 @@
-//! Bits being written, lowest first, and the forms that readings expect. They
-//! are written with the flaws one asks for, and know nothing of the readers.
+//! Writes bits, lowest first, and the encodings that readings expect. It writes
+//! invalid ones too.
 
 #[derive(Clone, Default)]
 pub struct Stream {
@@ -18,7 +18,7 @@ impl Stream {
         self.len
     }
 
-    /// The bytes so far, the last one padded with zeroes.
+    /// The bytes so far. The last one is padded with zeroes.
     pub fn as_bytes(&self) -> &[u8] {
         &self.bytes
     }
@@ -27,7 +27,7 @@ impl Stream {
         self.bytes
     }
 
-    /// Whatever is written from here on is lost.
+    /// Ignores everything that is written from here on.
     pub fn end(&mut self) {
         self.ended = true;
     }
@@ -44,7 +44,7 @@ impl Stream {
         self.len += 1;
     }
 
-    /// The low `width` bits of `value`, at most 64.
+    /// Writes the low `width` bits of `value`, at most 64.
     pub fn bits(&mut self, value: u64, width: u32) {
         for i in 0..width {
             self.bit(value >> i & 1 == 1);
@@ -74,8 +74,8 @@ impl Stream {
         self.bytes(&value.to_le_bytes());
     }
 
-    /// A packed number in at least `fewest` bytes, at most five: longer
-    /// spellings than needed carry zeroes above.
+    /// Writes a packed number in at least `fewest` bytes, at most five. The
+    /// additional bytes are zeroes.
     pub fn packed(&mut self, value: u32, fewest: u32) {
         let mut left = value;
         for nth in 1.. {
@@ -88,13 +88,14 @@ impl Stream {
         }
     }
 
-    /// UTF-8, or whatever else these bytes are, behind their number.
+    /// Writes a length, then the bytes, which need not be valid UTF-8.
     pub fn text8(&mut self, bytes: &[u8]) {
         self.i32(bytes.len() as i32);
         self.bytes(bytes);
     }
 
-    /// UTF-16, or whatever else these units are, behind their number, negated.
+    /// Writes a negative length, then the units, which need not be valid
+    /// UTF-16.
     pub fn text16(&mut self, units: &[u16]) {
         self.i32(-(units.len() as i32));
         for unit in units {
@@ -102,7 +103,7 @@ impl Stream {
         }
     }
 
-    /// A field name by text and number.
+    /// Writes a field name as a text and a number.
     pub fn name(&mut self, base: &[u8], number: i32) {
         self.bits(0, 8);
         self.text8(base);

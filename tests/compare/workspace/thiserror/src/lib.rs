@@ -1,6 +1,6 @@
-//! Stand-in for the derive that the original's error types use. Only the
-//! `From` impls matter to the code that is compared; messages are never looked
-//! at, so an error shows as its variant's name.
+//! Replaces the derive macro that the original's error types use. The code
+//! under comparison needs only the `From` impls. Nobody reads the messages, so
+//! an error is displayed as its variant's name.
 
 use proc_macro::token_stream::IntoIter;
 use proc_macro::{Delimiter, Group, TokenStream, TokenTree};
@@ -8,14 +8,15 @@ use std::iter::Peekable;
 
 type Tokens = Peekable<IntoIter>;
 
-/// One variant: its name, and the type of its field if that is marked `#[from]`.
+/// A variant's name, and the type of its field if the field is marked
+/// `#[from]`.
 struct Variant {
     name: String,
     from: Option<String>,
 }
 
-/// An enum as far as the impls need it. `generics` is empty or `<A, B>`, plain
-/// parameters only, so it serves as declaration and as use.
+/// What the impls need of an enum. `generics` is empty or `<A, B>`, plain
+/// parameters only, so it can be used as a declaration and as an argument list.
 struct Enum {
     name: String,
     generics: String,
@@ -47,14 +48,14 @@ fn parse_enum(item: TokenStream) -> Enum {
     }
 }
 
-/// Passes over attributes and visibility.
+/// Skips attributes and visibility.
 fn skip_to_enum(tokens: &mut Tokens) {
     for token in tokens {
         if token.to_string() == "enum" {
             return;
         }
     }
-    panic!("this stand-in derives for enums only");
+    panic!("this macro supports only enums");
 }
 
 fn take_name(tokens: &mut Tokens) -> String {
@@ -77,7 +78,7 @@ fn take_generics(tokens: &mut Tokens) -> String {
     text
 }
 
-/// The braces with the variants, behind a where clause if there is one.
+/// The braces with the variants. A where clause may come before them.
 fn take_body(tokens: &mut Tokens) -> Group {
     tokens
         .find_map(|token| match token {
@@ -111,7 +112,7 @@ fn skip_attributes(tokens: &mut Tokens) {
     }
 }
 
-/// The type behind `#[from]` where a variant's only field begins with it.
+/// The type after `#[from]`, if a variant's only field begins with it.
 fn from_field(fields: &Group) -> Option<String> {
     let mut tokens = fields.stream().into_iter();
     let marked = is_punct(&tokens.next()?, '#') && tokens.next()?.to_string() == "[from]";

@@ -1,6 +1,6 @@
-//! Stand-in for the crate root, which is not among the sources we are given:
-//! it names the modules, re-exports what they link to at the root, and opens
-//! one door for the comparison.
+//! Replaces the crate root, which is not among the sources that we have. It
+//! names the modules, re-exports what they use from the root, and makes one
+//! private function available to the comparison.
 
 pub mod cache;
 #[cfg(feature = "checkpoint")]
@@ -16,8 +16,8 @@ pub mod resolve;
 pub use cache::NetGuidCache;
 pub use error::{Result, SchemaError};
 
-/// A field name as the export readers take it: the original is private to
-/// this crate, and a comparison of single readings has no other way to it.
+/// Reads a field name as the export readers do. The original's function is
+/// private to this crate, and the comparison of single readings needs it.
 pub fn read_field_name(reader: &mut vrf_bitio::BitReader<'_>) -> Result<String> {
     Ok(reader::read_fname(reader)?.rendered)
 }

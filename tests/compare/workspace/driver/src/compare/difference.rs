@@ -1,10 +1,10 @@
-//! Where two texts part.
+//! The first difference between two texts.
 
 use std::fmt;
 use std::iter::zip;
 
-/// The first lines in which two texts differ, with their line ends; empty where
-/// a text has ended.
+/// The first line that differs, from each text, with its line end. It is empty
+/// if the text has no such line.
 #[derive(Clone, Debug, PartialEq, Eq)]
 pub struct Difference {
     pub rust: Vec<u8>,
@@ -29,7 +29,8 @@ pub fn first_difference(rust: &[u8], port: &[u8]) -> Option<Difference> {
 }
 
 impl Difference {
-    /// The number of the call of the oracle's line, else of the other side's.
+    /// The call number in the oracle's line, or in the other line if the
+    /// oracle's is empty.
     pub fn call_number(&self) -> Option<usize> {
         line_number(&self.rust).or_else(|| line_number(&self.port))
     }
@@ -56,7 +57,8 @@ impl fmt::Display for Difference {
 /// The most bytes of a line that are shown.
 const SHOWN: usize = 400;
 
-/// Where to start showing two long lines so that their difference is seen.
+/// The position from which two long lines are shown, so that the difference is
+/// visible.
 fn shown_from(rust: &[u8], port: &[u8]) -> usize {
     let equal = zip(rust, port).take_while(|(r, p)| r == p).count();
     equal.saturating_sub(SHOWN / 2)

@@ -1,4 +1,4 @@
-//! A difference told with as few calls as simple means get to.
+//! Shortens a script that shows a difference.
 
 use std::fmt;
 
@@ -8,7 +8,7 @@ use crate::script::{Call, Decoder, Script};
 /// The most calls of a script that are shown.
 const SHOWN_CALLS: usize = 24;
 
-/// A script and the difference that it still shows.
+/// A shortened script and the difference that it shows.
 pub struct Shortened {
     pub script: Vec<u8>,
     pub difference: Difference,
@@ -29,9 +29,9 @@ impl fmt::Display for Shortened {
 }
 
 pub fn shortened(sides: &mut Sides, script: &[u8], difference: Difference) -> Shortened {
-    let script = without_spare_calls(sides, script, &difference);
-    // Nothing was left out that the difference went with; but its lines have
-    // other numbers by now, or it may even be another.
+    let script = without_unneeded_calls(sides, script, &difference);
+    // The lines now have other numbers, and the first difference may be another
+    // one.
     let difference = match sides.differ(&script) {
         Ok(Some(difference)) => difference,
         _ => difference,
@@ -39,28 +39,29 @@ pub fn shortened(sides: &mut Sides, script: &[u8], difference: Difference) -> Sh
     Shortened { script, difference }
 }
 
-/// Nothing behind the call that differs; that call alone if it stands alone;
-/// else without every call that can be spared.
-fn without_spare_calls(sides: &mut Sides, script: &[u8], difference: &Difference) -> Vec<u8> {
+/// Removes the calls after the one that differs. If that call is independent
+/// and differs by itself, it is kept alone. Otherwise every call is removed
+/// without which a difference remains.
+fn without_unneeded_calls(sides: &mut Sides, script: &[u8], difference: &Difference) -> Vec<u8> {
     let mut calls = calls_of(script);
     if let Some(number) = difference.call_number() {
         calls.truncate(number + 1);
     }
     if let Some(last) = calls.last()
-        && last.0.stands_alone()
+        && last.0.is_independent()
     {
         let alone = joined(std::slice::from_ref(last));
         if differs(sides, &alone) {
             return alone;
         }
     }
-    // What looked needed may be spared once something else is gone.
+    // A call that was needed may become removable after another one is gone.
     loop {
         let before = calls.len();
         for at in (0..calls.len()).rev() {
-            let spared = calls.remove(at);
+            let removed = calls.remove(at);
             if !differs(sides, &joined(&calls)) {
-                calls.insert(at, spared);
+                calls.insert(at, removed);
             }
         }
         if calls.len() == before {
@@ -73,7 +74,7 @@ fn differs(sides: &mut Sides, script: &[u8]) -> bool {
     matches!(sides.differ(script), Ok(Some(_)))
 }
 
-/// A script's calls, with the bytes that each has in it.
+/// A script's calls, each with its bytes in the script.
 fn calls_of(script: &[u8]) -> Vec<(Call<'_>, &[u8])> {
     let mut found = Vec::new();
     let Ok(mut calls) = Decoder::new(script) else {

@@ -1,9 +1,8 @@
-//! The ported code timed against the original's, loop against loop.
+//! Times the loops of the ported code and of the original.
 //!
-//! Only ratios are printed, and the speed of the check, which the original has
-//! not. Both sides get the same input in turn, and the best of many rounds
-//! counts on either side, so what else goes on around them matters as little
-//! as it can.
+//! It prints only ratios, growths and speeds. Both sides get the same input in
+//! turn, and on each side the best of many rounds counts, so other work on the
+//! machine matters as little as possible.
 
 #[cfg(has_bench)]
 mod bits;
@@ -12,26 +11,26 @@ mod blocks;
 #[cfg(has_bench)]
 mod book;
 #[cfg(has_bench)]
-mod race;
+mod case;
 #[cfg(has_bench)]
 mod sheet;
 
-use crate::trouble::Trouble;
+use crate::error::Error;
 
 #[cfg(not(has_bench))]
-pub fn run(_: Option<&str>) -> Result<(), Trouble> {
-    Err(Trouble::NoLibrary("VRF_BENCHLIB", "libbench_loops.a"))
+pub fn run(_: Option<&str>) -> Result<(), Error> {
+    Err(Error::NoLibrary("VRF_BENCHLIB", "libbench_loops.a"))
 }
 
 #[cfg(has_bench)]
-pub fn run(only: Option<&str>) -> Result<(), Trouble> {
-    let mut races = bits::races()?;
-    let (mut of_books, text) = book::races()?;
-    let (mut of_blocks, bytes) = blocks::races()?;
-    races.append(&mut of_books);
-    races.append(&mut of_blocks);
-    let races = race::run(races, only)?;
-    book::report(&races, text);
-    blocks::report(&races, &bytes);
+pub fn run(only: Option<&str>) -> Result<(), Error> {
+    let mut cases = bits::cases()?;
+    let (mut of_books, text) = book::cases()?;
+    let (mut of_blocks, bytes) = blocks::cases()?;
+    cases.append(&mut of_books);
+    cases.append(&mut of_blocks);
+    let cases = case::run(cases, only)?;
+    book::report(&cases, text);
+    blocks::report(&cases, &bytes);
     Ok(())
 }

@@ -1,70 +1,71 @@
-//! Random scripts of book calls, as many as asked for.
+//! Compares random scripts of book calls.
 
 use crate::compare::{MEMORY, Scripts};
-use crate::random_books::seats::Seats;
+use crate::error::Error;
+use crate::random_books::late::LateJoin;
 use crate::random_books::{self, calls, reads};
 use crate::rng::Rng;
 use crate::script::Script;
-use crate::trouble::Trouble;
 
-pub fn calls(seed: u64, scripts: u64) -> Result<(), Trouble> {
+pub fn calls(seed: u64, scripts: u64) -> Result<(), Error> {
     each("calls", seed, scripts, calls::script)
 }
 
-pub fn reads(seed: u64, scripts: u64) -> Result<(), Trouble> {
+pub fn reads(seed: u64, scripts: u64) -> Result<(), Error> {
     each("reads", seed, scripts, reads::script)
 }
 
-fn each(mode: &str, seed: u64, scripts: u64, make: fn(&mut Rng) -> Script) -> Result<(), Trouble> {
+fn each(mode: &str, seed: u64, scripts: u64, make: fn(&mut Rng) -> Script) -> Result<(), Error> {
     let mut both = Scripts::open(MEMORY)?;
     for nth in 0..scripts {
         both.check(&make(&mut nth_rng(seed, nth)))?;
     }
-    tell(mode, seed, &both);
+    report(mode, seed, &both);
     Ok(())
 }
 
-pub fn seats(seed: u64, scripts: u64) -> Result<(), Trouble> {
+pub fn late(seed: u64, scripts: u64) -> Result<(), Error> {
     let mut both = Scripts::open(MEMORY)?;
     let mut late = 0;
     for nth in 0..scripts {
-        let seats = random_books::seats::seats(&mut nth_rng(seed, nth));
-        let answers = both.check(&seats.script)?;
-        late += u64::from(check_seats(&seats, answers)?);
+        let join = random_books::late::late_join(&mut nth_rng(seed, nth));
+        let answers = both.check(&join.script)?;
+        late += u64::from(check_late_reader(&join, answers)?);
     }
-    tell("seats", seed, &both);
-    println!("{late} late seats, all like the early ones");
+    report("late", seed, &both);
+    println!("{late} late readers, all like the early ones");
     Ok(())
 }
 
-/// Each script has a seed of its own, so that any one of them can be made
-/// without those before it.
+/// Each script has its own seed, so that it can be made without the scripts
+/// before it.
 pub fn nth_rng(seed: u64, nth: u64) -> Rng {
     Rng::new(Rng::new(seed ^ nth.rotate_left(32)).next())
 }
 
-fn tell(mode: &str, seed: u64, both: &Scripts) {
+fn report(mode: &str, seed: u64, both: &Scripts) {
     println!(
         "{mode} {seed}: {} scripts, {} calls, all answers equal",
         both.scripts, both.calls
     );
-    println!("{}", both.met);
+    println!("{}", both.coverage);
 }
 
-/// Document 01's demand on a late seat, held against the oracle's own answers:
-/// its block is read, and from then on both seats answer alike, but for counters,
-/// which keep their distance. Answers whether there was a late seat.
-pub fn check_seats(seats: &Seats, answers: &[u8]) -> Result<bool, Trouble> {
+/// Checks demand 3 of document 01 on the oracle's answers. The late reader
+/// reads the block. From then on both readers answer the same, except that the
+/// differences between their counters stay constant. Returns whether the block
+/// was written, so that there is a late reader.
+pub fn check_late_reader(join: &LateJoin, answers: &[u8]) -> Result<bool, Error> {
     let lines = Lines::of(answers);
-    if !lines.of_call(seats.write).starts_with("length") {
+    if !lines.of_call(join.write).starts_with("length") {
         return Ok(false);
     }
-    let read = seats.write + 2;
+    let read = join.write + 2;
     if !lines.of_call(read).starts_with("counts") {
-        return Err(wrong_seat(read, lines.of_call(read)));
+        return Err(wrong_late_reader(read, lines.of_call(read)));
     }
     let mut distance = None;
-    for &(early, late) in &seats.pairs {
+    for &(early, late) in &join.pairs {
         let (at_early, at_late) = (lines.of_call(early), lines.of_call(late));
         let alike = match (counters_in(at_early), counters_in(at_late)) {
             (Some(early), Some(late)) => {
@@ -74,14 +75,14 @@ pub fn check_seats(seats: &Seats, answers: &[u8]) -> Result<bool, Trouble> {
             _ => at_early == at_late,
         };
         if !alike {
-            return Err(wrong_seat(late, at_late));
+            return Err(wrong_late_reader(late, at_late));
         }
     }
     Ok(true)
 }
 
-fn wrong_seat(call: usize, line: &str) -> Trouble {
-    Trouble::Wrong(format!("a late seat parts at call {call}: {line}"))
+fn wrong_late_reader(call: usize, line: &str) -> Error {
+    Error::Wrong(format!("a late reader differs at call {call}: {line}"))
 }
 
 fn counters_in(line: &str) -> Option<Vec<u64>> {
@@ -95,7 +96,8 @@ fn distances(early: &[u64], late: &[u64]) -> Vec<u64> {
         .collect()
 }
 
-/// The answers of each call, without its number; several lines joined.
+/// The answer of each call, without the call's number. Several lines are
+/// joined.
 struct Lines {
     calls: Vec<String>,
 }

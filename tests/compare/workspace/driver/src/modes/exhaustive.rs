@@ -1,4 +1,4 @@
-//! Whole ranges of inputs, and every combination of edges.
+//! Whole ranges of inputs, and every combination of values at the limits.
 
 mod books;
 mod limits;
@@ -6,16 +6,16 @@ mod numbers;
 mod texts;
 
 use crate::compare::{MEMORY, Session};
+use crate::error::Error;
 use crate::modes::usage;
-use crate::trouble::Trouble;
 
 struct Part {
     name: &'static str,
     memory: usize,
-    play: fn(&mut Session) -> Result<(), Trouble>,
+    play: fn(&mut Session) -> Result<(), Error>,
 }
 
-const fn part(name: &'static str, play: fn(&mut Session) -> Result<(), Trouble>) -> Part {
+const fn part(name: &'static str, play: fn(&mut Session) -> Result<(), Error>) -> Part {
     Part {
         name,
         memory: MEMORY,
@@ -23,9 +23,9 @@ const fn part(name: &'static str, play: fn(&mut Session) -> Result<(), Trouble>)
     }
 }
 
-/// Cheap ones first, and last those that ask for much memory.
+/// The fast parts come first, and those that need much memory last.
 const PARTS: &[Part] = &[
-    part("scenes", books::worked_scenes),
+    part("scenarios", books::worked_scenarios),
     part("windows", limits::windows),
     part("nesting", limits::nesting),
     part("widths", numbers::widths),
@@ -64,7 +64,7 @@ const PARTS: &[Part] = &[
     },
 ];
 
-pub fn run(only: Option<&str>) -> Result<(), Trouble> {
+pub fn run(only: Option<&str>) -> Result<(), Error> {
     let chosen: Vec<&Part> = PARTS
         .iter()
         .filter(|part| only.is_none_or(|name| name == part.name))

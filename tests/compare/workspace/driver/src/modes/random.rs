@@ -1,11 +1,11 @@
-//! Random calls, as many as asked for.
+//! Compares random calls of `bits`.
 
 use crate::compare::{MEMORY, Session};
+use crate::error::Error;
 use crate::random_calls::RandomCall;
 use crate::rng::Rng;
-use crate::trouble::Trouble;
 
-pub fn run(seed: u64, calls: u64) -> Result<(), Trouble> {
+pub fn run(seed: u64, calls: u64) -> Result<(), Error> {
     let mut rng = Rng::new(seed);
     let mut session = Session::open(MEMORY)?;
     for _ in 0..calls {

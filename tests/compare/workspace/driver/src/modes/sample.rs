@@ -1,35 +1,35 @@
-//! Scripts to be stored with the original's answers: short ones that meet every
-//! call, every reading and every refusal, and some random ones.
+//! Scripts that are stored with the original's answers: short ones that
+//! together have every call, every reading and every refusal, and random ones.
 
 mod bits;
 
 use std::fs;
 use std::path::Path;
 
+use crate::error::Error;
 use crate::modes::books::nth_rng;
 use crate::oracle;
-use crate::random_books::{calls, reads, seats};
+use crate::random_books::{calls, late, reads};
 use crate::random_calls::RandomCall;
 use crate::rng::Rng;
-use crate::scenes::{self, Theme};
+use crate::scenarios::{self, Suite};
 use crate::script::Script;
-use crate::trouble::Trouble;
 
 pub struct Sample {
     pub name: String,
     pub script: Script,
 }
 
-/// The most bytes of a script with random calls.
+/// The most bytes of a random script.
 const RANDOM_LENGTH: usize = 10_000;
 
-/// The most bytes that such a script with book calls is answered with.
+/// The most bytes of the answers to a random script of book calls.
 const RANDOM_ANSWERS: usize = 30_000;
 
 /// How many random scripts of book calls are tried for one sample.
 const TRIES: u64 = 30;
 
-pub fn run(seed: u64, folder: &str) -> Result<(), Trouble> {
+pub fn run(seed: u64, folder: &str) -> Result<(), Error> {
     let mut all = Script::new();
     for sample in samples(seed)? {
         all.append(&sample.script);
@@ -38,22 +38,22 @@ pub fn run(seed: u64, folder: &str) -> Result<(), Trouble> {
     store(folder, "all", &all)
 }
 
-fn store(folder: &str, name: &str, script: &Script) -> Result<(), Trouble> {
+fn store(folder: &str, name: &str, script: &Script) -> Result<(), Error> {
     let answers = oracle::play(script.as_bytes(), Vec::new())?;
     write(folder, name, "vjs", script.as_bytes())?;
     write(folder, name, "txt", &answers)
 }
 
-fn write(folder: &str, name: &str, ending: &str, bytes: &[u8]) -> Result<(), Trouble> {
+fn write(folder: &str, name: &str, ending: &str, bytes: &[u8]) -> Result<(), Error> {
     let file = Path::new(folder).join(format!("{name}.{ending}"));
     fs::create_dir_all(folder)
         .and_then(|()| fs::write(&file, bytes))
-        .map_err(|e| Trouble::File(file.display().to_string(), e))
+        .map_err(|e| Error::File(file.display().to_string(), e))
 }
 
-pub fn samples(seed: u64) -> Result<Vec<Sample>, Trouble> {
+pub fn samples(seed: u64) -> Result<Vec<Sample>, Error> {
     let mut samples = bits_samples(seed);
-    samples.extend(scenes::themes().iter().map(of_theme));
+    samples.extend(scenarios::suites().iter().map(of_suite));
     for nth in 1..=5 {
         let seed = seed.wrapping_add(nth);
         samples.push(random_books(
@@ -66,8 +66,8 @@ pub fn samples(seed: u64) -> Result<Vec<Sample>, Trouble> {
             seed,
             reads::script,
         )?);
-        samples.push(random_books(format!("seats-random-{nth}"), seed, |rng| {
-            seats::seats(rng).script
+        samples.push(random_books(format!("late-random-{nth}"), seed, |rng| {
+            late::late_join(rng).script
         })?);
     }
     Ok(samples)
@@ -113,25 +113,25 @@ fn random_bits(name: &str, seed: u64) -> Sample {
     }
 }
 
-/// A theme's scenes, one after another. Each opens the books it needs, but for
-/// one that needs them unopened, which is the first.
-fn of_theme(theme: &Theme) -> Sample {
+/// A suite's scenarios, one after another. Each scenario opens the books that
+/// it uses. The one that needs unopened books is the first.
+fn of_suite(suite: &Suite) -> Sample {
     let mut script = Script::new();
-    for scene in &theme.scenes {
-        script.append(&scene.script);
+    for scenario in &suite.scenarios {
+        script.append(&scenario.script);
     }
     Sample {
-        name: theme.name.to_owned(),
+        name: suite.name.to_owned(),
         script,
     }
 }
 
-/// As many scripts, one after another, as stay short with their answers.
+/// Appends random scripts as long as the script and its answers stay short.
 fn random_books(
     name: String,
     seed: u64,
     make: impl Fn(&mut Rng) -> Script,
-) -> Result<Sample, Trouble> {
+) -> Result<Sample, Error> {
     let mut script = Script::new();
     for nth in 0..TRIES {
         let mut longer = script.clone();

@@ -1,23 +1,24 @@
-//! The oracle by itself: answers that follow from document 01 by hand, samples
-//! that meet everything, and the comparison's own eyesight.
+//! Tests of the oracle and of the comparison itself, without ported code:
+//! answers that were worked out by hand from document 01, the samples, and
+//! comparisons of the oracle with itself.
 
 use std::collections::BTreeSet;
 
 use crate::compare::{Scripts, Sides, first_difference};
-use crate::met::Met;
-use crate::modes::books::{check_seats, nth_rng};
+use crate::coverage::Coverage;
+use crate::error::Error;
+use crate::modes::books::{check_late_reader, nth_rng};
 use crate::modes::sample::samples;
 use crate::oracle;
 use crate::ported::Player;
-use crate::random_books::{calls, reads, seats};
-use crate::scene::Scene;
-use crate::scenes;
+use crate::random_books::{calls, late, reads};
+use crate::scenario::Scenario;
+use crate::scenarios;
 use crate::script::Reading::{self, Bit, Bits, Copy, I32, Name, Packed, Sub, Text, U8, U32, Up};
 use crate::script::{Blob, Decoder, KINDS, READINGS, Script, Win};
-use crate::trouble::Trouble;
 
-pub fn run() -> Result<(), Trouble> {
-    let worked = check_worked_answers()? + check_scenes()?;
+pub fn run() -> Result<(), Error> {
+    let worked = check_worked_answers()? + check_scenarios()?;
     println!("{worked} answers worked out by hand");
     println!("{} samples", check_samples()?);
     check_difference()?;
@@ -27,33 +28,38 @@ pub fn run() -> Result<(), Trouble> {
     Ok(())
 }
 
-/// Each scene by itself; answers how many calls there were.
-fn check_scenes() -> Result<usize, Trouble> {
-    let themes = scenes::themes().into_iter().flat_map(|theme| theme.scenes);
+/// Plays each scenario by itself. Returns the number of calls.
+fn check_scenarios() -> Result<usize, Error> {
+    let suites = scenarios::suites()
+        .into_iter()
+        .flat_map(|suite| suite.scenarios);
     let mut calls = 0;
-    for scene in themes.chain(scenes::large()) {
-        let answers = oracle::play(scene.script.as_bytes(), Vec::new())?;
+    for scenario in suites.chain(scenarios::large()) {
+        let answers = oracle::play(scenario.script.as_bytes(), Vec::new())?;
         let answers = String::from_utf8_lossy(&answers).into_owned();
         let mut lines = answers.lines();
-        for due in &scene.due {
+        for expected in &scenario.expected {
             let got = lines.next().unwrap_or("(nothing)");
-            if got != due {
-                return Err(wrong(format!("{}: due {due}, got {got}", scene.what)));
+            if got != expected {
+                return Err(wrong(format!(
+                    "{}: expected {expected}, got {got}",
+                    scenario.what
+                )));
             }
         }
         if let Some(line) = lines.next() {
-            return Err(wrong(format!("{}: also got {line}", scene.what)));
+            return Err(wrong(format!("{}: also got {line}", scenario.what)));
         }
-        calls += scene.calls();
+        calls += scenario.calls();
     }
     Ok(calls)
 }
 
-fn wrong(what: String) -> Trouble {
-    Trouble::Wrong(what)
+fn wrong(what: String) -> Error {
+    Error::Wrong(what)
 }
 
-/// A call and its lines, without the call's number in front of them.
+/// A call and the lines of its answer, without the call's number.
 struct Worked<'a> {
     what: &'static str,
     win: Win<'a>,
@@ -75,8 +81,8 @@ fn worked<'a>(
     }
 }
 
-/// Plays all of them as one script, so that the numbers in front count.
-fn check_worked_answers() -> Result<usize, Trouble> {
+/// Plays all of them as one script, so that the calls' numbers are tested too.
+fn check_worked_answers() -> Result<usize, Error> {
     let mut cases = worked_numbers();
     cases.extend(worked_texts());
     cases.extend(worked_windows());
@@ -89,16 +95,19 @@ fn check_worked_answers() -> Result<usize, Trouble> {
     let mut lines = answers.split_terminator('\n');
     for (number, case) in cases.iter().enumerate() {
         for line in case.lines {
-            let due = format!("{number} {line}");
+            let expected = format!("{number} {line}");
             let got = lines.next().unwrap_or("(nothing)");
-            if got != due {
-                return Err(wrong(format!("{}: due {due}, got {got}", case.what)));
+            if got != expected {
+                return Err(wrong(format!(
+                    "{}: expected {expected}, got {got}",
+                    case.what
+                )));
             }
         }
     }
     match lines.next() {
-        Some(line) => Err(wrong(format!("more than all answers: {line}"))),
-        None if !answers.ends_with('\n') => Err(wrong("no line end at the end".to_owned())),
+        Some(line) => Err(wrong(format!("one more line than expected: {line}"))),
+        None if !answers.ends_with('\n') => Err(wrong("the last line has no line end".to_owned())),
         None => Ok(cases.len()),
     }
 }
@@ -135,7 +144,8 @@ fn worked_numbers() -> Vec<Worked<'static>> {
             &[Packed],
             &["window", "refused 11 0 0 at 0"],
         ),
-        // The number starts at bit 8; its second byte is what lacks, at 16.
+        // The number starts at bit 8. Its second byte would start at bit 16,
+        // and is missing.
         worked(
             "a packed number that is cut",
             Win::whole(&[0x04, 0x03]),
@@ -147,7 +157,7 @@ fn worked_numbers() -> Vec<Worked<'static>> {
                 "value 3 at 16",
             ],
         ),
-        // 1011 0100: from the low end 100, then 10110.
+        // The low three bits of 1011 0100 are 100, the others 10110.
         worked(
             "low bits first",
             Win::whole(&[0xB4]),
@@ -160,7 +170,8 @@ fn worked_numbers() -> Vec<Worked<'static>> {
                 "refused 10 8 1 at 8",
             ],
         ),
-        // Bits 3 to 15: 1 1111 1001 0110 is 8086; bit 2 and below are outside.
+        // Bits 3 to 15 are 1 1111 1001 0110, which is 8086. Bits 0 to 2 are
+        // outside.
         worked(
             "a window inside a byte",
             Win::new(&[0xB4, 0xFC], 3, 13),
@@ -168,7 +179,7 @@ fn worked_numbers() -> Vec<Worked<'static>> {
             &["window", "value 8086 at 13"],
         ),
         worked(
-            "a width over 64, before too few left",
+            "a width over 64, refused before too few bits",
             Win::whole(&[0xFF]),
             &[Bits(65), Bits(64), U8],
             &[
@@ -207,7 +218,7 @@ fn worked_texts() -> Vec<Worked<'static>> {
                 r#"text "" at 136"#,
             ],
         ),
-        // U+00E9 is C3 A9; the pair D83C DFAF is U+1F3AF, F0 9F 8E AF.
+        // U+00E9 is C3 A9. The pair D83C DFAF is U+1F3AF, F0 9F 8E AF.
         worked(
             "UTF-16",
             Win::whole(&[0xFD, 0xFF, 0xFF, 0xFF, 0xE9, 0, 0x3C, 0xD8, 0xAF, 0xDF]),
@@ -249,7 +260,7 @@ fn worked_texts() -> Vec<Worked<'static>> {
             &[Text],
             &["window", "refused 13 0 4294967295 at 0"],
         ),
-        // 4,098 bytes less the final zero, which the fill byte is not.
+        // 4,098 bytes. The last one is no zero, so none is dropped.
         worked(
             "a long text",
             filled(&[0x02, 0x10, 0, 0], b'a', 4_102),
@@ -257,13 +268,13 @@ fn worked_texts() -> Vec<Worked<'static>> {
             &["window", "refused 41 4098 0 at 0"],
         ),
         worked(
-            "the longest text on the wire",
+            "the longest text in a stream",
             filled(&[0, 0, 0x10, 0], b'a', 1_048_580),
             &[Text],
             &["window", "refused 41 1048576 0 at 0"],
         ),
         worked(
-            "a text too long for the wire, though it is there",
+            "a text that is too long, with all its bytes",
             filled(&[1, 0, 0x10, 0], b'a', 1_048_581),
             &[Text],
             &["window", "refused 13 0 1048577 at 0"],
@@ -299,12 +310,13 @@ fn worked_texts() -> Vec<Worked<'static>> {
             &["window", "refused 10 48 32 at 0"],
         ),
         worked(
-            "a long text in a name, before its number lacks",
+            "a long text in a name, refused before its missing number",
             filled(&[0, 0x01, 0x10, 0, 0], b'n', 4_102),
             &[Name],
             &["window", "refused 41 4097 0 at 0"],
         ),
-        // The number is 1111638594 by its bytes, and adds 11 to 4,086.
+        // The four bytes of the number make 1111638594, which adds 11 bytes to
+        // 4,086.
         worked(
             "a long rendering",
             filled(&[0, 0xF6, 0x0F, 0, 0], b'B', 4_095),
@@ -316,15 +328,15 @@ fn worked_texts() -> Vec<Worked<'static>> {
 
 fn worked_windows() -> Vec<Worked<'static>> {
     vec![
-        // Bits 1 to 9 of FF 02 FF are seven ones, 0, 1: 7F and 01.
+        // Bits 1 to 9 of FF 02 FF are seven ones, 0, 1: the bytes 7F and 01.
         worked(
-            "a copy, and what it leaves alone",
+            "a copy, and the bytes after it",
             Win::new(&[0xFF, 0x02, 0xFF], 1, 23),
             &[Copy { target: 4, bits: 9 }],
             &["window", r#"copied target "\x7f\x01\xa5\xa5" at 9"#],
         ),
         worked(
-            "a target a bit short, before too few left",
+            "a target one bit too short, refused before too few bits",
             Win::whole(&[0xFF]),
             &[Copy { target: 1, bits: 9 }, Copy { target: 2, bits: 9 }],
             &[
@@ -352,13 +364,13 @@ fn worked_windows() -> Vec<Worked<'static>> {
             &["window", "refused 10 0 1 at 0"],
         ),
         worked(
-            "no sum of first bit and count wraps",
+            "the sum of first bit and count does not wrap",
             Win::new(&[0xFF], 8, u64::MAX - 7),
             &[Bit],
             &["refused 15 18446744073709551608 0"],
         ),
         worked(
-            "a slice too long, before its window",
+            "a slice that is too long, refused before its window",
             filled(&[], 0, 268_435_457),
             &[Bit],
             &["refused 43 0 0"],
@@ -408,116 +420,127 @@ fn filled(head: &'static [u8], fill: u8, len: u32) -> Win<'static> {
     }
 }
 
-/// The samples read back as they were written, and between them they have every
-/// reading and every refusal of a reading.
-fn check_samples() -> Result<usize, Trouble> {
+/// The samples can be decoded to what was encoded. Together they have every
+/// call, every reading and every refusal that a script can have.
+fn check_samples() -> Result<usize, Error> {
     let samples = samples(1)?;
-    let mut met = Met::default();
+    let mut coverage = Coverage::default();
     for sample in &samples {
-        read_back(&sample.script, &mut met)?;
+        read_back(&sample.script, &mut coverage)?;
         let answers = oracle::play(sample.script.as_bytes(), Vec::new())?;
-        met.note_answers(&answers);
+        coverage.note_answers(&answers);
     }
-    check_met(&met)?;
+    check_coverage(&coverage)?;
     Ok(samples.len())
 }
 
-/// Every call, every reading, and every refusal but the two that a lent memory
-/// brings about, which no script meets.
-fn check_met(met: &Met) -> Result<(), Trouble> {
-    let due = [1..=1, 10..=16, 20..=26, 30..=36, 40..=45];
-    let due: BTreeSet<u32> = due.into_iter().flatten().collect();
-    if met.numbers() != due {
-        return Err(wrong(format!("refused only by {:?}", met.numbers())));
+/// Every call, every reading, and every refusal except 2 and 3, which depend on
+/// the lent memory and cannot come from a script.
+fn check_coverage(coverage: &Coverage) -> Result<(), Error> {
+    let expected = [1..=1, 10..=16, 20..=26, 30..=36, 40..=45];
+    let expected: BTreeSet<u32> = expected.into_iter().flatten().collect();
+    if coverage.numbers() != expected {
+        return Err(wrong(format!(
+            "the only refusals are {:?}",
+            coverage.numbers()
+        )));
     }
-    check_kinds(met)?;
-    if met.readings.len() != READINGS || met.calls.len() != KINDS {
-        let Met {
+    check_kinds(coverage)?;
+    if coverage.readings.len() != READINGS || coverage.calls.len() != KINDS {
+        let Coverage {
             calls, readings, ..
-        } = met;
-        return Err(wrong(format!("only {calls:?} with {readings:?}")));
+        } = coverage;
+        return Err(wrong(format!(
+            "the only calls are {calls:?}, with {readings:?}"
+        )));
     }
     Ok(())
 }
 
-/// Refusals that name a kind were met with every kind.
-fn check_kinds(met: &Met) -> Result<(), Trouble> {
+/// Refusals whose first detail is a kind occurred with every kind.
+fn check_kinds(coverage: &Coverage) -> Result<(), Error> {
     for (number, kinds) in [(1, 1..=5), (31, 1..=3), (42, 1..=5)] {
         for kind in kinds {
-            if !met.refusals.contains_key(&(number, Some(kind))) {
-                return Err(wrong(format!("never refused by {number} with {kind}")));
+            if !coverage.refusals.contains_key(&(number, Some(kind))) {
+                return Err(wrong(format!(
+                    "refusal {number} with kind {kind} never occurs"
+                )));
             }
         }
     }
     Ok(())
 }
 
-fn read_back(script: &Script, met: &mut Met) -> Result<(), Trouble> {
+fn read_back(script: &Script, coverage: &mut Coverage) -> Result<(), Error> {
     let mut again = Script::new();
     let mut calls = Decoder::new(script.as_bytes())?;
     while let Some(call) = calls.next_call()? {
         again.call(&call);
-        met.note_call(&call);
+        coverage.note_call(&call);
     }
     if again.as_bytes() != script.as_bytes() {
-        return Err(wrong("a script is not read as it was written".to_owned()));
+        return Err(wrong(
+            "a decoded script differs from the encoded one".to_owned(),
+        ));
     }
     Ok(())
 }
 
-/// How many random scripts of each kind the oracle is compared with itself on.
+/// How many random scripts of each mode the oracle plays on both sides.
 const SCRIPTS: u64 = 400;
 
-/// The whole comparison with the oracle at both sides: nothing may differ, and
-/// between them the random scripts meet every refusal of a book.
-fn check_itself() -> Result<(u64, u64), Trouble> {
+/// The whole comparison with the oracle on both sides. Nothing may differ, and
+/// the random scripts together have every refusal of a book.
+fn check_itself() -> Result<(u64, u64), Error> {
     let mut both = Scripts::on(Sides::with(Player::oracle(None)));
     for nth in 0..SCRIPTS {
         both.check(&calls::script(&mut nth_rng(1, nth)))?;
         both.check(&reads::script(&mut nth_rng(2, nth)))?;
-        let seats = seats::seats(&mut nth_rng(3, nth));
-        let answers = both.check(&seats.script)?;
-        check_seats(&seats, answers)?;
+        let join = late::late_join(&mut nth_rng(3, nth));
+        let answers = both.check(&join.script)?;
+        check_late_reader(&join, answers)?;
     }
-    let due = [1..=1, 10..=15, 20..=26, 30..=36, 40..=45];
-    for number in due.into_iter().flatten() {
-        if !both.met.numbers().contains(&number) {
-            return Err(wrong(format!("no random script meets refusal {number}")));
+    let expected = [1..=1, 10..=15, 20..=26, 30..=36, 40..=45];
+    for number in expected.into_iter().flatten() {
+        if !both.coverage.numbers().contains(&number) {
+            return Err(wrong(format!("no random script has refusal {number}")));
         }
     }
-    check_kinds(&both.met)?;
+    check_kinds(&both.coverage)?;
     Ok((both.scripts, both.calls))
 }
 
-/// Ported code that takes crossed groups would be found out, and shown by the
-/// four calls that it takes.
-fn check_shortening() -> Result<(), Trouble> {
+/// A comparison with ported code that accepts crossed groups must fail, and
+/// must show the four calls that are needed.
+fn check_shortening() -> Result<(), Error> {
     let mut sides = Sides::with(Player::oracle(Some(|answers| {
         let text = String::from_utf8_lossy(&answers);
         text.replace("refused 23 2 0", "place 1").into_bytes()
     })));
-    let mut scene = Scene::on_book("crossed groups among other things");
-    scene.guid(2, "G", 0).add("A", 1, 1).add("C", 3, 1);
-    scene.field(1, 0, 0, "f").add("B", 2, 1).by_path("B");
-    scene.add("A", 2, 1).by_path("A").dump(3, 3, 3);
-    let shown = match sides.shortened(scene.script.as_bytes())? {
+    let mut scenario = Scenario::on_book("crossed groups, and other calls");
+    scenario.guid(2, "G", 0).add("A", 1, 1).add("C", 3, 1);
+    scenario.field(1, 0, 0, "f").add("B", 2, 1).by_path("B");
+    scenario.add("A", 2, 1).by_path("A").dump(3, 3, 3);
+    let shown = match sides.shortened(scenario.script.as_bytes())? {
         Some(shortened) => shortened.to_string(),
-        None => return Err(wrong("a flaw is overlooked".to_owned())),
+        None => return Err(wrong("a wrong answer was not found".to_owned())),
     };
-    let due = "call 0: open 0 with [100, 100, 100, 100000, 100]\n\
+    let expected = "call 0: open 0 with [100, 100, 100, 100000, 100]\n\
                call 1: add_export_group \"A\", 1, 1\n\
                call 2: add_export_group \"B\", 2, 1\n\
                call 3: add_export_group \"A\", 2, 1\n\
                rust: 3 refused 23 2 0\n\
                port: 3 place 1";
-    match shown == due {
+    match shown == expected {
         true => Ok(()),
-        false => Err(wrong(format!("a flaw is not shortened: {shown}"))),
+        false => Err(wrong(format!(
+            "a script was not shortened as expected: {shown}"
+        ))),
     }
 }
 
-/// A comparison that overlooks something would make all others worthless.
-fn check_difference() -> Result<(), Trouble> {
+/// The comparison must find every kind of difference between two texts.
+fn check_difference() -> Result<(), Error> {
     let text: &[u8] = b"0 window\n0 value 1 at 1\n1 window\n";
     let seen = |rust: &[u8], port: &[u8]| first_difference(rust, port).map(|d| (d.rust, d.port));
     let lines = |rust: &[u8], port: &[u8]| Some((rust.to_vec(), port.to_vec()));
@@ -530,6 +553,6 @@ fn check_difference() -> Result<(), Trouble> {
         && seen(text, other) == lines(b"0 value 1 at 1\n", b"0 value 0 at 1\n");
     match right {
         true => Ok(()),
-        false => Err(wrong("the comparison overlooks a difference".to_owned())),
+        false => Err(wrong("the comparison misses a difference".to_owned())),
     }
 }

@@ -1,4 +1,4 @@
-//! The call `bits`: a window, and readings one after another on the original's
+//! The call `bits`: a window, and readings in it with the original's
 //! `BitReader`.
 
 use vrf_bitio::BitReader;
@@ -9,13 +9,13 @@ use super::{Answered, print};
 use crate::answer::{Answers, Refusal};
 use crate::script::{Reading, Win};
 
-/// The widest number that `read_bits` gives (refusal 16).
+/// The widest number that `read_bits` reads (refusal 16).
 const WIDTH_TOP: u32 = 64;
 
-/// What every byte of a copy's target holds before the call.
+/// The value of every byte of a copy's target before the call.
 const TARGET_BYTE: u8 = 0xA5;
 
-/// Plays the call. A refused window has no cursor, so nothing is read then.
+/// A refused window has no cursor, so its readings are not made.
 pub fn play(win: &Win<'_>, readings: &[Reading], answers: &mut Answers) {
     let refused = with_window(win, |reader| {
         answers.line(|answers| answers.word("window"));
@@ -37,10 +37,10 @@ fn play_readings(reader: BitReader<'_>, readings: &[Reading], answers: &mut Answ
     }
 }
 
-/// The window in which the readings are at present, and those around it.
+/// The window of the next reading, and the windows around it.
 struct Windows<'a> {
     current: BitReader<'a>,
-    /// Innermost last.
+    /// The innermost is the last.
     around: Vec<BitReader<'a>>,
 }
 
@@ -52,8 +52,8 @@ impl<'a> Windows<'a> {
         }
     }
 
-    /// Makes one reading and prints its answer; returns the position to be
-    /// printed behind it.
+    /// Makes one reading and prints its answer. Returns the position that is
+    /// printed after it.
     fn play(&mut self, reading: Reading, answers: &mut Answers) -> u64 {
         match reading {
             Reading::Bit => self.number(answers, |r| Ok(u64::from(r.read_bit()?))),
@@ -71,9 +71,9 @@ impl<'a> Windows<'a> {
         self.current.position()
     }
 
-    /// The original may be left standing inside what it could not finish. A
-    /// refused reading of ours moves nothing, so it reads on a copy, which
-    /// takes over only after a success.
+    /// After an error the original's position may be inside what it did not
+    /// finish. A refused reading must move nothing, so the original reads on a
+    /// copy, which is kept only after a success.
     fn attempt<T>(&mut self, read: impl FnOnce(&mut BitReader<'a>) -> Answered<T>) -> Answered<T> {
         let mut copy = self.current.clone();
         let value = read(&mut copy)?;
@@ -113,7 +113,7 @@ impl<'a> Windows<'a> {
         });
     }
 
-    /// The target is shown after a refusal too: it must be as it was lent.
+    /// The target is also printed after a refusal: it must be unchanged.
     fn copy(&mut self, answers: &mut Answers, target: u32, bits: u64) {
         let mut lent = vec![TARGET_BYTE; target as usize];
         let answer = self.attempt(|r| Ok(r.copy_bits_to(&mut lent, bits)?));
@@ -122,8 +122,8 @@ impl<'a> Windows<'a> {
         answers.quoted(&lent);
     }
 
-    /// Goes into a window over the next bits; returns the outer position, on
-    /// which the inner window has no bearing.
+    /// Opens an inner window over the next bits. Returns the position in the
+    /// outer window.
     fn enter(&mut self, answers: &mut Answers, bits: u64) -> u64 {
         let answer = self.attempt(|r| Ok(r.sub_reader(bits)?));
         let position = self.current.position();
@@ -143,7 +143,7 @@ impl<'a> Windows<'a> {
     }
 }
 
-/// The original leaves a width over 64 to its caller.
+/// The original requires a width of at most 64 from its caller.
 fn read_bits(reader: &mut BitReader<'_>, width: u32) -> Answered<u64> {
     if width > WIDTH_TOP {
         return Err(Refusal::new(16, u64::from(width), 0));

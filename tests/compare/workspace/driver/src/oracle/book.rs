@@ -1,5 +1,5 @@
-//! A book: what the original's whole readers made of it, beside the ledger that
-//! takes the same way step by step.
+//! A book: a cache that the original's readers changed, and a ledger that makes
+//! the same changes step by step.
 
 use std::fmt::Debug;
 
@@ -14,19 +14,18 @@ use super::texts::{WIRE_TEXT_TOP, callers_text};
 use super::walk::{self, Counts, SLOTS_TOP};
 use super::windows::with_window;
 use crate::answer::Refusal;
+use crate::error::Error;
 use crate::script::{Blob, Win};
-use crate::trouble::Trouble;
 
 pub struct Book {
     pub ledger: Ledger,
-    /// Never touched by a walk, so that a reader of the original finds it as
-    /// the call before left it. All lookups ask this one.
+    /// No walk changes this cache, so a reader of the original finds it as the
+    /// previous call left it. All lookups use it.
     pub cache: NetGuidCache,
 }
 
-/// A refused reader is an answer too; trouble is an oracle that contradicts
-/// itself.
-type Read<T> = Result<Answered<T>, Trouble>;
+/// A refusal is an answer; an error means that the oracle contradicts itself.
+type Read<T> = Result<Answered<T>, Error>;
 
 impl Book {
     pub fn open(allowances: [u64; 5]) -> Answered<Self> {
@@ -68,14 +67,14 @@ impl Book {
         self.step(|ledger| ledger.set_guid(guid, path, outer))
     }
 
-    /// A direct call is a single step, which either cache takes alike.
+    /// A direct call is a single step. It is made on both caches.
     fn step<T>(&mut self, make: impl FnOnce(&mut Ledger) -> Answered<T>) -> Answered<T> {
         let answer = make(&mut self.ledger);
-        self.ledger.hand_steps(&mut self.cache);
+        self.ledger.apply_steps(&mut self.cache);
         answer
     }
 
-    /// Answers the count and the position after the run.
+    /// Returns the count and the position after the run.
     pub fn read_fields(&mut self, win: &Win<'_>) -> Read<(u32, u64)> {
         self.read(
             win,
@@ -84,7 +83,7 @@ impl Book {
         )
     }
 
-    /// Answers the count and the position after the run.
+    /// Returns the count and the position after the run.
     pub fn read_guids(&mut self, win: &Win<'_>) -> Read<(u32, u64)> {
         self.read(
             win,
@@ -93,7 +92,7 @@ impl Book {
         )
     }
 
-    /// Answers the GUID and the position after the object.
+    /// Returns the GUID and the position after the object.
     pub fn read_object(&mut self, win: &Win<'_>, exporting: bool, depth: u32) -> Read<(u32, u64)> {
         self.read(
             win,
@@ -102,7 +101,7 @@ impl Book {
                 Ok((guid, reader.position()))
             },
             |reader, cache| {
-                // As the original's own run of GUIDs records what it is given.
+                // The original's run of GUIDs records them like this.
                 let register = &mut |guid, path, outer| {
                     cache.set_net_guid_path(guid, path, Some(outer));
                 };
@@ -128,10 +127,11 @@ impl Book {
         })
     }
 
-    /// Walks over the window on the ledger. Where the walk meets a refusal that
-    /// document 01 adds inside a reader, that is the answer, and its steps are
-    /// made again on the cache. Everywhere else the original's whole reader
-    /// gives the answer and makes the steps, and the walk has to agree.
+    /// Walks over the window on the ledger. If the walk ends with a refusal
+    /// that document 01 adds inside a reader, that is the answer, and the
+    /// walk's steps are made again on the cache. Otherwise the original's
+    /// reader gives the answer and makes the steps, and the walk must agree
+    /// with it.
     fn read<T: PartialEq + Debug>(
         &mut self,
         win: &Win<'_>,
@@ -141,7 +141,7 @@ impl Book {
         let read = with_window(win, |reader| {
             let walked = walk(&mut reader.clone(), &mut self.ledger);
             if walked.as_ref().is_err_and(is_added) {
-                self.ledger.hand_steps(&mut self.cache);
+                self.ledger.apply_steps(&mut self.cache);
                 return Ok(walked);
             }
             self.ledger.forget_steps();
@@ -163,18 +163,18 @@ impl Book {
     }
 }
 
-/// Of the refusals inside a reader, a text's limit and the allowances are
-/// document 01's own.
+/// Of the refusals inside a reader, document 01 adds the text limit (41) and
+/// the allowances (42).
 fn is_added(refusal: &Refusal) -> bool {
     matches!(refusal.number, 41 | 42)
 }
 
-fn contradiction(what: &str) -> Trouble {
-    Trouble::Oracle(format!("the walk and the original differ in {what}"))
+fn contradiction(what: &str) -> Error {
+    Error::Oracle(format!("the walk and the original differ in {what}"))
 }
 
-/// A block's bytes, out of a window that may begin inside a byte. The original
-/// wants a slice, and bits behind the last whole byte could not be read anyway.
+/// A block's bytes. The window may begin inside a byte, but the original needs
+/// a slice. Bits after the last whole byte cannot be read, and are left out.
 fn whole_bytes(reader: &mut BitReader<'_>) -> Answered<Vec<u8>> {
     let len = reader.bits_remaining() / 8;
     let mut bytes = vec![0; len as usize];

@@ -1,8 +1,8 @@
-//! The original's cache taken one step at a time, and what document 01 keeps
-//! beside it: the allowances, and the order of the GUID records.
+//! The original's cache, changed one step at a time, with what document 01
+//! adds: the allowances, and the order of the GUID records.
 //!
-//! A step is one adding, one field or one GUID setting. The original's own call
-//! makes it; before that, refusal 42 is looked for.
+//! A step adds a group, sets a field or sets a GUID. Before the original's call
+//! makes it, refusal 42 is tested.
 
 use std::collections::HashMap;
 
@@ -13,7 +13,7 @@ use vrf_schema::guid::NetworkGuid;
 use super::Answered;
 use crate::answer::Refusal;
 
-/// The most of each that a book may be opened with (refusal 1).
+/// The largest allowances with which a book can be opened (refusal 1).
 const ALLOWANCE_TOPS: [u64; 5] = [1_000_000, 100_000, 1_000_000, 67_108_864, 1_000_000];
 
 /// What counts against the allowances 1 to 4.
@@ -25,7 +25,7 @@ struct Held {
     text: u64,
 }
 
-/// A change that was made, to be made again elsewhere.
+/// A change that was made, and can be made again on another cache.
 #[derive(Clone, Debug)]
 enum Step {
     Add(NetFieldExportGroup),
@@ -36,11 +36,12 @@ enum Step {
 pub struct Ledger {
     allowances: [u64; 5],
     cache: NetGuidCache,
-    /// In the order of their first setting: the original keeps none.
+    /// In the order in which they were first set. The original does not keep
+    /// this order.
     guids: Vec<u32>,
     guid_places: HashMap<u32, usize>,
     held: Held,
-    /// The steps made since they were last handed on.
+    /// The steps since the last `apply_steps` or `forget_steps`.
     taken: Vec<Step>,
 }
 
@@ -80,7 +81,7 @@ impl Ledger {
         self.held = Held::default();
     }
 
-    /// Answers the group's place. The slots are for the caller to check.
+    /// Returns the group's place. The caller checks the number of slots.
     pub fn add(&mut self, path: &str, index: u32, slots: u32) -> Answered<usize> {
         let after = self.after_adding(path, index);
         self.within_allowances(after)?;
@@ -96,7 +97,7 @@ impl Ledger {
         let by_path = self.cache.get_group_by_path(path);
         let by_index = self.cache.get_group_by_index(index);
         match (by_path, by_index) {
-            // The original refuses this one by itself.
+            // The original refuses this one itself.
             (Some(group), Some(other)) if !std::ptr::eq(group, other) => return after,
             (Some(group), _) => after.text -= group.path.len() as u64,
             (None, Some(group)) => {
@@ -109,7 +110,7 @@ impl Ledger {
         after
     }
 
-    /// Answers whether it was placed.
+    /// Returns whether the field was placed.
     pub fn set_field(
         &mut self,
         index: u32,
@@ -130,7 +131,7 @@ impl Ledger {
         Ok(placed)
     }
 
-    /// A field that finds no slot takes nothing.
+    /// A field without a slot takes nothing.
     fn after_field(&self, index: u32, handle: u32, name: &str) -> Held {
         let mut after = self.held;
         let group = self.cache.get_group_by_index(index);
@@ -164,8 +165,8 @@ impl Ledger {
         Ok(())
     }
 
-    /// A literal of a block, which takes nothing but its place in a table of
-    /// `literals` after it.
+    /// Tests allowance 5 for a block's literal; `literals` counts it and those
+    /// before it. A literal takes nothing else.
     pub fn take_literal(&self, literals: u64) -> Answered<()> {
         self.within(5, literals)
     }
@@ -184,19 +185,20 @@ impl Ledger {
         Ok(())
     }
 
-    /// Forgets the steps taken so far, since something else made them too.
+    /// Forgets the steps so far. The original's reader has made them on the
+    /// other cache.
     pub fn forget_steps(&mut self) {
         self.taken.clear();
     }
 
-    /// Makes the steps taken so far on another cache that had none of them.
-    pub fn hand_steps(&mut self, cache: &mut NetGuidCache) {
+    /// Makes the steps so far on another cache, which has none of them yet.
+    pub fn apply_steps(&mut self, cache: &mut NetGuidCache) {
         for step in self.taken.drain(..) {
             match step {
                 Step::Add(group) => {
                     cache
                         .add_export_group(group)
-                        .expect("a cache like this took it");
+                        .expect("the other cache accepted this group");
                 }
                 Step::Field(index, field) => {
                     cache.set_field_on_group(index, field);
@@ -208,8 +210,8 @@ impl Ledger {
         }
     }
 
-    /// What another cache has that this one has not, or the other way round.
-    /// It also counts again what is held, which was only added up so far.
+    /// Names something in which the two caches differ. Also compares the held
+    /// totals with a new count, since each step only adds to them.
     pub fn disagrees_with(&self, other: &NetGuidCache) -> Option<&'static str> {
         let cache = &self.cache;
         let differs = |what, equal: bool| (!equal).then_some(what);
@@ -261,7 +263,7 @@ fn recount(cache: &NetGuidCache) -> Held {
     }
 }
 
-/// The bytes of its path and of its fields' names.
+/// The bytes of the group's path and of its fields' names.
 fn text_of_group(group: &NetFieldExportGroup) -> u64 {
     let names = group.populated_fields().map(|field| field.name.len());
     (group.path.len() + names.sum::<usize>()) as u64

@@ -1,4 +1,4 @@
-//! Lookups. The original answers with references; document 01 with places.
+//! Lookups. The original answers with references, document 01 with places.
 
 use vrf_schema::NetGuidCache;
 use vrf_schema::export::NetFieldExportGroup;
@@ -14,12 +14,16 @@ const TAG_GROUP: &str = "NetworkGameplayTagNodeIndex";
 
 type Place = Option<usize>;
 
-/// The place of a group that the cache itself has lent.
+/// The place of a group in the cache's list. `group` is a reference into that
+/// list.
 fn place_of(cache: &NetGuidCache, group: &NetFieldExportGroup) -> usize {
     let groups = cache.groups();
     let bytes = std::ptr::from_ref(group) as usize - groups.as_ptr() as usize;
     let place = bytes / size_of::<NetFieldExportGroup>();
-    assert!(std::ptr::eq(&groups[place], group), "it is one of them");
+    assert!(
+        std::ptr::eq(&groups[place], group),
+        "the group is in the cache's list"
+    );
     place
 }
 
@@ -74,14 +78,14 @@ impl Book {
         self.guid_place(self.outer_guid(guid)?, path)
     }
 
-    /// The place of the record that `path` was found in.
+    /// The place of the record in which `path` was found.
     fn guid_place(&self, guid: u32, path: &str) -> Place {
         let place = self.ledger.guid_place(guid);
         assert_eq!(place.and_then(|at| self.path_at_guid(at)), Some(path));
         place
     }
 
-    /// The place of the tags' group, where it has the tag.
+    /// The place of the tags' group, if it has the tag.
     pub fn tag_group(&self, tag: u32) -> Place {
         let name = self.cache.get_gameplay_tag_name(tag)?;
         let group = self.cache.get_group_by_path(TAG_GROUP)?;

@@ -1,4 +1,4 @@
-//! The original's errors as document 01's refusals.
+//! Converts the original's errors to document 01's refusals.
 
 use vrf_bitio::BitError;
 use vrf_schema::SchemaError;

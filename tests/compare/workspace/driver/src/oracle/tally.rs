@@ -1,18 +1,19 @@
-//! The program `tally`: a block on standard input, and its counts as lines.
+//! The program `tally`: it reads a block from standard input and prints its
+//! counts.
 
 use super::Answered;
 use super::book::Book;
 use super::walk::Counts;
 use crate::answer::{Answers, Refusal};
+use crate::error::Error;
 use crate::script::{Blob, Win};
-use crate::trouble::Trouble;
 
 /// The most bytes that it reads.
 const INPUT_TOP: u64 = 65_536;
 
 const ALLOWANCES: [u64; 5] = [128, 32, 128, 8_192, 128];
 
-pub fn play(input: &Blob<'_>, answers: &mut Answers) -> Result<(), Trouble> {
+pub fn play(input: &Blob<'_>, answers: &mut Answers) -> Result<(), Error> {
     let answer = counts(input)?;
     answers.line(|answers| {
         answers.word("tally");
@@ -29,7 +30,7 @@ pub fn play(input: &Blob<'_>, answers: &mut Answers) -> Result<(), Trouble> {
     Ok(())
 }
 
-fn counts(input: &Blob<'_>) -> Result<Answered<Counts>, Trouble> {
+fn counts(input: &Blob<'_>) -> Result<Answered<Counts>, Error> {
     if input.len() > INPUT_TOP {
         return Ok(Err(Refusal::new(43, 0, 0)));
     }

@@ -1,17 +1,17 @@
-//! Texts: document 01 sets limits on them that the original has not.
+//! Texts. Document 01 has limits on them that the original does not have.
 
 use vrf_bitio::BitReader;
 
 use super::Answered;
 use crate::answer::Refusal;
 
-/// The most bytes that a text has on the wire (refusal 13).
+/// The most bytes of a text in a stream (refusal 13).
 pub const WIRE_TEXT_TOP: i64 = 1_048_576;
 
-/// The most bytes that a text has as UTF-8 (refusal 41).
+/// The most bytes of a text as UTF-8 (refusal 41).
 const TEXT_TOP: usize = 4_096;
 
-/// A text that a caller hands over.
+/// A text that is an argument of a call.
 pub fn callers_text(bytes: &[u8]) -> Answered<&str> {
     let text = std::str::from_utf8(bytes).map_err(|_| Refusal::new(40, 0, 0))?;
     within_top(text)?;
@@ -24,9 +24,10 @@ pub fn read_text(reader: &mut BitReader<'_>) -> Answered<String> {
     Ok(text)
 }
 
-/// The limit holds for the text before the number behind it is looked for, and
-/// for the whole name. The original reads both in one go, so the text is read
-/// ahead on a copy; what is wrong with it otherwise, the original says itself.
+/// The limit applies to the text before its number is read, and to the whole
+/// name. The original reads both at once, so a copy of the reader reads the
+/// text first. Its other errors are ignored here: the original finds them
+/// again.
 pub fn read_name(reader: &mut BitReader<'_>) -> Answered<String> {
     let mut ahead = reader.clone();
     if ahead.read_u8() == Ok(0)

@@ -1,9 +1,9 @@
-//! Runs and blocks read field by field, as document 01 says it, with the
-//! original's `BitReader` and single steps on a ledger.
+//! Reads runs and blocks field by field, as document 01 describes them, with
+//! the original's `BitReader` and single steps on a ledger.
 //!
-//! The original reads a run or a block in one go, and cannot stop where one of
-//! document 01's added refusals stands. This walk can. Wherever it meets none
-//! of them, it must agree with the original in everything.
+//! The original reads a run or a block at once, and cannot stop at one of the
+//! refusals that document 01 adds. This walk can. If none of them occurs, it
+//! must agree with the original in everything.
 
 use vrf_bitio::BitReader;
 
@@ -15,7 +15,7 @@ use crate::answer::Refusal;
 /// The most slots of a group (refusals 22 and 31).
 pub const SLOTS_TOP: u32 = 65_536;
 
-/// The depth at which no object is read any more (refusal 26).
+/// Objects at this depth are not read (refusal 26).
 const DEPTH_TOP: u32 = 16;
 
 /// The most GUIDs and groups of a block (refusal 31).
@@ -26,7 +26,7 @@ fn refused<T>(number: u32, a: u32, b: u32) -> Answered<T> {
     Err(Refusal::new(number, u64::from(a), u64::from(b)))
 }
 
-/// Answers the count of entries.
+/// Returns the number of entries.
 pub fn fields_run(reader: &mut BitReader<'_>, ledger: &mut Ledger) -> Answered<u32> {
     let count = reader.read_int_packed()?;
     for _ in 0..count {
@@ -35,7 +35,8 @@ pub fn fields_run(reader: &mut BitReader<'_>, ledger: &mut Ledger) -> Answered<u
     Ok(count)
 }
 
-/// Two steps: a group if one is exported, and a field if one is.
+/// Up to two steps: a group if the entry exports one, and a field if it has
+/// one.
 fn fields_entry(reader: &mut BitReader<'_>, ledger: &mut Ledger) -> Answered<()> {
     let index = reader.read_int_packed()?;
     match reader.read_int_packed()? {
@@ -61,7 +62,7 @@ fn exported_group(reader: &mut BitReader<'_>, index: u32, ledger: &mut Ledger) -
     Ok(())
 }
 
-/// What follows a field's handle.
+/// Reads what follows a field's handle.
 fn field(reader: &mut BitReader<'_>, index: u32, handle: u32, ledger: &mut Ledger) -> Answered<()> {
     let checksum = reader.read_u32()?;
     let name = read_name(reader)?;
@@ -69,7 +70,7 @@ fn field(reader: &mut BitReader<'_>, index: u32, handle: u32, ledger: &mut Ledge
     Ok(())
 }
 
-/// Answers the count of payloads.
+/// Returns the number of payloads.
 pub fn guid_run(reader: &mut BitReader<'_>, ledger: &mut Ledger) -> Answered<u32> {
     let count = reader.read_int_packed()?;
     for _ in 0..count {
@@ -91,7 +92,7 @@ fn payload(reader: &mut BitReader<'_>, ledger: &mut Ledger) -> Answered<()> {
     }
 }
 
-/// Answers the object's GUID. Its outer is read, and recorded, before it.
+/// Returns the object's GUID. The outer object is read and recorded first.
 pub fn object(
     reader: &mut BitReader<'_>,
     exporting: bool,
@@ -162,9 +163,9 @@ pub fn block(reader: &mut BitReader<'_>, ledger: &mut Ledger) -> Answered<Counts
     block_guids(reader, ledger, &mut counts)?;
     block_groups(reader, ledger, &mut counts)?;
     counts.frame = reader.position() / 8;
-    let due = u64::from(word) + 8;
-    if counts.frame != due {
-        return Err(Refusal::new(36, counts.frame, due));
+    let expected = u64::from(word) + 8;
+    if counts.frame != expected {
+        return Err(Refusal::new(36, counts.frame, expected));
     }
     Ok(counts)
 }

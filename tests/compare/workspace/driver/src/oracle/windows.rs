@@ -1,4 +1,4 @@
-//! Windows: the bytes lent to a call, and a reader on a part of their bits.
+//! Windows: the bytes lent to a call, and a reader on some of their bits.
 
 use vrf_bitio::BitReader;
 
@@ -6,13 +6,12 @@ use super::Answered;
 use crate::answer::Refusal;
 use crate::script::Win;
 
-/// The longest slice of bytes that may be lent (refusal 43).
+/// The longest slice of bytes that can be lent (refusal 43).
 const WINDOW_TOP: u64 = 268_435_456;
 
-/// What `read` answers with a reader on the window, unless there is no such
-/// window.
+/// Calls `read` with a reader on the window, unless the window is refused.
 pub fn with_window<T>(win: &Win<'_>, read: impl FnOnce(BitReader<'_>) -> T) -> Answered<T> {
-    // Before the bytes are laid out: a blob past the top need not be.
+    // Tested first, so that the bytes of a longer blob are not made.
     if win.blob.len() > WINDOW_TOP {
         return Err(Refusal::new(43, 0, 0));
     }
@@ -25,8 +24,8 @@ fn open(bytes: &[u8], first: u64, count: u64) -> Answered<BitReader<'_>> {
     if first == 0 {
         return Ok(BitReader::with_bit_len(bytes, count)?);
     }
-    // The original has no window that starts later, save one cut from another,
-    // and that knows neither this refusal nor a start past the end.
+    // In the original only an inner window can start later, and that has
+    // neither this refusal nor a start after the end.
     let available = BitReader::new(bytes).len_bits().saturating_sub(first);
     if count > available {
         return Err(Refusal::new(15, count, available));

@@ -1,5 +1,5 @@
-//! The block writer. The original has none: this one is written from document
-//! 01's section on blocks.
+//! The block writer. The original has none: this one follows document 01's
+//! section on blocks.
 
 use std::collections::HashSet;
 
@@ -17,8 +17,8 @@ const BLOCK_TOP: u64 = 268_435_456;
 /// The five words before the GUIDs, and the one before the groups.
 const WORDS: u64 = 6 * 4;
 
-/// The end of a block is this many bytes behind its first word's number.
-const END_BEHIND: u64 = 8;
+/// A block's length minus the number in its first word.
+const END_OFFSET: u64 = 8;
 
 /// The book's block, if it fits into `buffer` bytes.
 pub fn write(book: &Book, buffer: u64) -> Answered<Vec<u8>> {
@@ -33,12 +33,12 @@ pub fn write(book: &Book, buffer: u64) -> Answered<Vec<u8>> {
     assert_eq!(
         block.len() as u64,
         length,
-        "the length was worked out first"
+        "the block has the computed length"
     );
     Ok(block)
 }
 
-/// The first group whose path is a key of a group before it.
+/// The first group whose path is a key of an earlier group.
 fn first_covered_group(groups: &[NetFieldExportGroup]) -> Option<usize> {
     let mut keys: HashSet<String> = HashSet::new();
     groups.iter().position(|group| {
@@ -50,7 +50,7 @@ fn first_covered_group(groups: &[NetFieldExportGroup]) -> Option<usize> {
     })
 }
 
-/// Worked out without the block, which may be longer than fits anywhere.
+/// Computed without making the block, which may be too long for that.
 fn block_length(book: &Book) -> u64 {
     let guids = book.ledger.guids().iter().map(|&guid| {
         let outer = book.outer_guid(guid).unwrap_or(0);
@@ -85,7 +85,7 @@ fn text_length(text: &str) -> u64 {
 
 fn block_bytes(book: &Book, length: u64) -> Vec<u8> {
     let mut block = Stream::new();
-    word(&mut block, (length - END_BEHIND) as u32);
+    word(&mut block, (length - END_OFFSET) as u32);
     for _ in 0..3 {
         word(&mut block, 0);
     }
@@ -132,7 +132,8 @@ fn word(block: &mut Stream, word: u32) {
     block.bytes(&word.to_le_bytes());
 }
 
-/// Empty as 0, otherwise with a zero behind it, which is counted.
+/// An empty text is the length 0. Any other text has a final zero, which the
+/// length includes.
 fn text(block: &mut Stream, text: &str) {
     if text.is_empty() {
         return word(block, 0);

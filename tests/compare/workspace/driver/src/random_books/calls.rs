@@ -1,18 +1,18 @@
-//! Scripts of book calls and lookups, one after another on the same book.
+//! Scripts of book calls and lookups, most of them on one book.
 
 use super::pool::Pool;
 use super::wire::Writer;
 use super::{allowances, allowances_beyond, look_at_all};
-use crate::laid::Laid;
+use crate::owned_win::OwnedWin;
 use crate::rng::Rng;
 use crate::script::{Blob, Call, Script};
 
-/// A block without anything in it.
+/// The length of an empty book's block.
 const EMPTY_BLOCK: u64 = 24;
 
 pub fn script(rng: &mut Rng) -> Script {
     let pool = Pool::new(rng);
-    let watched = rng.once_in(3) && !pool.is_long() && !pool.is_crowd();
+    let watched = rng.once_in(3) && !pool.is_long() && !pool.has_many();
     let mut script = Script::new();
     if rng.once_in(6) {
         before_opening(rng, &pool, &mut script);
@@ -22,7 +22,7 @@ pub fn script(rng: &mut Rng) -> Script {
         book: 0,
         allowances,
     });
-    // Once something was written, the last written block is no question.
+    // The first writing makes sure that there is a last written block.
     let writes = rng.once_in(3);
     if writes {
         script.call(&Call::Write {
@@ -34,7 +34,7 @@ pub fn script(rng: &mut Rng) -> Script {
     }
     for _ in 0..(10 + rng.below(50)) * pool.calls() {
         let changes = match rng.below(16) {
-            0 if writes => desk_call(rng, &pool, &mut script),
+            0 if writes => written_block_call(rng, &pool, &mut script),
             1 if rng.once_in(4) => other_book(rng, &pool, &mut script),
             _ => book_call(rng, &pool, &mut script),
         };
@@ -51,8 +51,8 @@ pub fn script(rng: &mut Rng) -> Script {
     script
 }
 
-/// Most of the pool's paths as groups, each with an index of its own, and then
-/// many questions. Answers how many calls that makes.
+/// Adds most of the pool's paths as groups, each with its own index, and then
+/// makes lookups by text. Returns the number of calls.
 pub fn fill(rng: &mut Rng, pool: &Pool, script: &mut Script) -> usize {
     let mut calls = 0;
     for nth in 0..pool.pairs() {
@@ -73,12 +73,13 @@ pub fn fill(rng: &mut Rng, pool: &Pool, script: &mut Script) -> usize {
     calls
 }
 
-/// For whatever a script makes of its pool, unless it has very many slots.
+/// Enough for every book that a script makes of its pool, unless a group has
+/// very many slots.
 pub fn ample_buffer(pool: &Pool) -> u64 {
     (4_000 + pool.longest * 40) * pool.calls()
 }
 
-/// Calls to a book that nobody has opened, and refused openings.
+/// Calls to a book that is not open, and refused openings.
 fn before_opening(rng: &mut Rng, pool: &Pool, script: &mut Script) {
     for _ in 0..1 + rng.below(4) {
         match rng.below(4) {
@@ -94,8 +95,9 @@ fn before_opening(rng: &mut Rng, pool: &Pool, script: &mut Script) {
     }
 }
 
-/// Writing, and reading what was written, by this book or by another.
-fn desk_call(rng: &mut Rng, pool: &Pool, script: &mut Script) -> bool {
+/// Writes a block, or reads the last written one. Returns whether that may
+/// change the book.
+fn written_block_call(rng: &mut Rng, pool: &Pool, script: &mut Script) -> bool {
     if rng.once_in(2) {
         script.call(&Call::ReadWritten);
         return true;
@@ -110,7 +112,7 @@ fn desk_call(rng: &mut Rng, pool: &Pool, script: &mut Script) -> bool {
     false
 }
 
-/// A look at another book, another one from here on, or this one opened again.
+/// Uses another book for one call, opens another book, or opens this one again.
 fn other_book(rng: &mut Rng, pool: &Pool, script: &mut Script) -> bool {
     match rng.below(4) {
         0 => script.call(&Call::Open {
@@ -130,7 +132,7 @@ fn other_book(rng: &mut Rng, pool: &Pool, script: &mut Script) -> bool {
     true
 }
 
-/// One call on the current book; answers whether it may change it.
+/// One call on the current book. Returns whether it may change the book.
 pub fn book_call(rng: &mut Rng, pool: &Pool, script: &mut Script) -> bool {
     match rng.below(100) {
         0..=23 => add(rng, pool, script),
@@ -186,7 +188,7 @@ fn set_guid(rng: &mut Rng, pool: &Pool, script: &mut Script) {
     });
 }
 
-/// A run, an object or a block, most often one that can be read.
+/// A run, an object or a block. Most of them can be read.
 fn read(rng: &mut Rng, pool: &Pool, script: &mut Script) {
     let flaws = rng.pick(&[0, 0, 60]);
     let writer = Writer::new(pool, flaws);
@@ -198,8 +200,8 @@ fn read(rng: &mut Rng, pool: &Pool, script: &mut Script) {
         7 | 8 => writer.object(rng, exporting == 1),
         _ => writer.block(rng),
     };
-    let laid = Laid::fitting(rng.below(8), &stream);
-    let win = laid.win();
+    let window = OwnedWin::fitting(rng.below(8), &stream);
+    let win = window.win();
     script.call(&match kind {
         0..=3 => Call::FieldsRun(win),
         4..=6 => Call::GuidRun(win),

@@ -1,4 +1,4 @@
-//! A few texts, indices and GUIDs that have to do with each other.
+//! A few related texts, indices and GUIDs.
 
 use crate::rng::Rng;
 
@@ -6,24 +6,24 @@ pub struct Pool {
     paths: Vec<String>,
     indices: Vec<u32>,
     guids: Vec<u32>,
-    /// Of the paths.
+    /// The length of the longest path.
     pub longest: u64,
-    flavour: Flavour,
+    purpose: Purpose,
 }
 
 /// What the paths were chosen for.
 #[derive(Clone, Copy, PartialEq, Eq)]
-enum Flavour {
+enum Purpose {
     Mixed,
-    /// One leaf or its suffixes under several owners.
+    /// One leaf, with suffixes, in several paths.
     Leaves,
-    /// One text with every prefix and suffix that makes keys.
+    /// One text with all prefixes and suffixes that matter for keys.
     Keys,
-    /// Many that have little to do with each other.
-    Crowd,
+    /// Many paths, few of which are related.
+    Many,
 }
 
-/// Paths that show one thing or another: aliases, dots, leaves, suffixes.
+/// Paths with aliases, dots, leaves and suffixes.
 const SEEDS: [&str; 44] = [
     "",
     "A",
@@ -71,7 +71,7 @@ const SEEDS: [&str; 44] = [
     "/s.nul\0",
 ];
 
-/// Ends that make a name an instance's name.
+/// Suffixes that make the name of an instance.
 const INSTANCE_ENDS: [&str; 18] = [
     "", "", "", "1", "12", "_1", "_A", "A1", "AB12", "_A_2", "_AB1", "_003", "B", "_", "__7",
     "\u{e9}", "\u{c9}5", "_x_y_z",
@@ -97,48 +97,49 @@ const NUMBERS: [u32; 14] = [
 
 impl Pool {
     pub fn new(rng: &mut Rng) -> Self {
-        let (paths, flavour) = match rng.below(40) {
-            0..=13 => (mixed(rng), Flavour::Mixed),
-            14..=25 => (leaves(rng), Flavour::Leaves),
-            26..=34 => (keys(rng), Flavour::Keys),
-            // Long ones and many are rare: what they show, a few scripts show.
-            35 | 36 => (lengthened(rng, &LONGER_STEMS), Flavour::Leaves),
-            37 | 38 => (lengthened(rng, &LONG_STEMS), Flavour::Keys),
-            _ => (crowd(rng), Flavour::Crowd),
+        let (paths, purpose) = match rng.below(40) {
+            0..=13 => (mixed(rng), Purpose::Mixed),
+            14..=25 => (leaves(rng), Purpose::Leaves),
+            26..=34 => (keys(rng), Purpose::Keys),
+            // Long paths and many paths are rare, since a few scripts test
+            // enough of them.
+            35 | 36 => (lengthened(rng, &MEDIUM_STEMS), Purpose::Leaves),
+            37 | 38 => (lengthened(rng, &LONG_STEMS), Purpose::Keys),
+            _ => (many(rng), Purpose::Many),
         };
-        let (indices, guids) = match flavour {
-            Flavour::Mixed => few_numbers(rng, 2),
-            // Several groups have to stand side by side.
-            Flavour::Leaves | Flavour::Keys => few_numbers(rng, 6),
-            Flavour::Crowd => many_numbers(rng),
+        let (indices, guids) = match purpose {
+            Purpose::Mixed => few_numbers(rng, 2),
+            // Enough indices for several groups.
+            Purpose::Leaves | Purpose::Keys => few_numbers(rng, 6),
+            Purpose::Many => many_numbers(rng),
         };
         Pool {
             longest: paths.iter().map(String::len).max().unwrap_or(0) as u64,
             paths,
             indices,
             guids,
-            flavour,
+            purpose,
         }
     }
 
-    /// How many times as many calls as usual it takes to make something of it.
+    /// How many times more calls than usual a script needs to use the pool.
     pub fn calls(&self) -> u64 {
-        match self.flavour {
-            Flavour::Crowd => 12,
+        match self.purpose {
+            Purpose::Many => 12,
             _ => 1,
         }
     }
 
-    pub fn is_crowd(&self) -> bool {
-        self.flavour == Flavour::Crowd
+    pub fn has_many(&self) -> bool {
+        self.purpose == Purpose::Many
     }
 
-    /// Whether the paths were chosen for what is found by text.
+    /// Whether the paths were chosen for lookups by text.
     pub fn is_for_lookups(&self) -> bool {
-        matches!(self.flavour, Flavour::Leaves | Flavour::Keys)
+        matches!(self.purpose, Purpose::Leaves | Purpose::Keys)
     }
 
-    /// Whether texts are so long that printing them all often is too much.
+    /// Whether texts are too long to be printed often.
     pub fn is_long(&self) -> bool {
         self.longest > 1_000
     }
@@ -148,13 +149,13 @@ impl Pool {
         &self.paths[at]
     }
 
-    /// A path, or one that is not in the pool but near one that is.
+    /// A path of the pool, or one related to it.
     pub fn path_or_related(&self, rng: &mut Rng) -> String {
         let path = self.path(rng).to_owned();
         match rng.below(8) {
             0 | 1 => related(rng, &path),
-            2 if self.flavour == Flavour::Keys => related(rng, &path),
-            3 if self.flavour == Flavour::Keys => {
+            2 if self.purpose == Purpose::Keys => related(rng, &path),
+            3 if self.purpose == Purpose::Keys => {
                 let relative = related(rng, &path);
                 related(rng, &relative)
             }
@@ -162,19 +163,20 @@ impl Pool {
         }
     }
 
-    /// A text as a caller may hand it over: also one that is none.
+    /// A text for a call. It may be invalid or too long.
     pub fn callers_text(&self, rng: &mut Rng) -> Vec<u8> {
         match rng.below(60) {
             0 => {
                 let path = self.path(rng);
-                spoilt(rng, path)
+                corrupted(rng, path)
             }
             1 => over_long(rng),
             _ => self.path_or_related(rng).into_bytes(),
         }
     }
 
-    /// The name of a field: most often one of a few, so that it meets itself.
+    /// The name of a field. Most are from a short list, so that names occur
+    /// again.
     pub fn name(&self, rng: &mut Rng) -> String {
         match rng.below(8) {
             0 => self.path(rng).to_owned(),
@@ -185,17 +187,17 @@ impl Pool {
         }
     }
 
-    /// What a caller may hand over as a field's name.
+    /// A field's name for a call. It may be invalid or too long.
     pub fn callers_name(&self, rng: &mut Rng) -> Vec<u8> {
         match rng.below(60) {
-            0 => spoilt(rng, "Health"),
+            0 => corrupted(rng, "Health"),
             1 => over_long(rng),
             _ => self.name(rng).into_bytes(),
         }
     }
 
-    /// What a caller may ask the resolutions for: a leaf without some of its
-    /// suffixes, as an instance of it.
+    /// A name for the resolutions: a leaf without some of its suffixes, with
+    /// the suffix of an instance.
     pub fn bare_name(&self, rng: &mut Rng) -> Vec<u8> {
         if rng.once_in(6) {
             return self.callers_text(rng);
@@ -219,8 +221,8 @@ impl Pool {
         number(rng, &self.guids)
     }
 
-    /// The index that belongs to the pool's path of this number, so that a run
-    /// or a block can be written in which nothing crosses.
+    /// The path of number `nth`, and the index that belongs to it. No two pairs
+    /// cross.
     pub fn pair(&self, nth: usize) -> (&str, u32) {
         let at = nth % self.paths.len();
         (&self.paths[at], 10 + at as u32)
@@ -231,7 +233,7 @@ impl Pool {
     }
 }
 
-/// Paths that show one thing or another, and others related to them.
+/// A few of the `SEEDS`, and paths related to them.
 fn mixed(rng: &mut Rng) -> Vec<String> {
     let mut paths: Vec<String> = Vec::new();
     for _ in 0..2 + rng.below(3) {
@@ -245,8 +247,8 @@ fn mixed(rng: &mut Rng) -> Vec<String> {
     paths
 }
 
-/// A stem and an instance of it, with the suffixes that resolutions try, under
-/// a few owners.
+/// A stem and one of its instances, with the suffixes that resolutions try, in
+/// several paths.
 fn leaves(rng: &mut Rng) -> Vec<String> {
     let stem = rng.pick(&["Foo", "F", "Shield", "_", "\u{e9}", ""]);
     leaves_of(rng, stem)
@@ -265,7 +267,7 @@ fn leaves_of(rng: &mut Rng, stem: &str) -> Vec<String> {
         .collect()
 }
 
-/// A text with prefixes that make aliases and suffixes that are toggled.
+/// A text with prefixes that make aliases, with and without `_ClassNetCache`.
 fn keys(rng: &mut Rng) -> Vec<String> {
     let stem = rng.pick(&["", "", "A", "Foo", "\u{e9}", "x", "/x/y"]);
     keys_of(rng, stem)
@@ -293,15 +295,17 @@ fn keys_of(rng: &mut Rng, stem: &str) -> Vec<String> {
         .collect()
 }
 
-/// Stems that are as long as a text may be with `_ClassNetCache`, or with the
-/// characters' folder before it too: the keys that these make are longer than
-/// any text.
+/// Stems that reach the maximum length of a text with `_ClassNetCache`, with
+/// that and `/Game/Characters/`, or with `Default__`. Some of their keys are
+/// longer than any text.
 const LONG_STEMS: [usize; 3] = [4_096 - 14, 4_096 - 14 - 17, 4_096 - 9];
 
-/// Stems that get longer by a suffix than the original joins without a heap.
-const LONGER_STEMS: [usize; 3] = [128 - 14, 128 - 23, 128 - 9];
+/// Stems that a suffix makes longer than what the original joins without a
+/// heap.
+const MEDIUM_STEMS: [usize; 3] = [128 - 14, 128 - 23, 128 - 9];
 
-/// A stem of about so many bytes, with what makes keys and leaves of it.
+/// A stem of about one of these lengths, with prefixes and suffixes for keys or
+/// leaves.
 fn lengthened(rng: &mut Rng, lengths: &[usize; 3]) -> Vec<String> {
     let len = rng.pick(lengths) + rng.pick(&[0, 0, 0, 1, 2, 5]);
     let (filling, size) = rng.pick(&[('L', 1), ('\u{e9}', 2), ('9', 1)]);
@@ -313,8 +317,8 @@ fn lengthened(rng: &mut Rng, lengths: &[usize; 3]) -> Vec<String> {
     }
 }
 
-/// Paths by number, some of them with the same leaf, some aliases.
-fn crowd(rng: &mut Rng) -> Vec<String> {
+/// Numbered paths. Some have the same leaf, and some are aliases.
+fn many(rng: &mut Rng) -> Vec<String> {
     let owners = [
         "/a.",
         "/b.",
@@ -333,7 +337,7 @@ fn crowd(rng: &mut Rng) -> Vec<String> {
         .collect()
 }
 
-/// Indices and GUIDs, a few more than `least` of them, not all different.
+/// A few more than `least` indices and GUIDs. Not all are different.
 fn few_numbers(rng: &mut Rng, least: u64) -> (Vec<u32>, Vec<u32>) {
     let few = least + rng.below(4);
     let indices = (0..few).map(|_| rng.pick(&NUMBERS)).collect();
@@ -341,7 +345,7 @@ fn few_numbers(rng: &mut Rng, least: u64) -> (Vec<u32>, Vec<u32>) {
     (indices, guids)
 }
 
-/// Indices and GUIDs side by side, or far apart.
+/// Consecutive indices and GUIDs, or ones with a constant distance.
 fn many_numbers(rng: &mut Rng) -> (Vec<u32>, Vec<u32>) {
     let step = rng.pick(&[1, 1, 2, 64, 1 << 16, 0x0101_0101]);
     let numbers = |many: u32| (0..many).map(|n| n.wrapping_mul(step)).collect();
@@ -355,13 +359,13 @@ fn number(rng: &mut Rng, pool: &[u32]) -> u32 {
     rng.pick(pool)
 }
 
-/// The text behind the last dot, or all of it.
+/// The text after the last dot, or the whole path.
 fn leaf(path: &str) -> &str {
     path.rsplit('.').next().unwrap_or(path)
 }
 
-/// A path that has to do with `path`: an alias of it, or one that claims the
-/// same leaf, or almost.
+/// A path related to `path`: an alias, one with the same leaf, or nearly one of
+/// these.
 fn related(rng: &mut Rng, path: &str) -> String {
     match rng.below(18) {
         0 | 1 => match path.strip_prefix("Default__") {
@@ -396,7 +400,7 @@ fn related(rng: &mut Rng, path: &str) -> String {
     }
 }
 
-/// Just as long as a text may be, or longer.
+/// A text of about the maximum length, or longer.
 fn over_long(rng: &mut Rng) -> Vec<u8> {
     let len = rng.pick(&[4_095, 4_096, 4_097, 4_098, 10_000]);
     let mut text = rng.pick(&["", "/s.", "Default__"]).as_bytes().to_vec();
@@ -404,8 +408,8 @@ fn over_long(rng: &mut Rng) -> Vec<u8> {
     text
 }
 
-/// No UTF-8, most often; sometimes too long besides.
-fn spoilt(rng: &mut Rng, text: &str) -> Vec<u8> {
+/// A text that is usually no valid UTF-8, and sometimes too long as well.
+fn corrupted(rng: &mut Rng, text: &str) -> Vec<u8> {
     let mut bytes = text.as_bytes().to_vec();
     let at = rng.below(bytes.len() as u64 + 1) as usize;
     let odd = [0x80, 0xBF, 0xC0, 0xC3, 0xED, 0xF4, 0xF5, 0xFF];

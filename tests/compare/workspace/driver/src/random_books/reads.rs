@@ -1,15 +1,16 @@
-//! Scripts of runs, objects and blocks: good ones, all their beginnings, good
-//! ones with one byte changed, and noise.
+//! Scripts of runs, objects and blocks: good ones, all prefixes of good ones,
+//! good ones with one byte changed, and random bytes.
 
 use super::pool::Pool;
 use super::wire::Writer;
 use super::{allowances, calls, look_at_all};
-use crate::laid::Laid;
+use crate::owned_win::OwnedWin;
 use crate::rng::Rng;
 use crate::script::{Blob, Call, Script, Win};
 use crate::stream::Stream;
 
-/// The most bytes of which every beginning is read, or every byte changed.
+/// The most bytes of a stream whose prefixes are all read, or whose bytes are
+/// all changed.
 const SMALL: u64 = 90;
 
 pub fn script(rng: &mut Rng) -> Script {
@@ -18,7 +19,7 @@ pub fn script(rng: &mut Rng) -> Script {
     match rng.below(9) {
         0 => plan.beginnings(rng, &mut script),
         1 => plan.changed_bytes(rng, &mut script),
-        2 => plan.noise(rng, &mut script),
+        2 => plan.random_bytes(rng, &mut script),
         3 => plan.one_bit_further(rng, &mut script),
         4 => plan.long_texts(rng, &mut script),
         _ => plan.one_after_another(rng, &mut script),
@@ -60,7 +61,7 @@ impl Kind {
         }
     }
 
-    /// `tally` has no window: it reads all the bytes that the window lies in.
+    /// `tally` has no window: it reads all bytes of the blob.
     pub fn call<'a>(self, win: Win<'a>) -> Call<'a> {
         match self {
             Kind::Fields => Call::FieldsRun(win),
@@ -80,7 +81,7 @@ impl Kind {
 struct Plan {
     pool: Pool,
     allowances: [u64; 5],
-    /// Calls made before each reading, none on a fresh book.
+    /// Calls on the fresh book before each reading. There may be none.
     before: Script,
     kind: Kind,
 }
@@ -110,8 +111,8 @@ impl Plan {
         script.append(&self.before);
     }
 
-    /// A good one that is as long as can be gone through, or a longer one where
-    /// texts are long.
+    /// The longest of a few good streams of at most `SMALL` bytes, or a longer
+    /// one if all are longer.
     fn small(&self, rng: &mut Rng) -> Stream {
         let writer = Writer::new(&self.pool, 0);
         let mut best = self.kind.stream(rng, &writer);
@@ -125,27 +126,27 @@ impl Plan {
         best
     }
 
-    /// Every beginning, each into a book of its own.
+    /// Every prefix, each into its own book.
     fn beginnings(&self, rng: &mut Rng, script: &mut Script) {
         let first = rng.below(8);
-        let laid = Laid::fitting(first, &self.small(rng));
-        let whole = laid.count / 8;
+        let window = OwnedWin::fitting(first, &self.small(rng));
+        let whole = window.count / 8;
         let step = whole / SMALL + 1;
         for bytes in (0..=whole).step_by(step as usize) {
             self.fresh_book(script);
-            // Some bits more than whole bytes are no more than those bytes.
-            let count = (bytes * 8 + rng.pick(&[0, 0, 1, 7])).min(laid.count);
-            let mut win = laid.win();
+            // A few bits after the last whole byte make no difference.
+            let count = (bytes * 8 + rng.pick(&[0, 0, 1, 7])).min(window.count);
+            let mut win = window.win();
             win.count = count;
             if self.kind == Kind::Tally || rng.once_in(2) {
                 let end = (first + count).div_ceil(8) as usize;
-                win.blob = Blob::Plain(&laid.head[..end]);
+                win.blob = Blob::Plain(&window.head[..end]);
             }
             read(script, self.kind, win);
         }
     }
 
-    /// Every byte changed in its turn.
+    /// One byte changed, each byte in its turn.
     fn changed_bytes(&self, rng: &mut Rng, script: &mut Script) {
         let stream = self.small(rng);
         let first = rng.below(8);
@@ -154,15 +155,19 @@ impl Plan {
         for at in (0..len).step_by(step) {
             let mut bytes = stream.as_bytes().to_vec();
             bytes[at] = changed(rng, bytes[at]);
-            let mut spoilt = Stream::new();
-            spoilt.bytes(&bytes);
+            let mut corrupted = Stream::new();
+            corrupted.bytes(&bytes);
             self.fresh_book(script);
-            read(script, self.kind, Laid::fitting(first, &spoilt).win());
+            read(
+                script,
+                self.kind,
+                OwnedWin::fitting(first, &corrupted).win(),
+            );
         }
     }
 
-    /// Bytes that nobody has written, some of them behind a good beginning.
-    fn noise(&self, rng: &mut Rng, script: &mut Script) {
+    /// Random bytes, some of them after a prefix of a good stream.
+    fn random_bytes(&self, rng: &mut Rng, script: &mut Script) {
         self.fresh_book(script);
         for _ in 0..1 + rng.below(20) {
             let mut stream = Stream::new();
@@ -181,22 +186,22 @@ impl Plan {
                 };
                 stream.bytes(&[byte]);
             }
-            read(script, self.kind, Laid::out(rng, &stream).win());
+            read(script, self.kind, OwnedWin::random(rng, &stream).win());
         }
     }
 
-    /// The same stream from every bit of a byte.
+    /// One stream, starting at every bit of a byte.
     fn one_bit_further(&self, rng: &mut Rng, script: &mut Script) {
         let flaws = rng.pick(&[0, 20]);
         let stream = self.kind.stream(rng, &Writer::new(&self.pool, flaws));
         for first in 0..8 {
             self.fresh_book(script);
-            read(script, self.kind, Laid::fitting(first, &stream).win());
+            read(script, self.kind, OwnedWin::fitting(first, &stream).win());
         }
     }
 
-    /// Each text in its turn about as long as a text may be, into books that may
-    /// have no room for it.
+    /// A text of about the maximum length, each text in its turn. The book may
+    /// be too small for it.
     fn long_texts(&self, rng: &mut Rng, script: &mut Script) {
         for nth in 1..=6 {
             let writer = Writer::new(&self.pool, 0).with_long_text(nth);
@@ -212,12 +217,12 @@ impl Plan {
             read(
                 script,
                 self.kind,
-                Laid::fitting(rng.below(8), &stream).win(),
+                OwnedWin::fitting(rng.below(8), &stream).win(),
             );
         }
     }
 
-    /// Different ones into the same book, good or not, in any window.
+    /// Several streams into one book, good or not, in any window.
     fn one_after_another(&self, rng: &mut Rng, script: &mut Script) {
         self.fresh_book(script);
         let flaws = rng.pick(&[0, 15, 40]);
@@ -225,11 +230,11 @@ impl Plan {
         for _ in 0..1 + rng.below(10) {
             let kind = Kind::any(rng);
             let stream = kind.stream(rng, &writer);
-            let laid = match rng.below(3) {
-                0 => Laid::out(rng, &stream),
-                _ => Laid::fitting(rng.below(8), &stream),
+            let window = match rng.below(3) {
+                0 => OwnedWin::random(rng, &stream),
+                _ => OwnedWin::fitting(rng.below(8), &stream),
             };
-            read(script, kind, laid.win());
+            read(script, kind, window.win());
             if rng.once_in(12) {
                 script.call(&Call::Clear);
             }
@@ -243,7 +248,7 @@ impl Plan {
     }
 }
 
-/// One reading, and what it left.
+/// One reading, and what the book holds after it.
 fn read(script: &mut Script, kind: Kind, win: Win<'_>) {
     script.call(&kind.call(win));
     if kind != Kind::Tally {

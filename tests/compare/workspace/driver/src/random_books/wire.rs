@@ -1,5 +1,5 @@
-//! Runs, objects and blocks as they come over the wire, in any spelling that is
-//! allowed, with flaws as often as one asks for.
+//! Writes runs, objects and blocks in any encoding that is allowed, with flaws
+//! at a given rate.
 
 use std::cell::Cell;
 
@@ -9,11 +9,10 @@ use crate::stream::Stream;
 
 pub struct Writer<'p> {
     pool: &'p Pool,
-    /// A flaw is made once in so many places where one is possible; never
-    /// where this is 0.
+    /// One in this many possible flaws is made; none if this is 0.
     flaws: u64,
-    /// The text that is about as long as one may be, counted down to it; none
-    /// where this is 0.
+    /// How many texts remain until the long one, counting it; no long text if
+    /// this is 0.
     until_long: Cell<u64>,
 }
 
@@ -26,7 +25,7 @@ impl<'p> Writer<'p> {
         }
     }
 
-    /// Makes the text of this number, from 1, a long one.
+    /// Makes text number `nth` a long one, counting from 1.
     pub fn with_long_text(self, nth: u64) -> Self {
         self.until_long.set(nth);
         self
@@ -48,7 +47,7 @@ impl<'p> Writer<'p> {
         run
     }
 
-    /// A count of what follows, now and then a wrong one.
+    /// The number of what follows. A flaw makes it wrong.
     fn announced(&self, rng: &mut Rng, count: u32) -> u32 {
         if !self.flaw(rng) {
             return count;
@@ -61,13 +60,15 @@ impl<'p> Writer<'p> {
         }
     }
 
-    /// An exported group, or a reference to one of this run's or to any.
+    /// Exports a group, or refers to one that this run exported; a flaw refers
+    /// to any group.
     fn fields_entry(&self, rng: &mut Rng, run: &mut Stream, known: &mut Vec<u32>) {
         let exported = known.is_empty() || rng.once_in(2);
         if exported {
             let (path, mut index) = self.path_and_index(rng);
             let slots = self.slots(rng);
-            // Too many slots, and most often besides another group's index.
+            // Too many slots, together with an index that a group of this run
+            // already has.
             if slots > 65_536 && !known.is_empty() {
                 index = rng.pick(known);
             }
@@ -105,7 +106,7 @@ impl<'p> Writer<'p> {
         }
     }
 
-    /// In most entries the two belong together.
+    /// Most often the path and the index of one pair.
     fn path_and_index(&self, rng: &mut Rng) -> (String, u32) {
         if rng.once_in(4) {
             return (self.pool.path_or_related(rng), self.pool.index(rng));
@@ -167,7 +168,7 @@ impl<'p> Writer<'p> {
             };
             run.i32(size);
             run.stream(&object);
-            // Inside the announced size, or not.
+            // One more byte, which the announced size may include.
             if self.flaw(rng) {
                 run.bytes(&[0]);
             }
@@ -185,8 +186,8 @@ impl<'p> Writer<'p> {
         }
     }
 
-    /// An object with its outers, most often one or none, now and then about
-    /// as many as may be.
+    /// An object with its outers: most often up to two, rarely about as many as
+    /// allowed.
     pub fn object(&self, rng: &mut Rng, exporting: bool) -> Stream {
         let outers = match rng.below(30) {
             0 => 14 + rng.below(4),
@@ -200,7 +201,7 @@ impl<'p> Writer<'p> {
 
     fn chain(&self, rng: &mut Rng, exporting: bool, outers: u64, stream: &mut Stream) {
         let last = outers == 0;
-        // Only the GUID 1 has flags where nothing is exported.
+        // If it is not exporting, only GUID 1 has flags.
         let guid = match rng.below(8) {
             0 if last => 0,
             _ if !exporting && !last => 1,
@@ -233,11 +234,11 @@ impl<'p> Writer<'p> {
         self.block_of(rng, guids, groups, 6)
     }
 
-    /// About as much as `tally`'s book takes, and so in one count or another a
-    /// little too much.
+    /// A block of about the size that `tally`'s book holds. Often one of the
+    /// counts is a little too large.
     pub fn block_for_tally(&self, rng: &mut Rng) -> Stream {
         let guids = match self.pool.is_long() {
-            // A little more than it reads at all.
+            // With long texts a few GUIDs reach the limit of its input.
             true => rng.pick(&[0, 1, 15, 16, 17]),
             false => rng.pick(&[0, 0, 1, 127, 128, 129, 130]),
         };
@@ -282,7 +283,7 @@ impl<'p> Writer<'p> {
     }
 
     fn block_guids(&self, rng: &mut Rng, guids: u64, body: &mut Stream) {
-        // Distinct ones are wanted where there are many.
+        // If there are many GUIDs, they are distinct.
         let many = guids > 20;
         let sharing = rng.once_in(2);
         let mut literals = 0;
@@ -318,7 +319,7 @@ impl<'p> Writer<'p> {
         }]);
     }
 
-    /// Where there are more groups than paths, numbers make them differ.
+    /// If there are more groups than paths, numbers make them distinct.
     fn block_groups(&self, rng: &mut Rng, groups: u64, slots: u64, body: &mut Stream) {
         let offset = rng.below(self.pool.pairs() as u64) as usize;
         for nth in 0..groups as usize {
@@ -339,8 +340,8 @@ impl<'p> Writer<'p> {
                 false => rng.below(slots + 1) as u32,
             };
             self.packed(rng, body, slots);
-            // Of a wrong number only the first few, or all others would cost
-            // more than they show.
+            // A wrong number of slots can be large. The first 300 slots are
+            // enough.
             for slot in 0..slots.min(300) {
                 self.block_slot(rng, slot, body);
             }
@@ -360,7 +361,7 @@ impl<'p> Writer<'p> {
         self.field_tail(rng, body);
     }
 
-    /// A packed number, now and then longer than needed.
+    /// A packed number, sometimes in more bytes than needed.
     fn packed(&self, rng: &mut Rng, stream: &mut Stream, value: u32) {
         if self.flaw(rng) {
             match rng.below(6) {
@@ -368,7 +369,8 @@ impl<'p> Writer<'p> {
                     let last = rng.pick(&[0x1F, 0x20, 0x21, 0xFF]);
                     return stream.bytes(&[1, 1, 1, 1, last]);
                 }
-                // What comes before the next number must show by itself.
+                // The stream ends after this number. A refusal that comes
+                // before the next reading must still occur.
                 1 => {
                     stream.packed(value, 1);
                     return stream.end();
@@ -383,8 +385,8 @@ impl<'p> Writer<'p> {
         stream.packed(value, fewest);
     }
 
-    /// A text in either spelling, with its final zero, without it, or with one
-    /// more, which then belongs to it.
+    /// A text in either encoding, with its final zero, without it, or with two,
+    /// one of which belongs to the text.
     fn text(&self, rng: &mut Rng, stream: &mut Stream, text: &str) {
         let until_long = self.until_long.get();
         self.until_long.set(until_long.saturating_sub(1));
@@ -429,8 +431,8 @@ impl<'p> Writer<'p> {
     }
 }
 
-/// About as long as a text may be, counted in bytes and not in what the wire
-/// carries; then often nothing more.
+/// A text of about the maximum length in bytes of UTF-8. Often the stream ends
+/// after it.
 fn long_text(rng: &mut Rng, stream: &mut Stream) {
     let len = rng.pick(&[4_086, 4_090, 4_095, 4_096, 4_097, 4_098]);
     match rng.below(4) {

@@ -1,4 +1,4 @@
-//! Scripts being read back.
+//! Decodes scripts.
 
 use std::fmt;
 
@@ -7,7 +7,7 @@ use super::{Blob, Call, FILLED, MAGIC, Reading, Win, code};
 /// Why some bytes are no script.
 #[derive(Clone, Debug, PartialEq, Eq)]
 pub struct Malformed {
-    /// The byte at which reading stopped.
+    /// The byte at which decoding stopped.
     pub at: usize,
     pub what: String,
 }
@@ -20,7 +20,7 @@ impl fmt::Display for Malformed {
 
 type Decoded<T> = Result<T, Malformed>;
 
-/// Reads a script call by call.
+/// Decodes a script call by call.
 pub struct Decoder<'a> {
     script: &'a [u8],
     at: usize,
@@ -30,12 +30,12 @@ impl<'a> Decoder<'a> {
     pub fn new(script: &'a [u8]) -> Decoded<Self> {
         let mut decoder = Decoder { script, at: 0 };
         if decoder.take(MAGIC.len() as u32)? != MAGIC {
-            return Err(decoder.malformed("it does not begin as one"));
+            return Err(decoder.malformed("it does not begin with VJS1"));
         }
         Ok(decoder)
     }
 
-    /// The byte behind the last call that was read.
+    /// The first byte after the last decoded call.
     pub fn at(&self) -> usize {
         self.at
     }
@@ -97,7 +97,7 @@ impl<'a> Decoder<'a> {
         Ok(Call::Open { book, allowances })
     }
 
-    /// A call that asks and changes nothing.
+    /// A call that changes nothing.
     fn lookup(&mut self, code: u8) -> Decoded<Call<'a>> {
         Ok(match code {
             code::GROUP_BY_INDEX => Call::GroupByIndex(self.u32()?),

@@ -1,4 +1,4 @@
-//! Scripts being written.
+//! Encodes scripts.
 
 use super::{Blob, Call, FILLED, MAGIC, Reading, Win, code};
 
@@ -22,17 +22,17 @@ impl Script {
         self.bytes.len()
     }
 
-    /// Drops the calls and keeps the room they took.
+    /// Drops the calls and keeps their memory.
     pub fn clear(&mut self) {
         self.bytes.truncate(MAGIC.len());
     }
 
-    /// All calls of another script, behind those that are here.
+    /// Appends all calls of another script.
     pub fn append(&mut self, other: &Script) {
         self.bytes.extend_from_slice(&other.bytes[MAGIC.len()..]);
     }
 
-    /// Calls as bytes, out of another script.
+    /// Appends calls that are already encoded.
     pub fn raw(&mut self, calls: &[u8]) {
         self.bytes.extend_from_slice(calls);
     }
@@ -91,7 +91,7 @@ impl Script {
         }
     }
 
-    /// A call that asks and changes nothing.
+    /// A call that changes nothing.
     fn lookup(&mut self, call: &Call<'_>) {
         match *call {
             Call::GroupByIndex(index) => self.numbers(code::GROUP_BY_INDEX, &[index]),

@@ -1,10 +1,10 @@
-//! Calls as a person reads them.
+//! Formats calls for a person.
 
 use std::fmt;
 
 use super::{Blob, Call, Win};
 
-/// The bytes shown of a blob before it is cut with dots.
+/// The most bytes of a blob that are shown.
 const SHOWN_BYTES: usize = 48;
 
 impl fmt::Display for Blob<'_> {
@@ -31,7 +31,7 @@ impl fmt::Display for Win<'_> {
     }
 }
 
-/// A caller's text, which is most often one that can be read.
+/// A caller's text, which is shown as text if it is valid.
 struct Text<'a>(&'a Blob<'a>);
 
 impl fmt::Display for Text<'_> {

@@ -1,49 +1,50 @@
-//! The readings, over inputs that stay near the processor.
+//! Readings over inputs that fit into the processor's caches.
 
 use std::hint::black_box;
 
 use vrf_bitio::BitReader;
 
-use super::race::{Race, shared};
+use super::case::{Case, shared};
+use crate::error::Error;
 use crate::ported::loops;
 use crate::rng::Rng;
 use crate::stream::Stream;
-use crate::trouble::Trouble;
 
-/// Small enough to stay near the processor, so that reading is what counts.
+/// The input's bytes: few enough for the caches, so that the reading is what is
+/// timed.
 const INPUT: u64 = 1 << 18;
 
-/// The most bytes of one text, and room for it.
-const TEXT_ROOM: usize = 4_096;
+/// The most bytes of one text.
+const TEXT_BUFFER: usize = 4_096;
 
 const WIRE_TEXT_TOP: i64 = 1_048_576;
 
-pub fn races() -> Result<Vec<Race>, Trouble> {
+pub fn cases() -> Result<Vec<Case>, Error> {
     let mut rng = Rng::new(7);
-    let mut races = numbers(&mut rng);
-    races.append(&mut texts(&mut rng));
-    races.append(&mut copies(&mut rng)?);
-    Ok(races)
+    let mut cases = numbers(&mut rng);
+    cases.append(&mut texts(&mut rng));
+    cases.append(&mut copies(&mut rng)?);
+    Ok(cases)
 }
 
-fn numbers(rng: &mut Rng) -> Vec<Race> {
-    let mut races = Vec::new();
+fn numbers(rng: &mut Rng) -> Vec<Case> {
+    let mut cases = Vec::new();
     for (name, widest) in [("read_bits_1_64", 64), ("read_bits_1_8", 8)] {
         let widths: Vec<u8> = (0..509).map(|_| 1 + rng.below(widest) as u8).collect();
         let (rust, port) = shared((rng.bytes(INPUT), widths));
-        races.push(Race::new(
+        cases.push(Case::new(
             name,
             move || original::read_bits(&rust.0, &rust.1),
             move || loops::read_bits(&port.0, &port.1),
         ));
     }
     let (rust, port) = shared(packed_numbers(rng));
-    races.push(Race::new(
+    cases.push(Case::new(
         "read_int_packed",
         move || original::read_int_packed(&rust),
         move || loops::read_int_packed(&port),
     ));
-    races
+    cases
 }
 
 fn packed_numbers(rng: &mut Rng) -> Vec<u8> {
@@ -54,7 +55,7 @@ fn packed_numbers(rng: &mut Rng) -> Vec<u8> {
     stream.into_bytes()
 }
 
-fn texts(rng: &mut Rng) -> Vec<Race> {
+fn texts(rng: &mut Rng) -> Vec<Case> {
     let typical = |rng: &mut Rng| {
         let len = 20 + rng.below(61);
         object_path(rng, len)
@@ -78,20 +79,20 @@ fn texts(rng: &mut Rng) -> Vec<Race> {
         ("utf16", 0, text_stream(rng, 0, write_utf16, mixed_path)),
         ("utf16_ascii", 0, text_stream(rng, 0, write_utf16, typical)),
     ];
-    let mut races = Vec::new();
+    let mut cases = Vec::new();
     for (name, skip, input) in inputs {
         let (rust, port) = shared(input);
-        let mut room = vec![0; TEXT_ROOM];
-        races.push(Race::new(
+        let mut buffer = vec![0; TEXT_BUFFER];
+        cases.push(Case::new(
             format!("read_fstring_{name}"),
             move || original::read_fstring(&rust, skip),
-            move || loops::read_fstring(&port, skip, &mut room),
+            move || loops::read_fstring(&port, skip, &mut buffer),
         ));
     }
-    races
+    cases
 }
 
-/// Some bits, and behind them texts, each with its final zero.
+/// `skip` zero bits, then texts, each with its final zero.
 fn text_stream(
     rng: &mut Rng,
     skip: u64,
@@ -114,7 +115,7 @@ fn write_utf16(stream: &mut Stream, text: &str) {
     stream.text16(&text.encode_utf16().collect::<Vec<_>>());
 }
 
-/// Words joined as in the paths of objects, cut to a length.
+/// Words joined to a path like those of objects, cut to `len` bytes.
 fn object_path(rng: &mut Rng, len: u64) -> String {
     let words = [
         "/Game/",
@@ -133,7 +134,7 @@ fn object_path(rng: &mut Rng, len: u64) -> String {
     path
 }
 
-/// Plain words with accented and Korean ones between them.
+/// ASCII words with accented and Korean ones between them.
 fn mixed_path(rng: &mut Rng) -> String {
     let words = [
         "/Game/",
@@ -149,8 +150,8 @@ fn mixed_path(rng: &mut Rng) -> String {
     path
 }
 
-fn copies(rng: &mut Rng) -> Result<Vec<Race>, Trouble> {
-    let cases = [
+fn copies(rng: &mut Rng) -> Result<Vec<Case>, Error> {
+    let inputs = [
         ("copy_bits_to_64_skip_3", 3, 64),
         ("copy_bits_to_200_skip_3", 3, 200),
         ("copy_bits_to_1001_skip_3", 3, 1_001),
@@ -160,31 +161,33 @@ fn copies(rng: &mut Rng) -> Result<Vec<Race>, Trouble> {
         ("copy_bits_to_1000_aligned", 0, 1_000),
         ("copy_bits_to_8000_aligned", 0, 8_000),
     ];
-    cases
+    inputs
         .into_iter()
-        .map(|(name, skip, bits)| copy_race(rng, name, skip, bits))
+        .map(|(name, skip, bits)| copy_case(rng, name, skip, bits))
         .collect()
 }
 
-/// The number of copies says little, so what was copied last is compared.
-fn copy_race(rng: &mut Rng, name: &'static str, skip: u64, bits: u64) -> Result<Race, Trouble> {
+/// The number of copies says little, so the bytes of the last copy are
+/// compared.
+fn copy_case(rng: &mut Rng, name: &'static str, skip: u64, bits: u64) -> Result<Case, Error> {
     let (rust, port) = shared(rng.bytes(INPUT));
-    let mut rust_room = vec![0; bits.div_ceil(8) as usize];
-    let mut port_room = rust_room.clone();
-    original::copy_bits_to(&rust, skip, &mut rust_room, bits);
-    loops::copy_bits_to(&port, skip, &mut port_room, bits);
-    if rust_room != port_room {
-        return Err(Trouble::Wrong(format!("{name}: the copies differ")));
+    let mut rust_buffer = vec![0; bits.div_ceil(8) as usize];
+    let mut port_buffer = rust_buffer.clone();
+    original::copy_bits_to(&rust, skip, &mut rust_buffer, bits);
+    loops::copy_bits_to(&port, skip, &mut port_buffer, bits);
+    if rust_buffer != port_buffer {
+        return Err(Error::Wrong(format!("{name}: the copies differ")));
     }
-    Ok(Race::new(
+    Ok(Case::new(
         name,
-        move || original::copy_bits_to(&rust, skip, &mut rust_room, bits),
-        move || loops::copy_bits_to(&port, skip, &mut port_room, bits),
+        move || original::copy_bits_to(&rust, skip, &mut rust_buffer, bits),
+        move || loops::copy_bits_to(&port, skip, &mut port_buffer, bits),
     ))
 }
 
-/// The same loops over the original. Never inlined, so that they are called
-/// as the C functions are, and nothing is computed ahead of a repetition.
+/// The loops over the original that the C functions are compared with. They are
+/// never inlined: so they are called as the C functions are, and nothing is
+/// computed before a repetition.
 mod original {
     use super::{BitReader, WIRE_TEXT_TOP, black_box};
 
@@ -192,7 +195,8 @@ mod original {
     pub fn read_bits(s: &[u8], widths: &[u8]) -> u64 {
         let mut reader = BitReader::new(black_box(s));
         let mut sum = 0_u64;
-        // Over and over, without an index to be checked or reduced.
+        // The widths are repeated without an index, which would have to be
+        // checked or reduced.
         loop {
             for &width in widths {
                 match reader.read_bits(u32::from(width)) {
@@ -221,7 +225,7 @@ mod original {
             return sum;
         }
         while let Ok(text) = reader.read_fstring(WIRE_TEXT_TOP) {
-            // The text must be made, not only measured.
+            // The text must be built, not only its length.
             sum = sum.wrapping_add(black_box(text).len() as u64);
         }
         sum

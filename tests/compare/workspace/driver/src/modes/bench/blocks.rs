@@ -1,75 +1,76 @@
-//! Checkpoint blocks and fields runs: reading them into a book, and writing a
-//! book beside a plain copy of the same bytes, which is all that the original
-//! could be held to: it has no writer.
+//! Checkpoint blocks and fields runs. Reading is compared with the original.
+//! Writing is compared with a plain copy of the block's bytes, since the
+//! original has no writer.
 
 use std::cell::RefCell;
 use std::rc::Rc;
 
 use super::book::{self, FIELDS, GROUPS, GUIDS};
-use super::race::Race;
+use super::case::Case;
 use super::sheet::{SET_FIELD, Sheet};
+use crate::error::Error;
 use crate::ported::loops;
 use crate::rng::Rng;
 use crate::stream::Stream;
-use crate::trouble::Trouble;
 
-/// How many times a recording's last block.
+/// The sizes of the blocks, in multiples of a recording's last block.
 const SCALES: [u32; 4] = [1, 4, 16, 64];
 
-/// At the door the book is checked; behind it, it is not.
-const SIDES: [(&str, bool); 2] = [("", false), ("_door", true)];
+/// The suffix of a case's name, and whether the call checks the book.
+const CHECKS: [(&str, bool); 2] = [("", false), ("_checked", true)];
 
-/// How blocks are written: its name, at the door or behind it, and whether the
-/// buffer is larger than the block. With a quarter more, no book of the bench
-/// can fail to fit, and none is measured before it is written.
+/// How blocks are written: the suffix of the case's name, whether the call
+/// checks the book, and whether the buffer is larger than the block. A buffer
+/// that is a quarter larger holds every block of the bench, and the writer does
+/// not compute the length first.
 const WRITINGS: [(&str, bool, bool); 3] = [
     ("", false, true),
-    ("_door", true, true),
+    ("_checked", true, true),
     ("_exact", false, false),
 ];
 
-/// A turn reads so many runs, each of so many exports, some of which declare
-/// the group of those that follow.
+/// A turn reads `RUNS` runs of `EXPORTS` exports. In a run of new groups,
+/// `DECLARED` exports declare the group of the exports that follow.
 const RUNS: u32 = 16;
 const EXPORTS: u32 = 100;
 const DECLARED: u32 = 10;
 
-/// The cases, and how many bytes each scale's block has.
-pub fn races() -> Result<(Vec<Race>, Vec<usize>), Trouble> {
+/// The cases, and the number of bytes of each scale's block.
+pub fn cases() -> Result<(Vec<Case>, Vec<usize>), Error> {
     let mut rng = Rng::new(13);
-    let mut races = Vec::new();
+    let mut cases = Vec::new();
     let mut bytes = Vec::new();
     for scale in SCALES {
         let block = Rc::new(Block::new(&mut rng, scale));
         bytes.push(block.bytes.len());
-        readings(&mut races, scale, &block);
-        writings(&mut races, scale, &block)?;
+        readings(&mut cases, scale, &block);
+        writings(&mut cases, scale, &block)?;
         if scale == 1 {
-            runs(&mut races, &mut rng, &block)?;
+            runs(&mut cases, &mut rng, &block)?;
         }
     }
-    Ok((races, bytes))
+    Ok((cases, bytes))
 }
 
-/// How much longer a byte of the largest block takes than one of the smallest,
-/// and how fast blocks are written.
-pub fn report(races: &[Race], bytes: &[usize]) {
+/// Prints how much longer a byte of the largest block takes than one of the
+/// smallest, and how fast blocks are written.
+pub fn report(cases: &[Case], bytes: &[usize]) {
     let seconds = |name: &str| {
-        races
+        cases
             .iter()
-            .find(|race| race.name == name)
-            .map(Race::seconds)
+            .find(|case| case.name == name)
+            .map(Case::seconds)
     };
     let sized = || SCALES.iter().zip(bytes);
-    for (side, _) in SIDES {
-        let once = |(scale, _): (&u32, &usize)| seconds(&reading(*scale, side));
+    for (suffix, _) in CHECKS {
+        let once = |(scale, _): (&u32, &usize)| seconds(&reading(*scale, suffix));
         if let (Some(few), Some(many)) = (
             sized().next().and_then(once),
             sized().next_back().and_then(once),
         ) {
             let times = bytes[bytes.len() - 1] as f64 / bytes[0] as f64;
             println!(
-                "read_block{side}_growth {:.2}, the original's {:.2}",
+                "read_block{suffix}_growth {:.2}, the original's {:.2}",
                 many.1 / few.1 / times,
                 many.0 / few.0 / times
             );
@@ -89,15 +90,15 @@ pub fn report(races: &[Race], bytes: &[usize]) {
     }
 }
 
-fn reading(scale: u32, side: &str) -> String {
-    format!("read_block{side}_{scale}x")
+fn reading(scale: u32, suffix: &str) -> String {
+    format!("read_block{suffix}_{scale}x")
 }
 
-fn writing(scale: u32, side: &str) -> String {
-    format!("write_block{side}_{scale}x")
+fn writing(scale: u32, suffix: &str) -> String {
+    format!("write_block{suffix}_{scale}x")
 }
 
-/// A block, and the allowances that hold it and not a record more.
+/// A block, and the smallest allowances for it.
 struct Block {
     bytes: Vec<u8>,
     allowances: [u64; 4],
@@ -125,25 +126,27 @@ impl Block {
         }
     }
 
-    /// Memory for a book of these allowances, with a literal for each GUID:
-    /// the need as docs/LAYOUT.md has it.
+    /// Memory for a book of these allowances, with one literal for each GUID.
+    /// docs/LAYOUT.md gives the size.
     fn memory([guids, groups, fields, text]: [u64; 4]) -> Vec<u8> {
         let need = 4 * (37 + 11 * guids + 16 * groups + 10 * fields) + 2 * text;
         vec![0; need as usize]
     }
 
-    /// The port's book of this block, which has passed its check.
-    fn book(&self, allowances: [u64; 4]) -> Result<Vec<u8>, Trouble> {
+    /// The port's book of this block. It has passed the check.
+    fn book(&self, allowances: [u64; 4]) -> Result<Vec<u8>, Error> {
         let mut memory = Self::memory(allowances);
         let read = loops::read_block(&mut memory, allowances, &self.bytes, false);
         if read == 0 || !loops::check(&memory) {
-            return Err(Trouble::Ported("a block was not read, or not well".into()));
+            return Err(Error::Ported(
+                "it did not read a block, or the book fails its check".into(),
+            ));
         }
         Ok(memory)
     }
 }
 
-/// A text as blocks have it: with a zero byte behind it.
+/// A text as blocks have it, with a final zero byte.
 fn put_text(stream: &mut Stream, text: &[u8]) {
     stream.text8(&[text, &[0]].concat());
 }
@@ -158,7 +161,7 @@ fn put_guids(stream: &mut Stream, sheet: &Sheet) {
     }
 }
 
-/// Groups, each with its fields behind it in the order of their slots.
+/// Groups. Each is followed by its fields, in the order of their slots.
 fn put_groups(stream: &mut Stream, sheet: &Sheet) {
     let mut empty = 0;
     for row in sheet.rows() {
@@ -183,45 +186,45 @@ fn put_field(stream: &mut Stream, handle: u32, checksum: u32, name: &[u8]) {
     stream.name(&[name, &[0]].concat(), 0);
 }
 
-fn readings(races: &mut Vec<Race>, scale: u32, block: &Rc<Block>) {
+fn readings(cases: &mut Vec<Case>, scale: u32, block: &Rc<Block>) {
     let memory = Rc::new(RefCell::new(Block::memory(block.allowances)));
-    for (side, door) in SIDES {
+    for (suffix, checked) in CHECKS {
         let (rust, port, memory) = (block.clone(), block.clone(), memory.clone());
-        races.push(Race::new(
-            reading(scale, side),
+        cases.push(Case::new(
+            reading(scale, suffix),
             move || original::read_block(&rust.bytes),
             move || {
                 let mut memory = memory.borrow_mut();
-                loops::read_block(&mut memory, port.allowances, &port.bytes, door)
+                loops::read_block(&mut memory, port.allowances, &port.bytes, checked)
             },
         ));
     }
 }
 
-fn writings(races: &mut Vec<Race>, scale: u32, block: &Rc<Block>) -> Result<(), Trouble> {
+fn writings(cases: &mut Vec<Case>, scale: u32, block: &Rc<Block>) -> Result<(), Error> {
     let book = Rc::new(block.book(block.allowances)?);
     let len = block.bytes.len();
-    for (name, door, larger) in WRITINGS {
-        let room = if larger { len + len / 4 } else { len };
-        let out = Rc::new(RefCell::new(vec![0; room]));
-        let written = loops::write_block(&book, &mut out.borrow_mut(), door);
+    for (name, checked, larger) in WRITINGS {
+        let size = if larger { len + len / 4 } else { len };
+        let out = Rc::new(RefCell::new(vec![0; size]));
+        let written = loops::write_block(&book, &mut out.borrow_mut(), checked);
         if written != len as u64 || out.borrow()[..len] != block.bytes {
-            return Err(Trouble::Ported("it writes another block".into()));
+            return Err(Error::Ported("it wrote a different block".into()));
         }
         let (block, book) = (block.clone(), book.clone());
         let (copied, wrote) = (out.clone(), out);
-        races.push(Race::new(
+        cases.push(Case::new(
             writing(scale, name),
             move || original::copy(&block.bytes, &mut copied.borrow_mut()[..len]),
-            move || loops::write_block(&book, &mut wrote.borrow_mut(), door),
+            move || loops::write_block(&book, &mut wrote.borrow_mut(), checked),
         ));
     }
     Ok(())
 }
 
-/// Runs on the book of a block: of groups and fields that it has not, and of
-/// fields that it has, sent again.
-fn runs(races: &mut Vec<Race>, rng: &mut Rng, block: &Rc<Block>) -> Result<(), Trouble> {
+/// Runs on the book of a block. Their groups and fields are new to the book, or
+/// the book already has their fields.
+fn runs(cases: &mut Vec<Case>, rng: &mut Rng, block: &Rc<Block>) -> Result<(), Error> {
     for (name, stream) in [("new", new_runs(rng)), ("known", known_runs(rng))] {
         let stream = Rc::new(stream);
         let [guids, groups, fields, text] = block.allowances;
@@ -232,18 +235,18 @@ fn runs(races: &mut Vec<Race>, rng: &mut Rng, block: &Rc<Block>) -> Result<(), T
             fields + more,
             text + stream.len() as u64,
         ])?);
-        for (side, door) in SIDES {
+        for (suffix, checked) in CHECKS {
             let (block, book) = (block.clone(), book.clone());
             let (rust, port) = (stream.clone(), stream.clone());
-            races.push(Race::over(
-                format!("read_run{side}_{EXPORTS}_{name}"),
+            cases.push(Case::over(
+                format!("read_run{suffix}_{EXPORTS}_{name}"),
                 (
                     move || original::read_block(&block.bytes).left.unwrap_or_default(),
                     move |cache| original::read_runs(&rust, RUNS, cache),
                 ),
                 (
                     move || Vec::clone(&book),
-                    move |memory| loops::read_runs(memory, &port, RUNS, door),
+                    move |memory| loops::read_runs(memory, &port, RUNS, checked),
                 ),
             ));
         }
@@ -251,8 +254,8 @@ fn runs(races: &mut Vec<Race>, rng: &mut Rng, block: &Rc<Block>) -> Result<(), T
     Ok(())
 }
 
-/// One export in so many declares a group; all bring a field of the last group
-/// that was declared.
+/// `DECLARED` exports of each run declare a group. Every export brings a field
+/// of the group that was declared last.
 fn new_runs(rng: &mut Rng) -> Vec<u8> {
     let mut stream = Stream::new();
     let mut index = GROUPS;
@@ -275,7 +278,7 @@ fn new_runs(rng: &mut Rng) -> Vec<u8> {
     stream.into_bytes()
 }
 
-/// Fields of the block's groups. Each has five fields at least.
+/// Fields of the block's groups, each of which has at least five.
 fn known_runs(rng: &mut Rng) -> Vec<u8> {
     let mut stream = Stream::new();
     let mut fields = Vec::new();
@@ -301,7 +304,8 @@ fn put_export(stream: &mut Stream, rng: &mut Rng, handle: u32) {
     put_field(stream, handle, rng.next() as u32, name.as_bytes());
 }
 
-/// The same work by the original, never inlined, as in `bits`.
+/// The original's work on the same bytes. The functions are never inlined, for
+/// the reason given in `bits`.
 mod original {
     use std::hint::black_box;
 
@@ -310,7 +314,7 @@ mod original {
     use vrf_schema::checkpoint::read_checkpoint_tables;
     use vrf_schema::reader::read_net_field_exports;
 
-    use super::super::race::Outcome;
+    use super::super::case::Outcome;
 
     #[inline(never)]
     pub fn read_block(bytes: &[u8]) -> Outcome {

@@ -1,48 +1,48 @@
-//! Books: filling a fresh one, lookups in a filled one, and the check.
+//! Books: filling a new one, lookups in a filled one, and the check.
 
 use std::rc::Rc;
 
 use vrf_schema::NetGuidCache;
 
-use super::race::{Race, shared};
+use super::case::{Case, shared};
 use super::sheet::{ADD_GROUP, SET_FIELD, SET_GUID, Sheet};
+use crate::error::Error;
 use crate::ported::loops;
 use crate::rng::Rng;
-use crate::trouble::Trouble;
 
-/// What a recording's book holds at its end, about.
+/// About what a recording's book holds at its end.
 pub const GUIDS: u32 = 12_000;
 pub const GROUPS: u32 = 543;
 pub const FIELDS: u32 = 2_900;
 
 const MANY_GUIDS: u32 = 200_000;
 
-/// How many lookups a sheet has: too many for the processor to learn their
-/// branches by heart.
+/// The number of lookups of a sheet: too many for the processor to predict
+/// their branches from memory.
 const LOOKUPS: u32 = 32_768;
 
 const CHECK: &str = "check_by_from_utf8";
 
-/// The cases, and how many bytes of text the checked book has.
-pub fn races() -> Result<(Vec<Race>, usize), Trouble> {
+/// The cases, and the number of bytes of text in the checked book.
+pub fn cases() -> Result<(Vec<Case>, usize), Error> {
     keep_the_heap();
     let mut rng = Rng::new(11);
-    let mut races = fillings(&mut rng)?;
-    races.append(&mut of_guids(&mut rng)?);
-    races.append(&mut of_groups(&mut rng)?);
+    let mut cases = fillings(&mut rng)?;
+    cases.append(&mut of_guids(&mut rng)?);
+    cases.append(&mut of_groups(&mut rng)?);
     let (check, text) = checking(&mut rng);
-    races.push(check);
-    Ok((races, text))
+    cases.push(check);
+    Ok((cases, text))
 }
 
-/// What the cases say together: how much longer a GUID's setting takes in a
-/// large book than in a small one, and how fast the check is.
-pub fn report(races: &[Race], text: usize) {
+/// Prints how much longer it takes to set a GUID in a large book than in a
+/// small one, and how fast the check is.
+pub fn report(cases: &[Case], text: usize) {
     let seconds = |name: &str| {
-        races
+        cases
             .iter()
-            .find(|race| race.name == name)
-            .map(Race::seconds)
+            .find(|case| case.name == name)
+            .map(Case::seconds)
     };
     if let (Some(few), Some(many)) = (seconds(&setting(GUIDS)), seconds(&setting(MANY_GUIDS))) {
         let times = f64::from(MANY_GUIDS) / f64::from(GUIDS);
@@ -64,36 +64,37 @@ fn setting(count: u32) -> String {
     format!("set_net_guid_path_{count}")
 }
 
-/// The lent memory is the same in every turn, so the system has long given it.
-/// The original's heap is kept as well: else the system would take it back
-/// after every book, and the next book would pay for getting it again.
+/// The lent memory is the same in every turn, so the system has already
+/// provided it. The original's heap is kept too. Otherwise the system would
+/// take it back after every book, and the next book would pay for getting it
+/// again.
 fn keep_the_heap() {
     unsafe extern "C" {
         fn mallopt(parameter: i32, value: i32) -> i32;
     }
     const TRIM_THRESHOLD: i32 = -1;
     const MMAP_MAX: i32 = -4;
-    // SAFETY: the C library's own settings, before any other thread runs.
+    // SAFETY: these are settings of the C library, and no other thread runs
+    // yet.
     unsafe {
         mallopt(TRIM_THRESHOLD, i32::MAX);
         mallopt(MMAP_MAX, 0);
     }
 }
 
-/// Memory that holds what a sheet sets and not a record more, and the
-/// allowances for it.
-struct Room {
+/// The smallest allowances for a sheet's calls, and the memory for them.
+struct Space {
     allowances: [u64; 4],
     memory: Vec<u8>,
 }
 
-impl Room {
+impl Space {
     fn of(sheet: &Sheet) -> Self {
         let [guids, groups, fields] = [SET_GUID, ADD_GROUP, SET_FIELD].map(|k| sheet.count(k));
         let text = sheet.texts.len() as u64;
-        // The need as docs/LAYOUT.md has it.
+        // docs/LAYOUT.md gives this size.
         let need = 4 * (37 + 10 * guids + 16 * groups + 10 * fields) + 2 * text;
-        Room {
+        Space {
             allowances: [guids, groups, fields, text],
             memory: vec![0; need as usize],
         }
@@ -104,8 +105,8 @@ impl Room {
     }
 }
 
-fn fillings(rng: &mut Rng) -> Result<Vec<Race>, Trouble> {
-    let cases = [
+fn fillings(rng: &mut Rng) -> Result<Vec<Case>, Error> {
+    let inputs = [
         (setting(GUIDS), guids(rng, GUIDS, rising)),
         (setting(50_000), guids(rng, 50_000, rising)),
         (setting(MANY_GUIDS), guids(rng, MANY_GUIDS, rising)),
@@ -118,35 +119,37 @@ fn fillings(rng: &mut Rng) -> Result<Vec<Race>, Trouble> {
             groups(rng, GROUPS, FIELDS).sheet,
         ),
     ];
-    cases
+    inputs
         .into_iter()
         .map(|(name, sheet)| {
-            let mut room = Room::of(&sheet);
-            if room.fill(&sheet) != sheet.len() {
-                return Err(Trouble::Wrong(format!("{name}: a call was refused")));
+            let mut space = Space::of(&sheet);
+            if space.fill(&sheet) != sheet.len() {
+                return Err(Error::Wrong(format!("{name}: a call was refused")));
             }
             let (rust, port) = shared(sheet);
-            Ok(Race::new(
+            Ok(Case::new(
                 name,
                 move || original::fill(&rust),
-                move || room.fill(&port),
+                move || space.fill(&port),
             ))
         })
         .collect()
 }
 
-/// GUIDs as a server gives them: rising, with gaps.
+/// GUIDs as a server assigns them: increasing, with gaps.
 pub fn rising(rng: &mut Rng, last: u32) -> u32 {
     last + 1 + rng.below(3) as u32
 }
 
-/// GUIDs anywhere: distinct all the same, since the last bits only rise.
+/// GUIDs from the whole range. They are distinct, since the low 16 bits
+/// increase.
 fn anything(rng: &mut Rng, last: u32) -> u32 {
     let step = (last & 0xFFFF) + 1;
     (rng.next() as u32 & 0xFFFF_0000) | step
 }
 
-/// Settings of distinct GUIDs. Every path is its own, and most have an outer.
+/// Calls that set distinct GUIDs. All paths are distinct, and most GUIDs have
+/// an outer.
 pub fn guids(rng: &mut Rng, count: u32, next: fn(&mut Rng, u32) -> u32) -> Sheet {
     let mut sheet = Sheet::default();
     let mut seen = vec![0];
@@ -160,7 +163,7 @@ pub fn guids(rng: &mut Rng, count: u32, next: fn(&mut Rng, u32) -> u32) -> Sheet
     sheet
 }
 
-/// A path as objects have them, of 40 to 90 bytes.
+/// A path like those of objects, of 40 to 90 bytes.
 fn object_path(rng: &mut Rng, number: u32) -> String {
     let roots = ["/Game/Characters/", "/Game/Maps/", "/Game/Equippables/"];
     let words = [
@@ -181,11 +184,12 @@ fn object_path(rng: &mut Rng, number: u32) -> String {
     format!("{path}.{number:06}_C")
 }
 
-/// The groups of a recording, each followed by its fields.
+/// The groups of a recording. Each is followed by its fields.
 pub struct Groups {
     pub sheet: Sheet,
     paths: Vec<String>,
-    /// Bare names of classes, and of those whose ClassNetCache is a group.
+    /// Names of classes without a path: in `cached` those whose ClassNetCache
+    /// is a group, in `classes` the others.
     classes: Vec<String>,
     cached: Vec<String>,
 }
@@ -197,7 +201,7 @@ pub fn groups(rng: &mut Rng, count: u32, filled: u32) -> Groups {
         classes: Vec::new(),
         cached: Vec::new(),
     };
-    // Evenly, so that there are as many as asked for in the end.
+    // The fields are spread evenly, so that their sum is `filled`.
     let before = |index: u32| (u64::from(filled) * u64::from(index) / u64::from(count)) as u32;
     for index in 0..count {
         let fields = before(index + 1) - before(index);
@@ -239,7 +243,7 @@ pub fn class_name(rng: &mut Rng, number: u32) -> String {
     format!("{name}{number}x")
 }
 
-/// A class or a ClassNetCache, in one of the spellings that classes have.
+/// The path of a class or of a ClassNetCache, in one of the forms that occur.
 pub fn group_path(rng: &mut Rng, name: &str, is_cache: bool) -> String {
     let suffix = if is_cache { "_ClassNetCache" } else { "" };
     match rng.below(6) {
@@ -268,35 +272,35 @@ pub fn field_name(rng: &mut Rng) -> String {
     name
 }
 
-/// A filled book, on both sides.
+/// A filled book of both sides.
 struct Book {
     cache: Rc<NetGuidCache>,
     memory: Rc<Vec<u8>>,
 }
 
 impl Book {
-    /// The port's lookups ask that the book has passed its check.
-    fn of(sheet: &Sheet) -> Result<Self, Trouble> {
-        let mut room = Room::of(sheet);
-        room.fill(sheet);
-        if !loops::check(&room.memory) {
-            return Err(Trouble::Ported(
+    /// The port's lookups require a book that has passed its check.
+    fn of(sheet: &Sheet) -> Result<Self, Error> {
+        let mut space = Space::of(sheet);
+        space.fill(sheet);
+        if !loops::check(&space.memory) {
+            return Err(Error::Ported(
                 "a book that it filled fails its check".into(),
             ));
         }
         Ok(Book {
             cache: Rc::new(original::fill(sheet).left.unwrap_or_default()),
-            memory: Rc::new(room.memory),
+            memory: Rc::new(space.memory),
         })
     }
 
-    fn race(&self, name: &str, look: Look, mut ask: impl FnMut(&mut Sheet)) -> Race {
+    fn case(&self, name: &str, look: Look, mut ask: impl FnMut(&mut Sheet)) -> Case {
         let mut sheet = Sheet::default();
         (0..LOOKUPS).for_each(|_| ask(&mut sheet));
         let (rust, port) = shared(sheet);
         let (cache, memory) = (self.cache.clone(), self.memory.clone());
         let Look { original, ported } = look;
-        Race::new(
+        Case::new(
             name,
             move || original(&cache, &rust),
             move || loops::look(&memory, ported, &port.rows, &port.texts),
@@ -304,7 +308,8 @@ impl Book {
     }
 }
 
-/// A kind of lookups: the original's loop, and the port's number for it.
+/// A kind of lookup: the original's loop, and the number that the port has for
+/// it.
 #[derive(Clone, Copy)]
 struct Look {
     original: fn(&NetGuidCache, &Sheet) -> u64,
@@ -332,21 +337,21 @@ const BY_INSTANCE: Look = Look {
     ported: 4,
 };
 
-fn of_guids(rng: &mut Rng) -> Result<Vec<Race>, Trouble> {
+fn of_guids(rng: &mut Rng) -> Result<Vec<Case>, Error> {
     let sheet = guids(rng, GUIDS, rising);
     let known: Vec<u32> = sheet.rows().map(|row| row.a).collect();
     let book = Book::of(&sheet)?;
     Ok(vec![
-        book.race("get_path_by_guid_found", PATH_BY_GUID, |sheet| {
+        book.case("get_path_by_guid_found", PATH_BY_GUID, |sheet| {
             sheet.ask(rng.pick(&known), "");
         }),
-        book.race("get_path_by_guid_absent", PATH_BY_GUID, |sheet| {
+        book.case("get_path_by_guid_absent", PATH_BY_GUID, |sheet| {
             sheet.ask(1_000_000 + rng.below(1 << 20) as u32, "");
         }),
     ])
 }
 
-fn of_groups(rng: &mut Rng) -> Result<Vec<Race>, Trouble> {
+fn of_groups(rng: &mut Rng) -> Result<Vec<Case>, Error> {
     let Groups {
         sheet,
         paths,
@@ -361,37 +366,37 @@ fn of_groups(rng: &mut Rng) -> Result<Vec<Race>, Trouble> {
         class_name(rng, number)
     };
     Ok(vec![
-        book.race("get_group_by_index_found", BY_INDEX, |sheet| {
+        book.case("get_group_by_index_found", BY_INDEX, |sheet| {
             sheet.ask(rng.below(u64::from(GROUPS)) as u32, "");
         }),
-        book.race("get_group_by_index_absent", BY_INDEX, |sheet| {
+        book.case("get_group_by_index_absent", BY_INDEX, |sheet| {
             sheet.ask(GROUPS + rng.below(1 << 20) as u32, "");
         }),
-        book.race("get_group_by_path_found", BY_PATH, |sheet| {
+        book.case("get_group_by_path_found", BY_PATH, |sheet| {
             sheet.ask(0, &any(rng, &paths));
         }),
-        book.race("get_group_by_path_absent", BY_PATH, |sheet| {
+        book.case("get_group_by_path_absent", BY_PATH, |sheet| {
             let name = unknown(rng);
             sheet.ask(0, &group_path(rng, &name, false));
         }),
-        book.race("unique_leaf_match_found", BY_LEAF, |sheet| {
+        book.case("unique_leaf_match_found", BY_LEAF, |sheet| {
             sheet.ask(0, &any(rng, &classes));
         }),
-        book.race("unique_leaf_match_absent", BY_LEAF, |sheet| {
+        book.case("unique_leaf_match_absent", BY_LEAF, |sheet| {
             sheet.ask(0, &unknown(rng));
         }),
-        book.race("resolve_cnc_found", BY_INSTANCE, |sheet| {
+        book.case("resolve_cnc_found", BY_INSTANCE, |sheet| {
             let name = any(rng, &cached);
             sheet.ask(0, &instance_name(rng, &name));
         }),
-        book.race("resolve_cnc_absent", BY_INSTANCE, |sheet| {
+        book.case("resolve_cnc_absent", BY_INSTANCE, |sheet| {
             let name = unknown(rng);
             sheet.ask(0, &instance_name(rng, &name));
         }),
     ])
 }
 
-/// A class's name with what tells its instances apart.
+/// A class's name with a suffix that names an instance.
 fn instance_name(rng: &mut Rng, class: &str) -> String {
     match rng.below(4) {
         0 => class.to_owned(),
@@ -401,23 +406,24 @@ fn instance_name(rng: &mut Rng, class: &str) -> String {
     }
 }
 
-/// The check of a book of GUIDs, beside `from_utf8` of its texts: the original
-/// has no check, but it tests every text before it takes it. And how many bytes
-/// the texts have.
-fn checking(rng: &mut Rng) -> (Race, usize) {
+/// The check of a book of GUIDs, compared with `from_utf8` of its texts: the
+/// original has no check, but it tests every text before it takes it. Also
+/// returns the number of bytes of the texts.
+fn checking(rng: &mut Rng) -> (Case, usize) {
     let sheet = guids(rng, GUIDS, rising);
     let text = sheet.texts.len();
-    let mut room = Room::of(&sheet);
-    room.fill(&sheet);
-    let race = Race::new(
+    let mut space = Space::of(&sheet);
+    space.fill(&sheet);
+    let case = Case::new(
         CHECK,
         move || original::all_utf8(&sheet),
-        move || u64::from(loops::check(&room.memory)),
+        move || u64::from(loops::check(&space.memory)),
     );
-    (race, text)
+    (case, text)
 }
 
-/// The same loops over the original, never inlined, as in `bits`.
+/// The loops over the original. They are never inlined, for the reason given in
+/// `bits`.
 mod original {
     use std::hint::black_box;
     use std::str;
@@ -426,7 +432,7 @@ mod original {
     use vrf_schema::export::{NetFieldExport, NetFieldExportGroup};
     use vrf_schema::guid::NetworkGuid;
 
-    use super::super::race::Outcome;
+    use super::super::case::Outcome;
     use super::super::sheet::{ADD_GROUP, Row, SET_GUID, Sheet};
 
     #[inline(never)]
@@ -472,17 +478,18 @@ mod original {
         u64::from(texts.all(|text| str::from_utf8(text).is_ok()))
     }
 
-    /// The sum of what a lookup answers to every row.
+    /// The sum of a lookup's answers over all rows.
     #[inline(always)]
     fn each(sheet: &Sheet, look: impl Fn(Row) -> u64) -> u64 {
         let rows = black_box(sheet).rows();
         rows.map(look).fold(0, u64::wrapping_add)
     }
 
-    /// A row's text: the port looks texts up untested too.
+    /// A row's text. It is not tested, since the port's lookups do not test it
+    /// either.
     #[inline(always)]
     fn text(sheet: &Sheet, row: Row) -> &str {
-        // SAFETY: a sheet's rows point to the texts that were pushed with them.
+        // SAFETY: a row's text was pushed as a `str`.
         unsafe { str::from_utf8_unchecked(sheet.text(row)) }
     }
 

@@ -1,5 +1,5 @@
-//! Sheets of book calls and lookups: rows of six words, and the texts beside
-//! them. Both sides read the same bytes.
+//! Sheets of book calls and lookups: rows of six words, and their texts in a
+//! second list. Both sides read the same bytes.
 
 const ROW: usize = 24;
 
@@ -7,9 +7,9 @@ pub const SET_GUID: u32 = 0;
 pub const ADD_GROUP: u32 = 1;
 pub const SET_FIELD: u32 = 2;
 
-/// A call is of a kind, and takes numbers and a text: a GUID with its outer, a
-/// group's index with its slots, or a field's group index, handle and checksum.
-/// A lookup takes the first number or the text.
+/// A call has a kind, numbers and a text. The numbers are a GUID and its outer;
+/// or a group's index and its slots; or a field's group index, handle and
+/// checksum. A lookup has the first number or the text.
 #[derive(Clone, Copy)]
 pub struct Row {
     pub kind: u32,
@@ -36,7 +36,7 @@ impl Sheet {
         self.texts.extend(text.as_bytes());
     }
 
-    /// A lookup.
+    /// Adds a lookup.
     pub fn ask(&mut self, number: u32, text: &str) {
         self.push(0, [number, 0, 0], text);
     }
@@ -45,7 +45,7 @@ impl Sheet {
         (self.rows.len() / ROW) as u64
     }
 
-    /// How many rows there are of a kind.
+    /// The number of rows of a kind.
     pub fn count(&self, kind: u32) -> u64 {
         self.rows().filter(|row| row.kind == kind).count() as u64
     }

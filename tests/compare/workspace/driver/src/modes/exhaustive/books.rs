@@ -1,39 +1,40 @@
-//! Book calls: every combination of allowances at their tops, every three of a
-//! few groups, and every short string of a few bytes at places where runs and
-//! blocks branch.
+//! Book calls: every combination of allowances at and above their tops, every
+//! three of a few groups, and every short string of a few bytes at the
+//! positions where runs and blocks branch.
 
 use crate::compare::Session;
+use crate::error::Error;
 use crate::random_books::reads::Kind;
-use crate::scene::Part::{Byte, Bytes, Packed, Text, Word};
-use crate::scene::{AMPLE, wire};
-use crate::scenes;
+use crate::scenario::Part::{Byte, Bytes, Packed, Text, Word};
+use crate::scenario::{AMPLE, wire};
+use crate::scenarios;
 use crate::script::{Blob, Call, Script, Win};
-use crate::trouble::Trouble;
 
-/// Every scene by itself, as the hand-worked answers have it.
-pub fn worked_scenes(session: &mut Session) -> Result<(), Trouble> {
-    for theme in scenes::themes() {
-        for scene in &theme.scenes {
-            session.whole(&scene.script)?;
+/// Every scenario whose answers were worked out by hand, each in its own
+/// script.
+pub fn worked_scenarios(session: &mut Session) -> Result<(), Error> {
+    for suite in scenarios::suites() {
+        for scenario in &suite.scenarios {
+            session.whole(&scenario.script)?;
         }
     }
     Ok(())
 }
 
-/// The longest windows, and longer ones.
-pub fn large_windows(session: &mut Session) -> Result<(), Trouble> {
-    for scene in scenes::large() {
-        session.whole(&scene.script)?;
+/// The longest windows that are allowed, and longer ones.
+pub fn large_windows(session: &mut Session) -> Result<(), Error> {
+    for scenario in scenarios::large() {
+        session.whole(&scenario.script)?;
     }
     Ok(())
 }
 
-/// For a book with all allowances at their tops, which takes 330 million bytes
-/// by document 01, twice over.
+/// Enough for a book with all allowances at their tops, which takes up to 333
+/// million bytes by document 01.
 pub const OPENING_MEMORY: usize = 1 << 31;
 
-/// Each allowance at nothing, at its top and beyond it.
-pub fn openings(session: &mut Session) -> Result<(), Trouble> {
+/// Each allowance at 0, at its top and above it.
+pub fn openings(session: &mut Session) -> Result<(), Error> {
     const TOPS: [u64; 5] = [1_000_000, 100_000, 1_000_000, 67_108_864, 1_000_000];
     for choice in 0..4_u32.pow(5) {
         let mut left = choice;
@@ -72,7 +73,7 @@ fn look(script: &mut Script) {
     script.call(&Call::Counters);
 }
 
-/// Paths of which some are keys of others, and some claim the same leaf.
+/// Some of these paths are keys of others, and some have the same leaf.
 const PATHS: [&str; 12] = [
     "",
     "Default__",
@@ -91,9 +92,9 @@ const PATHS: [&str; 12] = [
 /// How many books are filled in one script.
 const BOOKS: usize = 200;
 
-/// Every three groups, each with one of two indices, and then what every path
-/// and a few names find.
-pub fn three_groups(session: &mut Session) -> Result<(), Trouble> {
+/// Every three groups, each with one of two indices, and then a lookup with
+/// every path and with a few names.
+pub fn three_groups(session: &mut Session) -> Result<(), Error> {
     let choices = PATHS.len() * 2;
     let mut script = Script::new();
     for choice in 0..choices.pow(3) {
@@ -133,19 +134,20 @@ fn find_all(script: &mut Script) {
     look(script);
 }
 
-/// Bytes that mean something else in one place or another.
+/// Bytes that have different meanings at different positions.
 const BYTES: [u8; 8] = [0x00, 0x01, 0x02, 0x03, 0x04, 0x0A, 0x41, 0xFF];
 
-/// The most of them behind one another.
+/// The longest string of them.
 const LONGEST: u32 = 5;
 
-/// How many readings make one script.
+/// How many readings are in one script.
 const READINGS: usize = 500;
 
-pub fn short_fields(session: &mut Session) -> Result<(), Trouble> {
+pub fn short_fields(session: &mut Session) -> Result<(), Error> {
     let starts = [
         wire(&[]),
-        // An entry that exports a group; a field of it; one of a known group.
+        // Then an entry that exports a group, a field of that group, a field of
+        // a known group, and such a field with the first bytes of its name.
         wire(&[Packed(2), Packed(1), Packed(1), Text("")]),
         wire(&[
             Packed(1),
@@ -172,20 +174,20 @@ pub fn short_fields(session: &mut Session) -> Result<(), Trouble> {
     Ok(())
 }
 
-pub fn short_objects(session: &mut Session) -> Result<(), Trouble> {
+pub fn short_objects(session: &mut Session) -> Result<(), Error> {
     for exporting in [0, 1] {
         for (depth, start) in [(0, wire(&[])), (14, wire(&[Packed(1), Byte(5)]))] {
             each_string(session, &start, Kind::Object { exporting, depth })?;
         }
     }
-    // Payloads that are as long as what follows, longer and shorter.
+    // Payloads whose size is that of the string, or larger or smaller.
     for size in [4, 5, 6] {
         each_string(session, &wire(&[Packed(2), Word(size)]), Kind::Guids)?;
     }
     Ok(())
 }
 
-pub fn short_blocks(session: &mut Session) -> Result<(), Trouble> {
+pub fn short_blocks(session: &mut Session) -> Result<(), Error> {
     let words = |guids| wire(&[Word(20), Bytes(&[0; 12]), Word(guids)]);
     let literal = wire(&[Packed(2), Packed(0), Byte(1), Text("a"), Byte(0)]);
     let group = wire(&[Word(2), Text("g"), Packed(6)]);
@@ -202,9 +204,9 @@ pub fn short_blocks(session: &mut Session) -> Result<(), Trouble> {
     Ok(())
 }
 
-/// Reads the start with every short string behind it, each time into the same
+/// Reads `start` followed by every short string. Each reading gets the same
 /// small book.
-fn each_string(session: &mut Session, start: &[u8], kind: Kind) -> Result<(), Trouble> {
+fn each_string(session: &mut Session, start: &[u8], kind: Kind) -> Result<(), Error> {
     let mut script = Script::new();
     let mut readings = 0;
     for len in 0..=LONGEST {
@@ -218,7 +220,7 @@ fn each_string(session: &mut Session, start: &[u8], kind: Kind) -> Result<(), Tr
                 });
             }
             readings += 1;
-            let string = spelt(choice, len);
+            let string = digits(choice, len);
             small_book(&mut script);
             script.call(&kind.call(Win::whole(&[start, &string].concat())));
             look(&mut script);
@@ -236,8 +238,8 @@ fn small_book(script: &mut Script) {
     });
 }
 
-/// The digits of `choice` in the number system that the bytes make.
-fn spelt(choice: usize, len: u32) -> Vec<u8> {
+/// The digits of `choice` in base `BYTES.len()`, as elements of `BYTES`.
+fn digits(choice: usize, len: u32) -> Vec<u8> {
     let mut left = choice;
     (0..len)
         .map(|_| {

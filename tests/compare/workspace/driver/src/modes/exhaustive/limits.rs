@@ -2,13 +2,14 @@
 //! and of names.
 
 use crate::compare::Session;
+use crate::error::Error;
 use crate::script::Reading::{self, Bit, Bits, Copy, I32, Name, Packed, Sub, Text, U8, U32, Up};
 use crate::script::{Blob, Win};
 use crate::stream::Stream;
-use crate::trouble::Trouble;
 
-/// Windows over short slices with every kind of first bit and count.
-pub fn windows(session: &mut Session) -> Result<(), Trouble> {
+/// Windows over short slices, with first bits and counts inside and outside of
+/// them.
+pub fn windows(session: &mut Session) -> Result<(), Error> {
     let far = [1 << 31, 1 << 32, 1 << 61, 1 << 63, u64::MAX - 7, u64::MAX];
     let numbers: Vec<u64> = (0..=34).chain(far).collect();
     for len in 0..=4 {
@@ -24,8 +25,8 @@ pub fn windows(session: &mut Session) -> Result<(), Trouble> {
     Ok(())
 }
 
-/// Windows within windows, just fitting and not.
-pub fn nesting(session: &mut Session) -> Result<(), Trouble> {
+/// Windows inside windows, some of them too long.
+pub fn nesting(session: &mut Session) -> Result<(), Error> {
     let bytes = [0x5B, 0xE1, 0x90, 0x7F];
     let inside = [Bit, Packed, Bit];
     for first in 0..8 {
@@ -41,9 +42,9 @@ pub fn nesting(session: &mut Session) -> Result<(), Trouble> {
     Ok(())
 }
 
-/// Copies of every length up to a few words, at every place in a byte, into
-/// targets that just hold them, lack a byte or have more.
-pub fn copies(session: &mut Session) -> Result<(), Trouble> {
+/// Copies of every length up to a few words, at every bit of a byte. The target
+/// has exactly the size of the copy, one byte less, or more.
+pub fn copies(session: &mut Session) -> Result<(), Error> {
     let bytes: Vec<u8> = (0..80).map(|i: u8| i.wrapping_mul(151) ^ 0x9D).collect();
     for first in 0..8_u64 {
         for bits in (0..=200).chain([255, 256, 257, 511, 512, 513]) {
@@ -59,12 +60,12 @@ pub fn copies(session: &mut Session) -> Result<(), Trouble> {
     Ok(())
 }
 
-fn each_target(session: &mut Session, win: &Win<'_>, bits: u64) -> Result<(), Trouble> {
+fn each_target(session: &mut Session, win: &Win<'_>, bits: u64) -> Result<(), Error> {
     let fitting = bits.div_ceil(8) as u32;
     for target in [fitting, fitting + 1, fitting + 9, fitting.saturating_sub(1)] {
         session.bits(win, &[Copy { target, bits }, Bit])?;
     }
-    // Too few bits, from the start and after one.
+    // After one bit: one more bit than above, and far too many.
     let target = fitting + 1;
     let bits = bits + 1;
     session.bits(
@@ -80,12 +81,12 @@ fn each_target(session: &mut Session, win: &Win<'_>, bits: u64) -> Result<(), Tr
     )
 }
 
-/// Bits ahead of a window, before a text: none, and some of a byte.
+/// Bits before the window: none, and a part of a byte.
 const FIRSTS: [u64; 2] = [0, 5];
 
-/// Announced lengths around every limit, with bytes behind them from none to
-/// one more than announced.
-pub fn lengths(session: &mut Session) -> Result<(), Trouble> {
+/// Announced lengths around every limit. Up to one byte more than announced
+/// follows.
+pub fn lengths(session: &mut Session) -> Result<(), Error> {
     let announced = [
         0,
         1,
@@ -114,9 +115,15 @@ pub fn lengths(session: &mut Session) -> Result<(), Trouble> {
     for length in announced.into_iter().chain(announced_units) {
         for first in FIRSTS {
             for fill in [b'a', 0x00, 0xC2, 0xDC] {
-                for behind in bytes_behind(length) {
-                    length_call(session, length, first, fill, behind * 8)?;
-                    length_call(session, length, first, fill, (behind * 8).saturating_sub(1))?;
+                for following in following_bytes(length) {
+                    length_call(session, length, first, fill, following * 8)?;
+                    length_call(
+                        session,
+                        length,
+                        first,
+                        fill,
+                        (following * 8).saturating_sub(1),
+                    )?;
                 }
             }
         }
@@ -124,9 +131,9 @@ pub fn lengths(session: &mut Session) -> Result<(), Trouble> {
     Ok(())
 }
 
-/// Numbers of bytes to put behind a length: around those it announces, if they
-/// are few enough to be there.
-fn bytes_behind(length: i32) -> Vec<u64> {
+/// How many bytes follow a length: about as many as it announces, or a few if
+/// it announces too many.
+fn following_bytes(length: i32) -> Vec<u64> {
     let size = if length < 0 { 2 } else { 1 };
     let announced = u64::from(length.unsigned_abs()) * size;
     if announced > 1_100_000 {
@@ -135,18 +142,18 @@ fn bytes_behind(length: i32) -> Vec<u64> {
     vec![0, announced.saturating_sub(1), announced, announced + 1]
 }
 
-/// A length, and bits behind it that repeat the byte `fill`.
+/// A length, and bits after it that repeat the byte `fill`.
 fn length_call(
     session: &mut Session,
     length: i32,
     first: u64,
     fill: u8,
-    bits_behind: u64,
-) -> Result<(), Trouble> {
+    following_bits: u64,
+) -> Result<(), Error> {
     let mut head = Stream::new();
     head.bits(0, first as u32);
     head.i32(length);
-    let count = 32 + bits_behind;
+    let count = 32 + following_bits;
     let whole = ((first + 32) / 8) as usize;
     // The rest of the byte in which the length ends belongs to the repetition.
     head.bits(u64::from(fill), 8);
@@ -162,22 +169,22 @@ fn length_call(
     session.bits(&win, &[Text, U8])
 }
 
-/// Texts of about 4,096 bytes as UTF-8, made of characters of every length,
-/// in both spellings, with up to two final zeroes, good and spoilt.
-pub fn long_texts(session: &mut Session) -> Result<(), Trouble> {
+/// Texts of about 4,096 bytes of UTF-8, from characters of every length, in
+/// both encodings, with up to two final zeroes, valid and corrupted.
+pub fn long_texts(session: &mut Session) -> Result<(), Error> {
     for letter in ['a', '\u{e9}', '\u{d55c}', '\u{1f3af}'] {
         for bytes in 4_090..=4_100 {
             for zeroes in 0..=2 {
                 let text = text_of(letter, bytes) + &"\0".repeat(zeroes);
                 let units: Vec<u16> = text.encode_utf16().collect();
-                let mut spoilt = text.clone().into_bytes();
-                *spoilt.last_mut().expect("it is long") = 0xC2;
+                let mut corrupted = text.clone().into_bytes();
+                *corrupted.last_mut().expect("it is long") = 0xC2;
                 let mut lone = units.clone();
                 *lone.last_mut().expect("it is long") = 0xD800;
                 for first in FIRSTS {
                     in_window(session, first, 0, Text, |s| s.text8(text.as_bytes()))?;
                     in_window(session, first, 0, Text, |s| s.text16(&units))?;
-                    in_window(session, first, 0, Text, |s| s.text8(&spoilt))?;
+                    in_window(session, first, 0, Text, |s| s.text8(&corrupted))?;
                     in_window(session, first, 0, Text, |s| s.text16(&lone))?;
                 }
             }
@@ -186,22 +193,22 @@ pub fn long_texts(session: &mut Session) -> Result<(), Trouble> {
     Ok(())
 }
 
-/// A text of just so many bytes, as many as possible of them in `letter`.
+/// A text of `bytes` bytes, with as many as possible of them in `letter`.
 fn text_of(letter: char, bytes: usize) -> String {
     let size = letter.len_utf8();
     "x".repeat(bytes % size) + &letter.to_string().repeat(bytes / size)
 }
 
-/// Numbers behind a name at which its rendering gets longer.
+/// Numbers of a name at which its rendering gets longer.
 fn name_numbers() -> impl Iterator<Item = i32> {
     let edges = (1..10).map(|digits| 10_i32.pow(digits));
     let around = edges.flat_map(|edge| [edge, edge + 1, -edge, 1 - edge]);
     around.chain([0, 1, 2, 4, -1, -3, i32::MAX, i32::MIN + 1, i32::MIN])
 }
 
-/// Names whose text and whose rendering are about as long as may be, also with
-/// their number cut off; short ones with every number; and names by index.
-pub fn names(session: &mut Session) -> Result<(), Trouble> {
+/// Names whose text and whose rendering are about as long as allowed, also with
+/// the number cut off; short names with every number; and names by index.
+pub fn names(session: &mut Session) -> Result<(), Error> {
     for number in name_numbers() {
         for len in [0, 1, 3].into_iter().chain(4_083..=4_098) {
             let text = "n".repeat(len);
@@ -229,15 +236,15 @@ pub fn names(session: &mut Session) -> Result<(), Trouble> {
     Ok(())
 }
 
-/// One reading, `first` bits into a byte, in a window from which the last `cut`
-/// bits are missing.
+/// One reading, `first` bits into a byte. The window ends `cut` bits before the
+/// stream does.
 fn in_window(
     session: &mut Session,
     first: u64,
     cut: u64,
     reading: Reading,
     write: impl FnOnce(&mut Stream),
-) -> Result<(), Trouble> {
+) -> Result<(), Error> {
     let mut stream = Stream::new();
     stream.bits(u64::MAX, first as u32);
     write(&mut stream);
@@ -245,11 +252,12 @@ fn in_window(
     session.bits(&win, &[reading, Bit])
 }
 
-/// For slices of 268,435,456 bytes, whatever the ported side does with them.
+/// Enough for slices of 268,435,456 bytes, even if the ported side copies them.
 pub const LARGE_MEMORY: usize = 1 << 30;
 
-/// The longest slice, windows at its end, and a slice that is longer.
-pub fn large(session: &mut Session) -> Result<(), Trouble> {
+/// The longest slice that is allowed, windows at its end, and a slice that is
+/// one byte longer.
+pub fn large(session: &mut Session) -> Result<(), Error> {
     const TOP: u32 = 268_435_456;
     let all = u64::from(TOP) * 8;
     for (first, count) in [

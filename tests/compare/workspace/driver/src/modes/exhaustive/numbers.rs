@@ -1,14 +1,14 @@
-//! Short strings of bytes as numbers.
+//! Short strings of bytes, read as numbers.
 
 use crate::compare::Session;
+use crate::error::Error;
 use crate::rng::Rng;
 use crate::script::Reading::{Bit, Bits, I32, Packed, U8, U32};
 use crate::script::Win;
 use crate::stream::Stream;
-use crate::trouble::Trouble;
 
-/// Every byte, in every window that lies in it.
-pub fn one_byte(session: &mut Session) -> Result<(), Trouble> {
+/// Every byte, with every window inside it.
+pub fn one_byte(session: &mut Session) -> Result<(), Error> {
     for byte in 0..=u8::MAX {
         for first in 0..=8 {
             for count in 0..=8 - first {
@@ -19,8 +19,8 @@ pub fn one_byte(session: &mut Session) -> Result<(), Trouble> {
     Ok(())
 }
 
-/// Every two bytes, from each bit of the first one to the end.
-pub fn two_bytes(session: &mut Session) -> Result<(), Trouble> {
+/// Every two bytes, from each bit of the first byte to the end.
+pub fn two_bytes(session: &mut Session) -> Result<(), Error> {
     for value in 0..=u16::MAX {
         for first in 0..8 {
             each_way(session, &Win::new(&value.to_le_bytes(), first, 16 - first))?;
@@ -30,7 +30,7 @@ pub fn two_bytes(session: &mut Session) -> Result<(), Trouble> {
 }
 
 /// Every three bytes.
-pub fn three_bytes(session: &mut Session) -> Result<(), Trouble> {
+pub fn three_bytes(session: &mut Session) -> Result<(), Error> {
     for value in 0..1 << 24 {
         let bytes = u32::to_le_bytes(value);
         let win = Win::whole(&bytes[..3]);
@@ -41,8 +41,9 @@ pub fn three_bytes(session: &mut Session) -> Result<(), Trouble> {
     Ok(())
 }
 
-/// A window read as packed numbers, as bytes, and cut in two at every place.
-fn each_way(session: &mut Session, win: &Win<'_>) -> Result<(), Trouble> {
+/// Reads a window as packed numbers, as bytes, and as two numbers of every
+/// width.
+fn each_way(session: &mut Session, win: &Win<'_>) -> Result<(), Error> {
     session.bits(win, &[Packed, Packed, U8, Bit])?;
     session.bits(win, &[U8, Packed, Bit])?;
     let count = win.count as u32;
@@ -53,29 +54,29 @@ fn each_way(session: &mut Session, win: &Win<'_>) -> Result<(), Trouble> {
     Ok(())
 }
 
-/// Bytes at which a packed number's answer can change: the last and the first
-/// of each kind, most of all around the fifth byte's largest chunk, 15.
+/// Bytes at which the answer for a packed number can change: the first and the
+/// last byte of each kind, mostly around 15, the fifth byte's largest chunk.
 const PACKED_BORDERS: [u8; 16] = [
     0x00, 0x01, 0x02, 0x03, 0x1C, 0x1D, 0x1E, 0x1F, 0x20, 0x21, 0x7E, 0x7F, 0x80, 0x81, 0xFE, 0xFF,
 ];
 
-/// Five bytes, each at a border.
-pub fn packed_five(session: &mut Session) -> Result<(), Trouble> {
+/// Five bytes from `PACKED_BORDERS`.
+pub fn packed_five(session: &mut Session) -> Result<(), Error> {
     let mut bytes = [0; 5];
     for choice in 0..PACKED_BORDERS.len().pow(5) {
-        spell(&mut bytes, &PACKED_BORDERS, choice);
+        set_digits(&mut bytes, &PACKED_BORDERS, choice);
         session.bits(&Win::whole(&bytes), &[Packed, Packed])?;
     }
     Ok(())
 }
 
-/// Five bytes of few kinds, at every place in a byte, in a window cut at every
-/// bit.
-pub fn packed_cut(session: &mut Session) -> Result<(), Trouble> {
+/// Five bytes of four kinds, at every bit of a byte, in a window that ends at
+/// every bit.
+pub fn packed_cut(session: &mut Session) -> Result<(), Error> {
     const KINDS: [u8; 4] = [0x00, 0x01, 0x1F, 0xFF];
     let mut bytes = [0; 5];
     for choice in 0..KINDS.len().pow(5) {
-        spell(&mut bytes, &KINDS, choice);
+        set_digits(&mut bytes, &KINDS, choice);
         for first in 0..8 {
             let mut stream = ones(first);
             stream.bytes(&bytes);
@@ -88,8 +89,9 @@ pub fn packed_cut(session: &mut Session) -> Result<(), Trouble> {
     Ok(())
 }
 
-/// Writes the digits of `choice` in the number system that `kinds` makes.
-fn spell(bytes: &mut [u8], kinds: &[u8], choice: usize) {
+/// Sets the bytes to the digits of `choice` in base `kinds.len()`, as elements
+/// of `kinds`.
+fn set_digits(bytes: &mut [u8], kinds: &[u8], choice: usize) {
     let mut left = choice;
     for byte in bytes {
         *byte = kinds[left % kinds.len()];
@@ -97,17 +99,17 @@ fn spell(bytes: &mut [u8], kinds: &[u8], choice: usize) {
     }
 }
 
-/// Bits ahead of a window, set so that they show if they are read.
+/// Set bits before a window: a reading that uses them gives a wrong answer.
 fn ones(count: u64) -> Stream {
     let mut stream = Stream::new();
     stream.bits(u64::MAX, count as u32);
     stream
 }
 
-/// Every width at every place in a byte, over bits of several kinds, in windows
-/// that just hold it, lack a bit, or hold more, where the bytes end with the
-/// window and where they go on.
-pub fn widths(session: &mut Session) -> Result<(), Trouble> {
+/// Every width at every bit of a byte, over several patterns of bits. The
+/// window has exactly the width, or one bit less, or more; the bytes end with
+/// the window, or go on.
+pub fn widths(session: &mut Session) -> Result<(), Error> {
     let mut rng = Rng::new(1);
     let kinds = [vec![0xFF; 24], vec![0x55; 24], rng.bytes(24), rng.bytes(24)];
     for bytes in &kinds {
@@ -128,8 +130,7 @@ pub fn widths(session: &mut Session) -> Result<(), Trouble> {
     Ok(())
 }
 
-/// Counts of bits that just hold a width, and others near it, short enough for
-/// the bytes of [`widths`].
+/// Counts of bits near `width`, few enough for the bytes in [`widths`].
 fn counts_around(width: u64) -> impl Iterator<Item = u64> {
     let width = width.min(100);
     [0, width.saturating_sub(1), width, width + 1, width + 64].into_iter()

@@ -1,14 +1,14 @@
-//! Short texts: all of them where there are few enough, else all of those that
-//! are put together from borders.
+//! Short texts: all of them if there are few enough, otherwise all that are
+//! made of values at the borders.
 
 use crate::compare::Session;
+use crate::error::Error;
 use crate::script::Reading::{Bit, Text};
 use crate::script::Win;
 use crate::stream::Stream;
-use crate::trouble::Trouble;
 
-/// Every text of one or two bytes, at every place in a byte.
-pub fn utf8_one_two(session: &mut Session) -> Result<(), Trouble> {
+/// Every text of one or two bytes, at every bit of a byte.
+pub fn utf8_one_two(session: &mut Session) -> Result<(), Error> {
     for value in 0..=u16::MAX {
         let bytes = value.to_le_bytes();
         for first in 0..8 {
@@ -22,7 +22,7 @@ pub fn utf8_one_two(session: &mut Session) -> Result<(), Trouble> {
 }
 
 /// Every text of three bytes.
-pub fn utf8_three(session: &mut Session) -> Result<(), Trouble> {
+pub fn utf8_three(session: &mut Session) -> Result<(), Error> {
     for value in 0..1 << 24 {
         let [a, b, c, _] = u32::to_le_bytes(value);
         session.bits(&Win::whole(&[3, 0, 0, 0, a, b, c]), &[Text])?;
@@ -30,9 +30,10 @@ pub fn utf8_three(session: &mut Session) -> Result<(), Trouble> {
     Ok(())
 }
 
-/// Every first two bytes of four, with tails just inside and just outside what
-/// may continue a character, alone and with a final zero.
-pub fn utf8_edges(session: &mut Session) -> Result<(), Trouble> {
+/// Every first two bytes of four. The last two are just inside and just outside
+/// the range of continuation bytes. Each text is read with and without a final
+/// zero.
+pub fn utf8_edges(session: &mut Session) -> Result<(), Error> {
     const TAILS: [u8; 6] = [0x00, 0x7F, 0x80, 0xBF, 0xC0, 0xFF];
     for value in 0..=u16::MAX {
         let [lead, second] = value.to_le_bytes();
@@ -48,8 +49,8 @@ pub fn utf8_edges(session: &mut Session) -> Result<(), Trouble> {
     Ok(())
 }
 
-/// Every single unit, at every place in a byte.
-pub fn utf16_units(session: &mut Session) -> Result<(), Trouble> {
+/// Every single unit, at every bit of a byte.
+pub fn utf16_units(session: &mut Session) -> Result<(), Error> {
     for unit in 0..=u16::MAX {
         for first in 0..8 {
             text(session, first, |stream| stream.text16(&[unit]))?;
@@ -64,8 +65,8 @@ const UNIT_BORDERS: [u16; 16] = [
     0xDFFF, 0xE000, 0xFFFD, 0xFFFF,
 ];
 
-/// Pairs, triples and fours of such units, at two places in a byte.
-pub fn utf16_edges(session: &mut Session) -> Result<(), Trouble> {
+/// Two, three and four of these units, at two bits of a byte.
+pub fn utf16_edges(session: &mut Session) -> Result<(), Error> {
     for first in [0, 3] {
         for a in UNIT_BORDERS {
             for b in UNIT_BORDERS {
@@ -82,8 +83,8 @@ pub fn utf16_edges(session: &mut Session) -> Result<(), Trouble> {
     Ok(())
 }
 
-/// A text in a window that just holds it, `first` bits into its first byte.
-fn text(session: &mut Session, first: u64, write: impl FnOnce(&mut Stream)) -> Result<(), Trouble> {
+/// Reads a text in a window of exactly its size, `first` bits into a byte.
+fn text(session: &mut Session, first: u64, write: impl FnOnce(&mut Stream)) -> Result<(), Error> {
     let mut stream = Stream::new();
     stream.bits(u64::MAX, first as u32);
     write(&mut stream);

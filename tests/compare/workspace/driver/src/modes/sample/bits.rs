@@ -1,11 +1,11 @@
-//! Short scripts of the call `bits` that meet every reading and every refusal of
-//! a reading.
+//! Short scripts of the call `bits`. Together they have every reading and every
+//! refusal of a reading.
 
 use crate::script::Reading::{Bit, Bits, Copy, I32, Name, Packed, Sub, Text, U8, U32, Up};
 use crate::script::{Blob, Reading, Script, Win};
 use crate::stream::Stream;
 
-/// What `write` writes, read at several places in a byte.
+/// Reads what `write` writes, at several bits of a byte.
 fn at_places(script: &mut Script, readings: &[Reading], write: impl Fn(&mut Stream)) {
     for first in [0, 1, 7, 13] {
         let mut stream = Stream::new();
@@ -31,7 +31,8 @@ pub fn numbers(script: &mut Script) {
     at_places(script, &[Bits(64), Bits(24), Bits(1)], |s| s.bytes(&bytes));
     at_places(script, &[Bits(63), Bits(25)], |s| s.bytes(&bytes));
     at_places(script, &[Bits(57), Bits(32), Bits(31)], |s| s.bytes(&bytes));
-    // Too wide comes before too few left, and either moves nothing.
+    // Too wide is refused before too few bits, and neither refusal moves the
+    // position.
     at_places(
         script,
         &[Bits(65), Bit, Bits(u32::MAX), Bits(64), U8],
@@ -72,7 +73,7 @@ pub fn packed(script: &mut Script) {
             at_places(script, &[Packed], |s| s.packed(value, fewest));
         }
     }
-    // Cut before each byte, and inside one.
+    // Cut before each byte, and inside a byte.
     for count in [0, 7, 8, 15, 16, 24, 31, 32, 39] {
         script.bits(&Win::new(&[1; 5], 0, count), &[Packed, Bit, Packed]);
         script.bits(&Win::new(&[0xFF; 6], 3, count), &[Packed]);
@@ -113,7 +114,8 @@ pub fn text(script: &mut Script) {
     for units in bad {
         at_places(script, &[Text, U8], |s| s.text16(units));
     }
-    // More than remains, more than ever, and a length that is cut.
+    // More bytes than remain, more bytes than allowed, and a length that is
+    // cut.
     for length in [
         1,
         2,
@@ -135,8 +137,8 @@ pub fn text(script: &mut Script) {
     script.bits(&Win::new(&[2, 0, 0, 0, 65, 66], 0, 47), &[Text]);
 }
 
-/// Long texts as filling, whole and a byte short; only those that are not too
-/// long show in the answers.
+/// Long texts as a fill byte, complete and one byte short. Only those that are
+/// not too long appear in the answers.
 pub fn long_text(script: &mut Script) {
     let mut both = |length: i32, fill| {
         let size = if length < 0 { 2 } else { 1 };
@@ -147,15 +149,15 @@ pub fn long_text(script: &mut Script) {
     for bytes in [4_096, 4_097, 4_098, 1_048_576, 1_048_577] {
         both(bytes, b'a');
     }
-    // Units of 0x6161, which are three bytes each as UTF-8.
+    // Units of 0x6161, which have three bytes of UTF-8 each.
     for units in [1_365, 1_366, 524_288, 524_289] {
         both(-units, b'a');
     }
-    // Zeroes, of which the last is dropped.
+    // Zeroes. The last one is dropped.
     for zeroes in [4_097, 4_098, -4_097, -4_098] {
         both(zeroes, 0);
     }
-    // Bad text comes before long text.
+    // Bad text is refused before long text.
     let head = i32::to_le_bytes(5_000);
     script.bits(&filled(&head, 0x80, 5_004), &[Text]);
 }
@@ -205,12 +207,13 @@ pub fn names(script: &mut Script) {
     for count in [72, 88, 89, 119] {
         script.bits(&Win::new(&bytes, 0, count), &[Name]);
     }
-    // Filled with digits of the number too: the text is long, or the name is.
+    // The fill byte also makes the number. Either the text is too long, or the
+    // whole name is.
     for length in [4_085, 4_086, 4_087, 4_096, 4_097] {
         let mut head = vec![0];
         head.extend(i32::to_le_bytes(length));
-        let behind = [0, 3, 4];
-        for more in behind {
+        let following = [0, 3, 4];
+        for more in following {
             let len = 5 + length as u32 + more;
             script.bits(&filled(&head, b'1', len), &[Name, Bit]);
         }

@@ -1,0 +1,2 @@
+-- Contracts of the functions that are not exported.
+pub mod Suffix

@@ -1,0 +1,2 @@
+-- A law about written blocks.
+pub mod Blocks

@@ -1,0 +1,2 @@
+-- Contracts of the private functions of `src/reading.rt`.
+pub mod Reading

@@ -1,0 +1,2 @@
+-- The counts that the private functions print.
+pub mod Counts

@@ -1,0 +1,74 @@
+#!/usr/bin/env bash
+# Checks the exported functions: each public function of an exported crate has a contract (`ensures`) and may be called on any input (no
+# `requires`). For each constructor of `Call`, exactly one function of vrf_schema has its contract, as `CallContract` or `TextCallContract`:
+# so the lists of calls in demand 3 are complete. With a folder as its argument it checks that tree; `selftest.sh` uses this.
+set -euo pipefail
+export LC_ALL=C
+shopt -s globstar nullglob
+here=$(cd "$(dirname "$0")" && pwd)
+cd "${1:-$here/../..}"
+
+# Every crate of crates.txt is on one of these two lists.
+exported='vrf_bitio vrf_bitreader vrf_text vrf_path vrf_names vrf_schema vrf_tally vrf_host'
+inner='vrf_words vrf_model vrf_table vrf_store vrf_check vrf_cache vrf_reader vrf_writer vrf_checkpoint vrf_replay
+replay vectors corrupt tally bench_loops'
+# The crate whose functions are the calls, and the file that lists the calls.
+calls_crate=vrf_schema
+calls_file=crates/vrf_model/specs/Calls.antt
+
+faults=0
+fault() { echo "exports: $*"; faults=$((faults + 1)); }
+among() { [[ " ${2//$'\n'/ } " == *" $1 "* ]]; } # WORD WORDS
+
+calls=$(awk '/^pub data Call /{on=1;next} /^[^ ]/{on=0} on && $1!="--"{for(i=1;i<NF && $i!=":";i++) print $i}' "$calls_file")
+[ -n "$calls" ] || fault "no constructor of Call was found in $calls_file"
+# For each call, the functions that have its contract, one to a line.
+declare -A functions=()
+
+# Adds a function to the calls that its `ensures` names.
+add_function() { # FILE FUNCTION ENSURES
+    local rest=$3 call
+    while [[ $rest =~ (^|[^A-Za-z0-9_-])(Text)?CallContract[\ ]+\(?[\ ]*([^\ ()]*)(.*) ]]; do
+        call=${BASH_REMATCH[3]} rest=${BASH_REMATCH[4]}
+        among "$call" "$calls" || fault "$calls_crate: $1: $2 has the contract of '$call', which is no constructor of Call"
+        functions[$call]+="$1: $2"$'\n'
+    done
+}
+
+# Checks one crate, and adds its functions to the total.
+total=0
+check_crate() { # CRATE
+    local file name requires ensures n=0
+    while IFS=$'\t' read -r file name requires ensures; do
+        file=${file#crates/"$1"/}
+        if [ "$name" = 'pub use' ]; then
+            fault "$1: $file: a pub use exports functions that are not checked here"
+            continue
+        fi
+        n=$((n + 1))
+        [ "$requires" = - ] || fault "$1: $file: $name has a requires"
+        [ "$ensures" != - ] || fault "$1: $file: $name has no ensures"
+        if [ "$1" = "$calls_crate" ]; then add_function "$file" "$name" "$ensures"; fi
+    done < <(awk -f "$here/functions.awk" crates/"$1"/src/**/*.rt </dev/null)
+    [ "$n" != 0 ] || fault "$1: no public function was found"
+    echo "exports: $1: functions: $n"
+    total=$((total + n))
+}
+
+crates=0
+for crate in $(sed -E 's/#.*//; s/:.*//' crates.txt); do
+    if among "$crate" "$exported"; then
+        check_crate "$crate"
+        crates=$((crates + 1))
+    elif ! among "$crate" "$inner"; then
+        fault "$crate: on neither list of tests/exports/run.sh"
+    fi
+done
+
+for call in $calls; do
+    mapfile -t found < <(printf '%s' "${functions[$call]-}" | sort -u)
+    [ "${#found[@]}" = 1 ] || fault "$calls_crate: ${#found[@]} functions have the contract of $call${found[*]:+$(printf ', %s' "${found[@]}")}"
+done
+
+echo "exports: checked $total functions of $crates exported crates and $(wc -w <<<"$calls") calls: $faults faults"
+[ "$faults" = 0 ]
