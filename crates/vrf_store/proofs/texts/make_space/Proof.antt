@@ -4,6 +4,9 @@ use Rattle.vrf_store.specs.Laws.Texts.Space.{space-made}
 use Rattle.vrf_store.proofs.texts.make_space.Statement.{statement}
 use Rattle.vrf_store.proofs.texts.make_space.Tie as tie
 
+returns : tie.Need-returns
+returns c = search needs
+
 returns-2 : tie.Need-returns-2
 returns-2 c =
     let after-compact = c .before .before in
@@ -16,4 +19,4 @@ make-space-spec =
     tie.close
     (tie.spec
     (λ c κs. search needs) (λ c. search needs) (λ c κs. search needs) (λ c. search needs) (λ c. search needs)
-    (λ c. search needs) (λ c κs. search needs) (λ c. search needs) returns-2)
+    returns (λ c κs. search needs) (λ c. search needs) returns-2)
