@@ -70,8 +70,14 @@ FAULTS
 wrong 'a call without a function' crates/vrf_model/specs/Calls.antt '/^pub data Call /a\  get-nothing : ℕ → Call' <<'FAULTS'
 exports: vrf_schema: 0 functions have the contract of get-nothing
 FAULTS
-wrong 'a function of no call' $lookups 's/CallContract \(get-field /CallContract (get-fields /' <<'FAULTS'
-exports: vrf_schema: src/lookups.rt: get_field has the contract of 'get-fields', which is no constructor of Call
+wrong 'a lookup without a function' crates/vrf_model/specs/Calls.antt '/^pub data GuidLookup /a\  get-nothing : ℕ → GuidLookup' <<'FAULTS'
+exports: vrf_schema: 0 functions have the contract of get-nothing
+FAULTS
+wrong 'a type of lookups without constructors' crates/vrf_model/specs/Calls.antt '/^pub data Lookup /a\  of-nothing : NoLookup → Lookup' <<'FAULTS'
+exports: no constructor of NoLookup was found in crates/vrf_model/specs/Calls.antt
+FAULTS
+wrong 'a function of no call' $lookups 's/LookupContract \(of-groups \(get-field /LookupContract (of-groups (get-fields /' <<'FAULTS'
+exports: vrf_schema: src/lookups.rt: get_field has the contract of 'get-fields', which is no call
 exports: vrf_schema: 0 functions have the contract of get-field
 FAULTS
 wrong 'a crate on neither list' crates.txt '$a\vrf_more: vrf_bitio' <<'FAULTS'

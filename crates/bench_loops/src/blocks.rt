@@ -1,13 +1,13 @@
 // What tests/compare times of checkpoint blocks and fields runs: the exported functions, and the unchecked calls, which leave out the check
 // of the book.
 use crate::whole;
-use vrf_bitio::Word;
 use vrf_checkpoint::block;
 use vrf_model::Acted;
 use vrf_model::CheckpointTables;
 use vrf_model::Ran;
 use vrf_model::Tables;
 use vrf_model::Wrote;
+use vrf_reader::ReadNumber;
 use vrf_reader::fields;
 use vrf_schema::calls::open;
 use vrf_schema::reading;
@@ -91,8 +91,8 @@ fn runs_unchecked(m: &mut [u8], s: &[u8], scratch: &mut [u8], n: u32) -> u64
     let mut sum: u64 = 0;
     for _ in 0..n {
         match fields::read_net_field_exports(s, c, m, scratch) {
-            Word::Refused(_) => return sum,
-            Word::Value(exports, next) => {
+            ReadNumber::Refused(_) => return sum,
+            ReadNumber::Of(exports, next) => {
                 sum = std::num::wrapping_add_u64(sum, exports as u64);
                 c = next;
             }

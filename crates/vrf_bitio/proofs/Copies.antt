@@ -4,12 +4,12 @@ use mathlib.Core.List.{List, _∷_, _++_}
 use Prim.Native.Nat.{ℕ, zero, suc, _+_, _-_, _*_, _/_, _%_, _^_, _<_, _≤_, min}
 use native.Mathlib.Nat.{zero-add, add-zero, mul-zero, sub-zero, suc-add, lt-of-lt-of-le, mod-eq-of-lt, div-eq-of-lt}
 use native.Mathlib.Omega.{arith}
-use native.Mathlib.Decide.{decLt}
 use lib.ListN.{length, set, length-set}
 use lib.Pow.{pow-mono}
 use Rattle.vrf_bitio.specs.Bits.{bitsOf, bytesOf, packedBits, bytesFor}
 use Rattle.vrf_bitio.specs.Number.{lowBytes}
 use Rattle.vrf_bitio.specs.Pasted.{pasted}
+use Rattle.vrf_bitio.specs.Laws.Cases.{by-order}
 use Rattle.vrf_bitio.specs.Laws.Bits.{bits-lt, bits-low, bits-high}
 use Rattle.vrf_bitio.specs.Laws.Pasted.{pasted-nil, pasted-cons, pasted-append}
 use Rattle.vrf_bitio.specs.Laws.Window.{bytes-length}
@@ -45,10 +45,6 @@ module _ (l m : List ℕ) (at v t k left : ℕ) (i : Putting l m at v t k left) 
   put-end h =
       let none : t - k ≡ 0 = omega arith in
       sym (pasted-nil m (at + k)) ∙ rw none at (i .same)
-
--- case distinction on the order of two numbers
-by-order : {A : Type 0} (a b : ℕ) → (a < b → A) → (b ≤ a → A) → A
-by-order a b f g = elim (decLt a b) [ yes h ↦ f h | no h ↦ g (omega arith) ]
 
 no-bits : (s : List ℕ) (p : ℕ) → bitsOf s p 0 ≡ 0
 unfolding bitsOf
@@ -103,7 +99,7 @@ unfolding packedBits lowBytes
 packed-low s q zero m h = refl
 packed-low s q (suc k) m h =
     let ih = packed-low s (q + 8) k (m - 8) (omega arith) in
-    by-order m 8 (last-byte s q k m ih) (whole-byte s q k m ih)
+    by-order 8 m (whole-byte s q k m ih) (last-byte s q k m ih)
 
 -- `copy_bits` after k of its words: d is the target at the start, m the target now, i the place of the carried word's first byte
 pub record Copying (s d m : List ℕ) (p words i carry k : ℕ) : Type 0 where

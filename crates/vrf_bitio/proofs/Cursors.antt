@@ -7,47 +7,32 @@ use native.Mathlib.Nat.{mod-lt}
 use native.Mathlib.Omega.{arith}
 use lib.Dec.{ltb, eqb}
 use lib.ListN.{length, getD}
-use borrow.Author.Tests.{lt-ltb, le-ltb, ltb-true, ltb-false}
+use borrow.Author.Tests.{lt-ltb, le-ltb}
 use Rattle.vrf_bitio.specs.Bits.{bitsOf, bytesOf, packedBits, bytesFor}
 use Rattle.vrf_bitio.specs.Reading.{Read, ok, refused, bindRead}
 use Rattle.vrf_bitio.specs.Window.{rest, bits, window, inner, copied}
-use Rattle.vrf_bitio.specs.Number.{byte, word32}
-use Rattle.vrf_bitio.specs.Answers.{readAt, Gave}
+use Rattle.vrf_bitio.specs.Answers.{restOf, Gave}
+use Rattle.vrf_bitio.specs.Inner.Cursor.{moved}
 use Rattle.vrf_bitio.specs.Laws.Bits.{bits-inside}
-use Rattle.vrf_bitio.specs.Laws.Window.{byte-found, word-found}
 use Rattle.vrf_bitio.specs.declared.Cursor.{Cursor}
 
--- the flag that `lacks` answered, as an inequality
-pub lacking : (c : Cursor) (n : ℕ) {b : Bool} → b ≡ ltb (c .count - c .pos) n → b ≡ true → c .count - c .pos < n
-lacking c n e t = ltb-true (c .count - c .pos) n (sym e ∙ t)
-
-pub enough : (c : Cursor) (n : ℕ) {b : Bool} → b ≡ ltb (c .count - c .pos) n → b ≡ false → n ≤ c .count - c .pos
-enough c n e t = ltb-false (c .count - c .pos) n (sym e ∙ t)
+-- a reading that yields v and moves the cursor by n bits
+pub gave-moved : {A : Type 0} {x : Read A} (s : List ℕ) (c : Cursor) (n : ℕ) {v : A} {d : Cursor} → d ≡ moved c n → x ≡ ok v (c .pos + n) (restOf s (moved c n)) → Gave s c x v d
+gave-moved s c n ed e = rw ed (record { read = e; first = refl; count = refl })
 
 two : (x : ℕ) → x < 2 → cond (eqb x 1) 1 0 ≡ x
 two zero h = refl
 two (suc zero) h = refl
 two (suc (suc x)) h = absurd (omega arith)
 
-module _ (s : List ℕ) (c : Cursor) (w : ℕ) where
-  pub bits-lacking : w ≤ 64 → c .count - c .pos < w → bits s (c .first) (c .count) w (c .pos) ≡ refused 10 (c .pos) w
+module _ (s : List ℕ) (c : Cursor) (w : ℕ) (few : w ≤ 64) where
+  pub bits-lacking : c .count - c .pos < w → bits s (c .first) (c .count) w (c .pos) ≡ refused 10 (c .pos) w
   unfolding bits
-  bits-lacking h64 h = rw (le-ltb 64 w h64, lt-ltb (c .count - c .pos) w h)
+  bits-lacking h = rw (le-ltb 64 w few, lt-ltb (c .count - c .pos) w h)
 
-  -- the cursor after w bits
-  abbrev after : Cursor
-  after = record { first = c .first; count = c .count; pos = c .pos + w }
-
-  pub bits-gave : w ≤ 64 → w ≤ c .count - c .pos → {v : ℕ} → v ≡ bitsOf s (c .first + c .pos) w → Gave s c (bits s (c .first) (c .count) w (c .pos)) v after
+  pub bits-found : w ≤ c .count - c .pos → {v : ℕ} → v ≡ bitsOf s (c .first + c .pos) w → bits s (c .first) (c .count) w (c .pos) ≡ ok v (c .pos + w) (restOf s (moved c w))
   unfolding bits
-  bits-gave h64 h e = record { read = rw (le-ltb 64 w h64, le-ltb (c .count - c .pos) w h, e); first = refl; count = refl }
-
-module _ (s : List ℕ) (c : Cursor) where
-  pub byte-gave : 8 ≤ c .count - c .pos → {v : ℕ} → v ≡ bitsOf s (c .first + c .pos) 8 → Gave s c (readAt s c byte) v (after s c 8)
-  byte-gave h e = record { read = rw e (byte-found s (c .first) (c .count) (c .pos) h); first = refl; count = refl }
-
-  pub word-gave : 32 ≤ c .count - c .pos → {v : ℕ} → v ≡ bitsOf s (c .first + c .pos) 32 → Gave s c (readAt s c word32) v (after s c 32)
-  word-gave h e = record { read = rw e (word-found s (c .first) (c .count) (c .pos) h); first = refl; count = refl }
+  bits-found h e = rw (le-ltb 64 w few, le-ltb (c .count - c .pos) w h, e)
 
 -- one bit, as a flag
 pub flag : (s : List ℕ) (p q b : ℕ) → b ≡ getD s (p / 8) 0 → p ≡ q → cond (eqb (b / 2 ^ (p % 8) % 2) 1) 1 0 ≡ bitsOf s q 1
@@ -97,9 +82,9 @@ module _ (s : List ℕ) (c : Cursor) (n : ℕ) where
     unfolding inner bindRead
     inner-refused e = rw (le-ltb (c .count - c .pos) n h, e)
 
-    pub inner-gave : {w : ℕ × ℕ} {p : ℕ} {l : List ℕ} → window s (c .first + c .pos) n ≡ ok w p l → Gave s c (inner s (c .first) (c .count) n (c .pos)) w (after s c n)
+    pub inner-found : {w : ℕ × ℕ} {p : ℕ} {l : List ℕ} → window s (c .first + c .pos) n ≡ ok w p l → inner s (c .first) (c .count) n (c .pos) ≡ ok w (c .pos + n) (restOf s (moved c n))
     unfolding inner bindRead
-    inner-gave e = record { read = rw (le-ltb (c .count - c .pos) n h, e); first = refl; count = refl }
+    inner-found e = rw (le-ltb (c .count - c .pos) n h, e)
 
 -- a window opens at its position 0
 pub window-start : (s : List ℕ) (first count : ℕ) {w : ℕ × ℕ} {p : ℕ} {l : List ℕ} → window s first count ≡ ok w p l → p ≡ 0
@@ -125,6 +110,6 @@ module _ (s : List ℕ) (c : Cursor) (m n : ℕ) where
     unfolding copied
     copy-lacking h = rw (le-ltb m (bytesFor n) space, lt-ltb (c .count - c .pos) n h)
 
-    pub copy-gave : n ≤ c .count - c .pos → Gave s c (copied s (c .first) (c .count) m n (c .pos)) (packedBits s (c .first + c .pos) n (bytesFor n)) (after s c n)
+    pub copy-found : n ≤ c .count - c .pos → copied s (c .first) (c .count) m n (c .pos) ≡ ok (packedBits s (c .first + c .pos) n (bytesFor n)) (c .pos + n) (restOf s (moved c n))
     unfolding copied
-    copy-gave h = record { read = rw (le-ltb m (bytesFor n) space, le-ltb (c .count - c .pos) n h); first = refl; count = refl }
+    copy-found h = rw (le-ltb m (bytesFor n) space, le-ltb (c .count - c .pos) n h)

@@ -5,12 +5,16 @@ use mathlib.Core.Path.{_≡_}
 use Prim.Native.Nat.{ℕ, zero, suc, _+_, _-_, _*_, _/_, _%_, _^_, _≤_}
 use lib.Dec.{ltb, eqb}
 use lib.IntN.{ℤ}
-use lib.ListN.{length}
+use lib.ListN.{length, take, drop}
 use Rattle.vrf_bitio.specs.Reading.{ok, refused, Reader, return, _>>=_}
 
 unfoldable pub byte : Reader ℕ
 byte pos [] = refused 10 pos 8
 byte pos (b ∷ l) = ok b (pos + 8) l
+
+-- the next n bytes
+unfoldable pub bytes : ℕ → Reader (List ℕ)
+bytes n pos l = cond (ltb (length l) n) (refused 10 pos (8 * n)) (ok (take n l) (pos + 8 * n) (drop n l))
 
 -- a word of 32 bits, low byte first
 unfoldable pub word32 : Reader ℕ

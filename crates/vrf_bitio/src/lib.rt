@@ -1,12 +1,13 @@
 // The bit reader of document 01 over byte slices. The function names are those of vrf-bitio's lib.rs.
 ghost use mathlib.Core.Path.{_≡_};
 ghost use Prim.Native.Nat.{_+_, _-_, _*_, _<_, _≤_, _^_, _%_, _/_, min};
-ghost use lib.Dec.{ltb};
+ghost use lib.IntN.{natAbs};
 ghost use lib.ListN.{length, getD};
 ghost use Rattle.vrf_bitio.specs.Bits.{bitsOf, packedBits, bytesFor};
 ghost use Rattle.vrf_bitio.specs.Window.{window, inner, bits, copied};
 ghost use Rattle.vrf_bitio.specs.Number.{byte, word32, int32, signed, packed, chunks, lowBytes};
 ghost use Rattle.vrf_bitio.specs.Pasted.{pasted};
+ghost use Rattle.vrf_bitio.specs.Inner.Cursor.{tooFew, moved};
 ghost use Rattle.vrf_bitio.specs.Answers.{readAt, OpenedAnswer, SubAnswer, BitAnswer, BitsAnswer, ByteAnswer, WordAnswer, IntAnswer, CopiedAnswer};
 
 // The refusal numbers of document 01's table that reading bits can give.
@@ -107,8 +108,8 @@ fn whole_word(s: &[u8], i: usize) -> u64
     half_word(s, i) + half_word(s, i + 4) * 0x1_0000_0000
 }
 
-// The number of bytes or bits from place i to the end at n.
-fn left_from(n: usize, i: usize) -> usize
+// The number of bytes or bits from place i to the end at n; 0 past the end.
+pub fn left_from(n: usize, i: usize) -> usize
     ensures { λ r. ⌜ r ≡ n - i ⌝ }
 {
     if i < n { n - i } else { 0 }
@@ -285,11 +286,33 @@ impl Cursor {
         Cursor::window(s, 0, bit_len)
     }
 
-    // Whether fewer than n bits are left.
-    fn lacks(self, n: u64) -> bool
-        ensures { λ r. ⌜ r ≡ ltb (self .count - self .pos) n ⌝ }
+    // The number of bits left.
+    fn left(self) -> u64
+        ensures { λ r. ⌜ r ≡ self .count - self .pos ⌝ }
     {
-        (left_from(self.count as usize, self.pos as usize) as u64) < n
+        left_from(self.count as usize, self.pos as usize) as u64
+    }
+
+    // The refusal of a reading of n bits where fewer are left.
+    fn too_few(self, n: u64) -> Refusal
+        ensures { λ r. ⌜ r ≡ tooFew self n ⌝ }
+    {
+        Refusal {
+            number: TOO_FEW,
+            a: self.pos as u64,
+            b: n,
+        }
+    }
+
+    // The cursor after the next n bits. It is copied whole and not field by field: a caller that loads two fields at once then need not
+    // wait for two stores.
+    fn moved(self, n: u32) -> Cursor
+        requires { ⌜ n ≤ self .count - self .pos ⌝ }
+        ensures { λ r. ⌜ r ≡ moved self n ⌝ }
+    {
+        let mut next = self;
+        next.pos = self.pos + n;
+        next
     }
 
     // The bit at the position, as an index into the slice.
@@ -299,38 +322,29 @@ impl Cursor {
         (self.first as u64) + (self.pos as u64)
     }
 
+    // The n bits from the position on, n from 0 to 64.
+    fn bits_here(self, s: &[u8], n: u32) -> u64
+        requires { ⌜ n ≤ 64 ⌝ }
+        ensures { λ r. ⌜ (r ≡ bitsOf (now (s .entry)) (self .first + self .pos) n) × (r < 2 ^ n) ⌝ }
+    {
+        bits_within(s, self.at(), n)
+    }
+
     pub fn read_bit(self, s: &[u8]) -> Bit
         ensures { λ r. ⌜ BitAnswer (now (s .entry)) self (bits (now (s .entry)) (self .first) (self .count) 1 (self .pos)) r ⌝ }
     {
-        let first = self.first;
-        let count = self.count;
-        let pos = self.pos;
-        if self.lacks(1) {
-            return Bit::Refused(Refusal {
-                number: TOO_FEW,
-                a: pos as u64,
-                b: 1,
-            });
+        if self.left() < 1 {
+            return Bit::Refused(self.too_few(1));
         }
         let at = self.at();
         let bit = (byte_or_zero(s, (at / 8) as usize) >> (at % 8)) % 2;
-        Bit::Value(
-            bit == 1,
-            Cursor {
-                first,
-                count,
-                pos: pos + 1,
-            },
-        )
+        Bit::Value(bit == 1, self.moved(1))
     }
 
     // Reads width bits, 0 to 64, as a number.
     pub fn read_bits(self, s: &[u8], width: u32) -> Bits
         ensures { λ r. ⌜ BitsAnswer (now (s .entry)) self (bits (now (s .entry)) (self .first) (self .count) width (self .pos)) r ⌝ }
     {
-        let first = self.first;
-        let count = self.count;
-        let pos = self.pos;
         if 64 < width {
             return Bits::Refused(Refusal {
                 number: WIDTH,
@@ -338,70 +352,28 @@ impl Cursor {
                 b: 0,
             });
         }
-        if self.lacks(width as u64) {
-            return Bits::Refused(Refusal {
-                number: TOO_FEW,
-                a: pos as u64,
-                b: width as u64,
-            });
+        if self.left() < width as u64 {
+            return Bits::Refused(self.too_few(width as u64));
         }
-        let value = bits_within(s, self.at(), width);
-        Bits::Value(
-            value,
-            Cursor {
-                first,
-                count,
-                pos: pos + width,
-            },
-        )
+        Bits::Value(self.bits_here(s, width), self.moved(width))
     }
 
     pub fn read_u8(self, s: &[u8]) -> Byte
         ensures { λ r. ⌜ ByteAnswer (now (s .entry)) self (readAt (now (s .entry)) self byte) r ⌝ }
     {
-        let first = self.first;
-        let count = self.count;
-        let pos = self.pos;
-        if self.lacks(8) {
-            return Byte::Refused(Refusal {
-                number: TOO_FEW,
-                a: pos as u64,
-                b: 8,
-            });
+        if self.left() < 8 {
+            return Byte::Refused(self.too_few(8));
         }
-        let value = bits_within(s, self.at(), 8);
-        Byte::Value(
-            value as u8,
-            Cursor {
-                first,
-                count,
-                pos: pos + 8,
-            },
-        )
+        Byte::Value(self.bits_here(s, 8) as u8, self.moved(8))
     }
 
     pub fn read_u32(self, s: &[u8]) -> Word
         ensures { λ r. ⌜ WordAnswer (now (s .entry)) self (readAt (now (s .entry)) self word32) r ⌝ }
     {
-        let first = self.first;
-        let count = self.count;
-        let pos = self.pos;
-        if self.lacks(32) {
-            return Word::Refused(Refusal {
-                number: TOO_FEW,
-                a: pos as u64,
-                b: 32,
-            });
+        if self.left() < 32 {
+            return Word::Refused(self.too_few(32));
         }
-        let value = bits_within(s, self.at(), 32);
-        Word::Value(
-            value as u32,
-            Cursor {
-                first,
-                count,
-                pos: pos + 32,
-            },
-        )
+        Word::Value(self.bits_here(s, 32) as u32, self.moved(32))
     }
 
     // Reads a word of 32 bits as a signed number.
@@ -469,26 +441,12 @@ impl Cursor {
     pub fn sub_reader(self, s: &[u8], n: u64) -> Sub
         ensures { λ r. ⌜ SubAnswer (now (s .entry)) self (inner (now (s .entry)) (self .first) (self .count) n (self .pos)) r ⌝ }
     {
-        let first = self.first;
-        let count = self.count;
-        let pos = self.pos;
-        if self.lacks(n) {
-            return Sub::Refused(Refusal {
-                number: TOO_FEW,
-                a: pos as u64,
-                b: n,
-            });
+        if self.left() < n {
+            return Sub::Refused(self.too_few(n));
         }
         match Cursor::window(s, self.at(), n) {
             Opened::Refused(r) => Sub::Refused(r),
-            Opened::Window(within) => Sub::Inner(
-                within,
-                Cursor {
-                    first,
-                    count,
-                    pos: pos + (n as u32),
-                },
-            ),
+            Opened::Window(within) => Sub::Inner(within, self.moved(n as u32)),
         }
     }
 
@@ -498,7 +456,6 @@ impl Cursor {
             (copied (now (s .entry)) (self .first) (self .count) (length (now (dst .entry))) n (self .pos))
             (now (dst .entry)) (now (dst .exit)) r ⌝ }
     {
-        let pos = self.pos;
         let space = dst.len();
         if space < (n / 8 + (n % 8 + 7) / 8) as usize {
             return Copied::Refused(Refusal {
@@ -507,18 +464,11 @@ impl Cursor {
                 b: 8 * (space as u64),
             });
         }
-        if self.lacks(n) {
-            return Copied::Refused(Refusal {
-                number: TOO_FEW,
-                a: pos as u64,
-                b: n,
-            });
+        if self.left() < n {
+            return Copied::Refused(self.too_few(n));
         }
         copy_bits(s, self.at(), dst, n as u32);
-        // The cursor is copied whole and not field by field: a caller that loads two fields at once then need not wait for two stores.
-        let mut next = self;
-        next.pos = pos + (n as u32);
-        Copied::Done(next)
+        Copied::Done(self.moved(n as u32))
     }
 }
 
@@ -530,5 +480,16 @@ fn as_signed(w: u32) -> i32
         w as i32
     } else {
         -1 - ((0xffff_ffff - w) as i32)
+    }
+}
+
+// A signed number without its sign. The lowest number has no positive counterpart, so a number below 0 is negated less 1.
+pub fn magnitude(n: i32) -> u32
+    ensures { λ r. ⌜ r ≡ natAbs n ⌝ }
+{
+    if n < 0 {
+        ((-1 - n) as u32) + 1
+    } else {
+        n as u32
     }
 }

@@ -31,17 +31,17 @@ pub struct BitReader<'a> {
 fn left_of(count: u32, pos: u32) -> u32
     ensures { λ r. ⌜ r ≡ count - pos ⌝ }
 {
-    if pos < count { count - pos } else { 0 }
+    vrf_bitio::left_from(count as usize, pos as usize) as u32
 }
 
-// The cursor's readings on a reader's fields, for the methods below. A method's own argument comes first, then the fields in their order.
+// The cursor's readings on a reader's fields, for the methods below. The fields come first, in their order, then a method's own argument.
 fn bit_of(s: &[u8], first: u32, count: u32, pos: u32) -> Bit
     ensures { λ r. ⌜ BitAnswer (now (s .entry)) (cursor first count pos) (bits (now (s .entry)) first count 1 pos) r ⌝ }
 {
     Cursor { first, count, pos }.read_bit(s)
 }
 
-fn bits_of(width: u32, s: &[u8], first: u32, count: u32, pos: u32) -> Bits
+fn bits_of(s: &[u8], first: u32, count: u32, pos: u32, width: u32) -> Bits
     ensures { λ r. ⌜ BitsAnswer (now (s .entry)) (cursor first count pos) (bits (now (s .entry)) first count width pos) r ⌝ }
 {
     Cursor { first, count, pos }.read_bits(s, width)
@@ -71,7 +71,7 @@ fn packed_of(s: &[u8], first: u32, count: u32, pos: u32) -> Word
     Cursor { first, count, pos }.read_int_packed(s)
 }
 
-fn inner_of(n: u64, s: &[u8], first: u32, count: u32, pos: u32) -> Sub
+fn inner_of(s: &[u8], first: u32, count: u32, pos: u32, n: u64) -> Sub
     ensures { λ r. ⌜ SubAnswer (now (s .entry)) (cursor first count pos) (inner (now (s .entry)) first count n pos) r ⌝ }
 {
     Cursor { first, count, pos }.sub_reader(s, n)
@@ -146,7 +146,7 @@ impl<'a> BitReader<'a> {
         ensures { λ r. ⌜ BitsAnswer (now (self .entry .«data»)) (cursorOf (self .entry))
             (bits (now (self .entry .«data»)) (self .entry .first) (self .entry .count) width (self .entry .pos)) r ⌝ }
     {
-        bits_of(width, self.data, self.first, self.count, self.pos)
+        bits_of(self.data, self.first, self.count, self.pos, width)
     }
 
     pub fn read_u8(self) -> Byte
@@ -183,7 +183,7 @@ impl<'a> BitReader<'a> {
         ensures { λ r. ⌜ SubAnswer (now (self .entry .«data»)) (cursorOf (self .entry))
             (inner (now (self .entry .«data»)) (self .entry .first) (self .entry .count) n (self .entry .pos)) r ⌝ }
     {
-        inner_of(n, self.data, self.first, self.count, self.pos)
+        inner_of(self.data, self.first, self.count, self.pos, n)
     }
 }
 

@@ -42,7 +42,7 @@ ghost use Rattle.vrf_cache.specs.Inner.Taken.{AddedBy};
 ghost use Rattle.vrf_cache.specs.Inner.Groups.{MergeRequest, groupAt, replacing, appending, GroupToAdd, GroupRequest, PathFits, PathReleased, PathWritten, merging};
 
 // Appends a group with an index that no group has.
-fn append_group(m: &mut [u8], path: &[u8], index: u32, slots: u32) -> Added
+pub fn append_group(m: &mut [u8], path: &[u8], index: u32, slots: u32) -> Added
     requires { ⌜ GroupToAdd (now m) (now path) index slots ⌝ }
     ensures { λ r. ⌜ AddedBy (appending (held (now (m .entry))) (newGroup (now (path .entry)) index slots)) (now (m .entry)) (now (m .exit)) r ⌝ }
 {

@@ -16,13 +16,13 @@ ghost use mathlib.Core.Bool.{false};
 ghost use Prim.Native.Nat.{_<_, _≤_};
 ghost use Rattle.vrf_text.specs.Text.{IsText};
 ghost use Rattle.vrf_model.specs.Lookup.{placeOr};
-ghost use Rattle.vrf_model.specs.Setting.{setGuid};
+ghost use Rattle.vrf_model.specs.Setting.{newGuid, hasPath, setGuid};
 ghost use Rattle.vrf_table.specs.Table.{key};
 ghost use Rattle.vrf_store.specs.Store.{headerOf, storeOf};
 ghost use Rattle.vrf_store.specs.Inner.WellFormed.{WellFormed};
 ghost use Rattle.vrf_store.specs.Inner.Stepped.{held};
 ghost use Rattle.vrf_cache.specs.Inner.Taken.{ActedBy};
-ghost use Rattle.vrf_cache.specs.Inner.Guids.{setting, withNew, GuidToAdd, withOther, otherPasses, GuidToChange, has};
+ghost use Rattle.vrf_cache.specs.Inner.Guids.{setting, withNew, GuidToAdd, withOther, otherPasses, GuidToChange};
 
 // The allowance that record e would pass with a path of n bytes in place of its own, 0 for none.
 fn other_passes(m: &[u8], e: u32, n: u64) -> u32
@@ -36,7 +36,7 @@ fn other_passes(m: &[u8], e: u32, n: u64) -> u32
 // Appends a record for a GUID that has none.
 fn add_guid(m: &mut [u8], guid: u32, path: &[u8], outer: u32) -> Acted
     requires { ⌜ GuidToAdd (now m) (now path) guid ⌝ }
-    ensures { λ r. ⌜ ActedBy (setting (withNew (held (now (m .entry))) (record { guid = guid; path = now (path .entry); outer = outer }))) (now (m .entry)) (now (m .exit)) r ⌝ }
+    ensures { λ r. ⌜ ActedBy (setting (withNew (held (now (m .entry))) (newGuid guid (now (path .entry)) outer))) (now (m .entry)) (now (m .exit)) r ⌝ }
 {
     let which = passes(m, 1, 0, 0, 0, path.len() as u64);
     if which != 0 {
@@ -51,7 +51,7 @@ fn add_guid(m: &mut [u8], guid: u32, path: &[u8], outer: u32) -> Acted
 // Releases the old path first, so that the old and the new path need not both fit.
 fn change_guid(m: &mut [u8], e: u32, path: &[u8], outer: u32) -> Acted
     requires { ⌜ GuidToChange (now m) (now path) e ⌝ }
-    ensures { λ r. ⌜ ActedBy (setting (withOther (held (now (m .entry))) e (record { guid = key (storeOf (now (m .entry)) .guidRows) e; path = now (path .entry); outer = outer }))) (now (m .entry)) (now (m .exit)) r ⌝ }
+    ensures { λ r. ⌜ ActedBy (setting (withOther (held (now (m .entry))) e (newGuid (key (storeOf (now (m .entry)) .guidRows) e) (now (path .entry)) outer))) (now (m .entry)) (now (m .exit)) r ⌝ }
 {
     let which = other_passes(m, e, path.len() as u64);
     if which != 0 {
@@ -66,7 +66,7 @@ fn change_guid(m: &mut [u8], e: u32, path: &[u8], outer: u32) -> Acted
 
 fn is_set(m: &[u8], e: u32, path: &[u8], outer: u32) -> bool
     requires { ⌜ GuidToChange (now m) (now path) e ⌝ }
-    ensures { λ r. ⌜ r ≡ placeOr (has (now (path .entry)) outer) false (held (now (m .entry)) .guids) e ⌝ }
+    ensures { λ r. ⌜ r ≡ placeOr (hasPath (now (path .entry)) outer) false (held (now (m .entry)) .guids) e ⌝ }
 {
     if same(path, guid_path(m, e)) {
         return outer == guid_outer(m, e);
@@ -77,7 +77,7 @@ fn is_set(m: &[u8], e: u32, path: &[u8], outer: u32) -> bool
 // An identical setting does nothing.
 pub fn set_net_guid_path(m: &mut [u8], guid: u32, path: &[u8], outer: u32) -> Acted
     requires { ⌜ WellFormed (now m) × IsText (now path) ⌝ }
-    ensures { λ r. ⌜ ActedBy (setGuid (record { guid = guid; path = now (path .entry); outer = outer }) (held (now (m .entry)))) (now (m .entry)) (now (m .exit)) r ⌝ }
+    ensures { λ r. ⌜ ActedBy (setGuid guid (now (path .entry)) outer (held (now (m .entry)))) (now (m .entry)) (now (m .exit)) r ⌝ }
 {
     match find_guid(m, guid) {
         Entry::At(e) => {

@@ -6,10 +6,16 @@ use vrf_path::core_alias;
 use vrf_path::default_object_alias;
 use vrf_path::is_absent;
 use vrf_path::leaf_at;
+use vrf_store::look::field_buckets;
+use vrf_store::look::group_buckets;
+use vrf_store::look::guid_buckets;
+use vrf_store::look::leaf_buckets;
+use vrf_store::look::path_buckets;
 use vrf_store::look::row_info;
 use vrf_store::look::row_key;
 use vrf_store::parts;
-use vrf_store::parts::row_text;
+use vrf_store::rows::text_at;
+use vrf_store::rows::text_len;
 use vrf_table::ABSENT;
 use vrf_table::AMBIGUOUS;
 use vrf_table::Claim;
@@ -17,9 +23,9 @@ use vrf_table::Entry;
 use vrf_table::find_key;
 use vrf_table::find_path;
 use vrf_table::leaf_claim;
+use vrf_table::row_text;
 use vrf_table::spell::spell;
 use vrf_text::is_utf8;
-use vrf_words::get32;
 ghost use mathlib.Core.Path.{_≡_};
 ghost use mathlib.Core.Bool.{true};
 ghost use Prim.Native.Nat.{_+_, _*_, _<_, _≤_, _^_};
@@ -32,8 +38,8 @@ ghost use Rattle.vrf_store.specs.UpTo.{allBelow, sumBelow};
 ghost use Rattle.vrf_store.specs.Layout;
 ghost use Rattle.vrf_store.specs.Store.{allowancesOf, headerOf, storeOf};
 ghost use Rattle.vrf_store.specs.Check.{topsOk, headerOk, boundsOk, textOk, isPlace, foundOk, notBefore, reachOk, isSettled, storeOk, check};
-ghost use Rattle.vrf_store.specs.Inner.Check.{guidRow, groupRow, slotIn, fieldRow, keysReach, leafSettled, sumOk, groupTexts, textsOk, guidsOk, groupsOk, fieldsOk, pathsOk, leavesOk, InBounds};
 ghost use Rattle.vrf_store.specs.Inner.Check.{Walked};
+ghost use Rattle.vrf_check.specs.Inner.Steps.{rowOk, slotIn, fieldRowOk, keysReach, leafSettled, pathOk, sumOk, textsOk, guidsOk, groupsOk, fieldsOk, rowsOk, pathsOk, InBounds};
 
 // The most bytes that a text has.
 const TEXT_BYTES: usize = 4_096;
@@ -100,14 +106,6 @@ fn bounds_ok(m: &[u8]) -> bool
 
 // ---- rows
 
-// The length of the text of row e.
-fn row_len(rows: &[u8], e: u32) -> u32
-    requires { ⌜ 24 * e + 24 ≤ length (now rows) ⌝ }
-    ensures { λ r. ⌜ r ≡ len (now (rows .entry)) e ⌝ }
-{
-    get32(rows, 6 * (e as usize) + 4)
-}
-
 // The sum of the lengths of the texts of n rows.
 fn length_sum(rows: &[u8], n: u32) -> u64
     requires { ⌜ 24 * n ≤ length (now rows) ⌝ }
@@ -116,7 +114,7 @@ fn length_sum(rows: &[u8], n: u32) -> u64
     let mut sum = 0;
     let mut e = 0;
     while e < n {
-        sum += row_len(rows, e) as u64;
+        sum += text_len(rows, e) as u64;
         e += 1;
     }
     sum
@@ -127,16 +125,14 @@ fn text_ok(used: u32, x: &[u8], rows: &[u8], e: u32) -> bool
     requires { ⌜ (24 * e + 24 ≤ length (now rows)) × (used ≤ length (now x)) ⌝ }
     ensures { λ r. ⌜ r ≡ textOk used (now (x .entry)) (now (rows .entry)) e ⌝ }
 {
-    let from = get32(rows, 6 * (e as usize) + 3) as usize;
-    let n = row_len(rows, e) as usize;
-    let to = from + n;
-    if (used as usize) < to {
+    let n = text_len(rows, e) as usize;
+    if (used as usize) < text_at(rows, e) as usize + n {
         return false;
     }
     if TEXT_BYTES < n {
         return false;
     }
-    is_utf8(&x[from..to])
+    is_utf8(row_text(rows, x, e))
 }
 
 fn each_text_ok(used: u32, x: &[u8], rows: &[u8], n: u32) -> bool
@@ -173,50 +169,27 @@ fn found_ok(rows: &[u8], heads: &[u8], b: u32, n: u32, e: u32) -> bool
 
 // ---- the rows of each table, without their texts
 
-fn guid_ok(rows: &[u8], heads: &[u8], b: u32, n: u32, e: u32) -> bool
+// Whether row e of the GUID records or of the groups passes: its key has 32 bits and finds it, and its number is at most `most`.
+fn row_ok(rows: &[u8], heads: &[u8], b: u32, n: u32, most: u32, e: u32) -> bool
     requires { ⌜ (24 * n ≤ length (now rows)) × (4 * b ≤ length (now heads)) × (0 < b) × (e < n) ⌝ }
-    ensures { λ r. ⌜ r ≡ guidRow (now (rows .entry)) (now (heads .entry)) b n e ⌝ }
+    ensures { λ r. ⌜ r ≡ rowOk (now (rows .entry)) (now (heads .entry)) b n most e ⌝ }
 {
     if 0xFFFF_FFFF < row_key(rows, e) {
+        return false;
+    }
+    if most < row_info(rows, e) {
         return false;
     }
     found_ok(rows, heads, b, n, e)
 }
 
-fn each_guid_ok(rows: &[u8], heads: &[u8], b: u32, n: u32) -> bool
+fn each_row_ok(rows: &[u8], heads: &[u8], b: u32, n: u32, most: u32) -> bool
     requires { ⌜ (24 * n ≤ length (now rows)) × (4 * b ≤ length (now heads)) × (0 < b) ⌝ }
-    ensures { λ r. ⌜ r ≡ allBelow (guidRow (now (rows .entry)) (now (heads .entry)) b n) n ⌝ }
+    ensures { λ r. ⌜ r ≡ allBelow (rowOk (now (rows .entry)) (now (heads .entry)) b n most) n ⌝ }
 {
     let mut e = 0;
     while e < n {
-        if !guid_ok(rows, heads, b, n, e) {
-            return false;
-        }
-        e += 1;
-    }
-    true
-}
-
-fn group_ok(rows: &[u8], heads: &[u8], b: u32, n: u32, e: u32) -> bool
-    requires { ⌜ (24 * n ≤ length (now rows)) × (4 * b ≤ length (now heads)) × (0 < b) × (e < n) ⌝ }
-    ensures { λ r. ⌜ r ≡ groupRow (now (rows .entry)) (now (heads .entry)) b n e ⌝ }
-{
-    if 0xFFFF_FFFF < row_key(rows, e) {
-        return false;
-    }
-    if 0x1_0000 < row_info(rows, e) {
-        return false;
-    }
-    found_ok(rows, heads, b, n, e)
-}
-
-fn each_group_ok(rows: &[u8], heads: &[u8], b: u32, n: u32) -> bool
-    requires { ⌜ (24 * n ≤ length (now rows)) × (4 * b ≤ length (now heads)) × (0 < b) ⌝ }
-    ensures { λ r. ⌜ r ≡ allBelow (groupRow (now (rows .entry)) (now (heads .entry)) b n) n ⌝ }
-{
-    let mut e = 0;
-    while e < n {
-        if !group_ok(rows, heads, b, n, e) {
+        if !row_ok(rows, heads, b, n, most, e) {
             return false;
         }
         e += 1;
@@ -238,7 +211,7 @@ fn slot_ok(groups: &[u8], n: u32, k: u64) -> bool
 
 fn field_ok(groups: &[u8], g: u32, rows: &[u8], heads: &[u8], b: u32, n: u32, e: u32) -> bool
     requires { ⌜ (24 * g ≤ length (now groups)) × (24 * n ≤ length (now rows)) × (4 * b ≤ length (now heads)) × (0 < b) × (e < n) ⌝ }
-    ensures { λ r. ⌜ r ≡ fieldRow (now (groups .entry)) g (now (rows .entry)) (now (heads .entry)) b n e ⌝ }
+    ensures { λ r. ⌜ r ≡ fieldRowOk (now (groups .entry)) g (now (rows .entry)) (now (heads .entry)) b n e ⌝ }
 {
     if !slot_ok(groups, g, row_key(rows, e)) {
         return false;
@@ -248,7 +221,7 @@ fn field_ok(groups: &[u8], g: u32, rows: &[u8], heads: &[u8], b: u32, n: u32, e:
 
 fn each_field_ok(groups: &[u8], g: u32, rows: &[u8], heads: &[u8], b: u32, n: u32) -> bool
     requires { ⌜ (24 * g ≤ length (now groups)) × (24 * n ≤ length (now rows)) × (4 * b ≤ length (now heads)) × (0 < b) ⌝ }
-    ensures { λ r. ⌜ r ≡ allBelow (fieldRow (now (groups .entry)) g (now (rows .entry)) (now (heads .entry)) b n) n ⌝ }
+    ensures { λ r. ⌜ r ≡ allBelow (fieldRowOk (now (groups .entry)) g (now (rows .entry)) (now (heads .entry)) b n) n ⌝ }
 {
     let mut e = 0;
     while e < n {
@@ -356,20 +329,6 @@ fn keys_ok(rows: &[u8], x: &[u8], links: &[u8], heads: &[u8], b: u32, n: u32, g:
     alias_ok(rows, x, links, heads, b, n, e + 2, path, core_alias(path))
 }
 
-fn each_keys_ok(rows: &[u8], x: &[u8], links: &[u8], heads: &[u8], b: u32, n: u32) -> bool
-    requires { ⌜ Walked (now rows) (now x) (now links) (now heads) 12 b n ⌝ }
-    ensures { λ r. ⌜ r ≡ allBelow (keysReach (now (rows .entry)) (now (x .entry)) (now (links .entry)) (now (heads .entry)) b n) n ⌝ }
-{
-    let mut g = 0;
-    while g < n {
-        if !keys_ok(rows, x, links, heads, b, n, g) {
-            return false;
-        }
-        g += 1;
-    }
-    true
-}
-
 // ---- the leaves of groups
 
 // Whether the claim is group g, or ambiguous.
@@ -397,13 +356,30 @@ fn leaf_ok(rows: &[u8], x: &[u8], links: &[u8], heads: &[u8], b: u32, n: u32, g:
     }
 }
 
-fn each_leaf_ok(rows: &[u8], x: &[u8], links: &[u8], heads: &[u8], b: u32, n: u32) -> bool
-    requires { ⌜ Walked (now rows) (now x) (now links) (now heads) 4 b n ⌝ }
-    ensures { λ r. ⌜ r ≡ allBelow (leafSettled (now (rows .entry)) (now (x .entry)) (now (links .entry)) (now (heads .entry)) b n) n ⌝ }
+// ---- the texts by which groups are found
+
+// Whether each group is found by its keys and by its leaf. The index by key has the links, heads and b buckets; the index by leaf has the
+// links `leaves`, the heads `starts` and c buckets.
+fn each_path_ok(
+    rows: &[u8],
+    x: &[u8],
+    links: &[u8],
+    heads: &[u8],
+    b: u32,
+    leaves: &[u8],
+    starts: &[u8],
+    c: u32,
+    n: u32,
+) -> bool
+    requires { ⌜ Walked (now rows) (now x) (now links) (now heads) 12 b n × Walked (now rows) (now x) (now leaves) (now starts) 4 c n ⌝ }
+    ensures { λ r. ⌜ r ≡ allBelow (pathOk (now (rows .entry)) (now (x .entry)) (now (links .entry)) (now (heads .entry)) b (now (leaves .entry)) (now (starts .entry)) c n) n ⌝ }
 {
     let mut g = 0;
     while g < n {
-        if !leaf_ok(rows, x, links, heads, b, n, g) {
+        if !keys_ok(rows, x, links, heads, b, n, g) {
+            return false;
+        }
+        if !leaf_ok(rows, x, leaves, starts, c, n, g) {
             return false;
         }
         g += 1;
@@ -444,12 +420,12 @@ fn guids_ok(m: &[u8]) -> bool
     requires { ⌜ InBounds (now m) ⌝ }
     ensures { λ r. ⌜ r ≡ guidsOk (storeOf (now (m .entry))) ⌝ }
 {
-    let b = (4 * parts::guids_allowed(m) + 1) as u32;
-    each_guid_ok(
+    each_row_ok(
         parts::guid_rows(m),
         parts::guid_heads(m),
-        b,
+        guid_buckets(m),
         parts::guids(m),
+        0xFFFF_FFFF,
     )
 }
 
@@ -457,12 +433,12 @@ fn groups_ok(m: &[u8]) -> bool
     requires { ⌜ InBounds (now m) ⌝ }
     ensures { λ r. ⌜ r ≡ groupsOk (storeOf (now (m .entry))) ⌝ }
 {
-    let b = (parts::groups_allowed(m) + 1) as u32;
-    each_group_ok(
+    each_row_ok(
         parts::group_rows(m),
         parts::group_heads(m),
-        b,
+        group_buckets(m),
         parts::groups(m),
+        0x1_0000,
     )
 }
 
@@ -470,51 +446,50 @@ fn fields_ok(m: &[u8]) -> bool
     requires { ⌜ InBounds (now m) ⌝ }
     ensures { λ r. ⌜ r ≡ fieldsOk (storeOf (now (m .entry))) ⌝ }
 {
-    let b = (4 * parts::fields_allowed(m) + 1) as u32;
     each_field_ok(
         parts::group_rows(m),
         parts::groups(m),
         parts::field_rows(m),
         parts::field_heads(m),
-        b,
+        field_buckets(m),
         parts::fields(m),
     )
 }
 
-// Whether the keys of all groups find them. A walk reads the text of any group, so all texts must have passed before.
+// Whether the rows of all three tables pass.
+fn rows_ok(m: &[u8]) -> bool
+    requires { ⌜ InBounds (now m) ⌝ }
+    ensures { λ r. ⌜ r ≡ rowsOk (storeOf (now (m .entry))) ⌝ }
+{
+    if !guids_ok(m) {
+        return false;
+    }
+    if !groups_ok(m) {
+        return false;
+    }
+    fields_ok(m)
+}
+
+// Whether all groups are found by their keys and leaves. A walk reads the text of any group, so all texts must have passed before.
 fn paths_ok(m: &[u8]) -> bool
-    requires { ⌜ InBounds (now m) × (groupTexts (storeOf (now m)) ≡ true) ⌝ }
+    requires { ⌜ InBounds (now m) × (textsOk (storeOf (now m)) ≡ true) ⌝ }
     ensures { λ r. ⌜ r ≡ pathsOk (storeOf (now (m .entry))) ⌝ }
 {
-    let b = (3 * parts::groups_allowed(m) + 1) as u32;
-    each_keys_ok(
+    each_path_ok(
         parts::group_rows(m),
         parts::texts(m),
         parts::path_links(m),
         parts::path_heads(m),
-        b,
-        parts::groups(m),
-    )
-}
-
-fn leaves_ok(m: &[u8]) -> bool
-    requires { ⌜ InBounds (now m) × (groupTexts (storeOf (now m)) ≡ true) ⌝ }
-    ensures { λ r. ⌜ r ≡ leavesOk (storeOf (now (m .entry))) ⌝ }
-{
-    let b = (2 * parts::groups_allowed(m) + 1) as u32;
-    each_leaf_ok(
-        parts::group_rows(m),
-        parts::texts(m),
+        path_buckets(m),
         parts::leaf_links(m),
         parts::leaf_heads(m),
-        b,
+        leaf_buckets(m),
         parts::groups(m),
     )
 }
 
 // Whether the tables and indexes pass. The sum of the lengths is first: if it passes, the texts checked next have no more bytes in total
-// than
-// the memory has for texts, whatever lengths the rows give.
+// than the memory has for texts, whatever lengths the rows give.
 fn store_ok(m: &[u8]) -> bool
     requires { ⌜ InBounds (now m) ⌝ }
     ensures { λ r. ⌜ r ≡ storeOk (storeOf (now (m .entry))) ⌝ }
@@ -525,19 +500,10 @@ fn store_ok(m: &[u8]) -> bool
     if !texts_ok(m) {
         return false;
     }
-    if !guids_ok(m) {
+    if !rows_ok(m) {
         return false;
     }
-    if !groups_ok(m) {
-        return false;
-    }
-    if !fields_ok(m) {
-        return false;
-    }
-    if !paths_ok(m) {
-        return false;
-    }
-    leaves_ok(m)
+    paths_ok(m)
 }
 
 // Whether the memory is accepted; if not, a call is refused with refusal 2.

@@ -1,9 +1,9 @@
 // `read_checkpoint_tables`: the head of a block, its GUIDs, its groups, its end.
+use crate::groups::Fields;
 use crate::groups::read_groups;
 use crate::guids::Guids;
 use crate::guids::Paths;
 use crate::guids::read_guids;
-use vrf_bitio::Bits;
 use vrf_bitio::Cursor;
 use vrf_bitio::Refusal;
 use vrf_bitio::Word;
@@ -13,13 +13,14 @@ use vrf_model::FRAME_OFFSET_MISMATCH;
 use vrf_model::RESERVED_WORD_SET;
 use vrf_model::Tables;
 use vrf_reader::Advanced;
+use vrf_reader::ReadNumber;
 ghost use mathlib.Core.List.{List};
 ghost use Prim.Native.Nat.{ℕ, _≤_};
 ghost use lib.ListN.{length};
-ghost use Rattle.vrf_model.specs.Block.{PathTable, zeroWord, countUpTo, blockEnd, block};
+ghost use Rattle.vrf_model.specs.Block.{PathTable, byTable, zeroWord, countUpTo, blockEnd, block};
 ghost use Rattle.vrf_store.specs.Store.{storeOf};
 ghost use Rattle.vrf_store.specs.Inner.WellFormed.{WellFormed};
-ghost use Rattle.vrf_reader.specs.Inner.Simulates.{RefinesReading, cursorOutcome, wordOutcome};
+ghost use Rattle.vrf_reader.specs.Inner.Simulates.{RefinesReading, cursorOutcome, numberOutcome};
 ghost use Rattle.vrf_checkpoint.specs.Inner.Guids.{Represents};
 ghost use Rattle.vrf_checkpoint.specs.Inner.Block.{UpTo, ZerosRead, BlockHeadRefines, groupsFrom, BlockReads};
 
@@ -49,20 +50,20 @@ fn read_zero(s: &[u8], c: Cursor, at: u32) -> Advanced
 }
 
 // A count; 31 gives which count it is, if it is above `top`.
-fn read_count(s: &[u8], c: Cursor, which: u32, top: u32) -> Word
-    ensures { λ r. ⌜ RefinesReading (now (s .entry)) (countUpTo which top) c (wordOutcome r) × UpTo top r ⌝ }
+fn read_count(s: &[u8], c: Cursor, which: u32, top: u32) -> ReadNumber
+    ensures { λ r. ⌜ RefinesReading (now (s .entry)) (countUpTo which top) c (numberOutcome r) × UpTo top r ⌝ }
 {
     match c.read_u32(s) {
-        Word::Refused(r) => Word::Refused(r),
+        Word::Refused(r) => ReadNumber::Refused(r),
         Word::Value(n, next) => {
             if top < n {
-                return Word::Refused(Refusal {
+                return ReadNumber::Refused(Refusal {
                     number: COUNT_OVERFLOW,
                     a: which as u64,
                     b: n as u64,
                 });
             }
-            Word::Value(n, next)
+            ReadNumber::Of(n, next)
         }
     }
 }
@@ -89,27 +90,27 @@ fn read_head(s: &[u8], c: Cursor) -> BlockHead
         Word::Value(w, next) => match read_zeros(s, next) {
             Advanced::Refused(r) => BlockHead::Refused(r),
             Advanced::To(then) => match read_count(s, then, 1, 1_000_000) {
-                Word::Refused(r) => BlockHead::Refused(r),
-                Word::Value(guids, end) => BlockHead::Of(w, guids, end),
+                ReadNumber::Refused(r) => BlockHead::Refused(r),
+                ReadNumber::Of(guids, end) => BlockHead::Of(w, guids, end),
             },
         },
     }
 }
 
 // The end byte is W + 8.
-fn read_end(c: Cursor, w: u32) -> Word
-    ensures { λ r. ⌜ ((s : List ℕ) → RefinesReading s (blockEnd w) c (wordOutcome r)) ⌝ }
+fn read_end(c: Cursor, w: u32) -> ReadNumber
+    ensures { λ r. ⌜ ((s : List ℕ) → RefinesReading s (blockEnd w) c (numberOutcome r)) ⌝ }
 {
     let end = c.pos / 8;
     let expected = w as u64 + 8;
     if end as u64 != expected {
-        return Word::Refused(Refusal {
+        return ReadNumber::Refused(Refusal {
             number: FRAME_OFFSET_MISMATCH,
             a: end as u64,
             b: expected,
         });
     }
-    Word::Value(end, c)
+    ReadNumber::Of(end, c)
 }
 
 // What follows the GUIDs: the groups and the end byte.
@@ -126,12 +127,12 @@ fn read_rest(
     ensures { λ r. ⌜ ((table : PathTable) → Represents (now (s .entry)) c (storeOf (now (m .entry)) .literals) t table → BlockReads (now (s .entry)) (groupsFrom w guids table) c (now (m .entry)) (now (m .exit)) r) ⌝ }
 {
     match read_count(s, c, 2, 100_000) {
-        Word::Refused(r) => Tables::Refused(r),
-        Word::Value(groups, next) => match read_groups(s, next, m, scratch, groups) {
-            Bits::Refused(r) => Tables::Refused(r),
-            Bits::Value(fields, then) => match read_end(then, w) {
-                Word::Refused(r) => Tables::Refused(r),
-                Word::Value(frame, _) => Tables::Read(CheckpointTables {
+        ReadNumber::Refused(r) => Tables::Refused(r),
+        ReadNumber::Of(groups, next) => match read_groups(s, next, m, scratch, groups) {
+            Fields::Refused(r) => Tables::Refused(r),
+            Fields::Read(fields, then) => match read_end(then, w) {
+                ReadNumber::Refused(r) => Tables::Refused(r),
+                ReadNumber::Of(frame, _) => Tables::Read(CheckpointTables {
                     guid_count: guids,
                     group_count: groups,
                     exported_fields: fields,
@@ -148,7 +149,7 @@ fn read_rest(
 // Answers the seven counts. A refused block leaves all that was taken before the refused step.
 pub fn read_checkpoint_tables(s: &[u8], c: Cursor, m: &mut [u8], scratch: &mut [u8]) -> Tables
     requires { ⌜ WellFormed (now m) × (4096 ≤ length (now scratch)) ⌝ }
-    ensures { λ r. ⌜ BlockReads (now (s .entry)) block c (now (m .entry)) (now (m .exit)) r ⌝ }
+    ensures { λ r. ⌜ BlockReads (now (s .entry)) (block byTable) c (now (m .entry)) (now (m .exit)) r ⌝ }
 {
     match read_head(s, c) {
         BlockHead::Refused(r) => Tables::Refused(r),

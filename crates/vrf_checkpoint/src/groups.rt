@@ -1,10 +1,9 @@
 // The groups of a block and their slots.
-use vrf_bitio::Bits;
 use vrf_bitio::Byte;
 use vrf_bitio::Cursor;
 use vrf_bitio::Refusal;
 use vrf_bitio::Word;
-use vrf_cache::groups::add_export_group;
+use vrf_cache::groups::append_group;
 use vrf_model::Added;
 use vrf_model::COUNT_OVERFLOW;
 use vrf_model::GROUP_COLLISION;
@@ -18,15 +17,22 @@ use vrf_table::Entry;
 use vrf_text::Text;
 ghost use mathlib.Core.Path.{_≡_};
 ghost use mathlib.Core.Bool.{_||_};
-ghost use Prim.Native.Nat.{_+_, _*_, _^_, _≤_, _<_};
+ghost use Prim.Native.Nat.{_*_, _≤_};
 ghost use lib.ListN.{length};
 ghost use Rattle.vrf_text.specs.Text.{IsText};
 ghost use Rattle.vrf_model.specs.Lookup.{indexPlace, pathPlace};
-ghost use Rattle.vrf_model.specs.Block.{isFound, addFirst, blockField, blockSlot, blockSlots, blockGroup, blockGroups};
+ghost use Rattle.vrf_model.specs.Parser.{sumFrom};
+ghost use Rattle.vrf_model.specs.Block.{isFound, addFirst, blockField, blockSlot, blockGroup};
 ghost use Rattle.vrf_store.specs.Inner.WellFormed.{WellFormed};
 ghost use Rattle.vrf_store.specs.Inner.Stepped.{held};
 ghost use Rattle.vrf_cache.specs.Inner.Taken.{AddedBy};
 ghost use Rattle.vrf_checkpoint.specs.Inner.Groups.{CountReads, DeclaredReads};
+
+// How many fields were read, and the cursor after them.
+pub enum Fields {
+    Read(u64, Cursor),
+    Refused(Refusal),
+}
 
 // A group that was added: its index, its slot count, and the cursor at its first slot.
 enum Declared {
@@ -35,45 +41,52 @@ enum Declared {
 }
 
 // A filled slot: its handle, which must equal the slot, and its field. Answers 1, the count of fields read.
-fn read_field(s: &[u8], c: Cursor, m: &mut [u8], scratch: &mut [u8], index: u32, slot: u32) -> Bits
+fn read_field(
+    s: &[u8],
+    c: Cursor,
+    m: &mut [u8],
+    scratch: &mut [u8],
+    index: u32,
+    slot: u32,
+) -> Fields
     requires { ⌜ WellFormed (now m) × (4096 ≤ length (now scratch)) ⌝ }
     ensures { λ r. ⌜ CountReads (now (s .entry)) (blockField index slot) c (now (m .entry)) (now (m .exit)) 1 r ⌝ }
 {
     match c.read_int_packed(s) {
-        Word::Refused(r) => Bits::Refused(r),
+        Word::Refused(r) => Fields::Refused(r),
         Word::Value(handle, next) => {
             if handle != slot {
-                return Bits::Refused(Refusal {
+                return Fields::Refused(Refusal {
                     number: HANDLE_NOT_SLOT,
                     a: slot as u64,
                     b: handle as u64,
                 });
             }
             match named_field(s, next, m, scratch, index, handle) {
-                Advanced::Refused(r) => Bits::Refused(r),
-                Advanced::To(end) => Bits::Value(1, end),
+                Advanced::Refused(r) => Fields::Refused(r),
+                Advanced::To(end) => Fields::Read(1, end),
             }
         }
     }
 }
 
 // A slot byte is 0 for empty; a field follows any other. Answers the count of fields read.
-fn read_slot(s: &[u8], c: Cursor, m: &mut [u8], scratch: &mut [u8], index: u32, slot: u32) -> Bits
+fn read_slot(s: &[u8], c: Cursor, m: &mut [u8], scratch: &mut [u8], index: u32, slot: u32) -> Fields
     requires { ⌜ WellFormed (now m) × (4096 ≤ length (now scratch)) ⌝ }
     ensures { λ r. ⌜ CountReads (now (s .entry)) (blockSlot index slot) c (now (m .entry)) (now (m .exit)) 1 r ⌝ }
 {
     match c.read_u8(s) {
-        Byte::Refused(r) => Bits::Refused(r),
+        Byte::Refused(r) => Fields::Refused(r),
         Byte::Value(exported, next) => {
             if exported == 0 {
-                return Bits::Value(0, next);
+                return Fields::Read(0, next);
             }
             read_field(s, next, m, scratch, index, slot)
         }
     }
 }
 
-// The slots of a group. `fields` is the count of the block's fields before them.
+// The slots of a group.
 fn read_slots(
     s: &[u8],
     c: Cursor,
@@ -81,23 +94,22 @@ fn read_slots(
     scratch: &mut [u8],
     index: u32,
     slots: u32,
-    fields: u64,
-) -> Bits
-    requires { ⌜ WellFormed (now m) × (4096 ≤ length (now scratch)) × (slots ≤ 65536) × (fields < 2 ^ 63) ⌝ }
-    ensures { λ r. ⌜ CountReads (now (s .entry)) (blockSlots slots index 0 fields) c (now (m .entry)) (now (m .exit)) (fields + 65536) r ⌝ }
+) -> Fields
+    requires { ⌜ WellFormed (now m) × (4096 ≤ length (now scratch)) × (slots ≤ 65536) ⌝ }
+    ensures { λ r. ⌜ CountReads (now (s .entry)) (sumFrom slots 0 (blockSlot index)) c (now (m .entry)) (now (m .exit)) 65536 r ⌝ }
 {
     let mut at = c;
-    let mut total = fields;
+    let mut filled: u64 = 0;
     for slot in 0..slots {
         match read_slot(s, at, m, scratch, index, slot) {
-            Bits::Refused(r) => return Bits::Refused(r),
-            Bits::Value(more, next) => {
-                total += more;
+            Fields::Refused(r) => return Fields::Refused(r),
+            Fields::Read(more, next) => {
+                filled += more;
                 at = next;
             }
         }
     }
-    Bits::Value(total, at)
+    Fields::Read(filled, at)
 }
 
 // Whether a group has this index, or has this path as a key.
@@ -114,7 +126,7 @@ fn is_found(m: &[u8], path: &[u8], index: u32) -> bool
     }
 }
 
-// 34 if index or path is already found; otherwise the group is added.
+// 34 if index or path is already found; otherwise the group is appended, without looking for them again.
 fn add_first(m: &mut [u8], path: &[u8], index: u32, slots: u32) -> Added
     requires { ⌜ WellFormed (now m) × IsText (now path) × (slots ≤ 65536) ⌝ }
     ensures { λ r. ⌜ AddedBy (addFirst (now (path .entry)) index slots (held (now (m .entry)))) (now (m .entry)) (now (m .exit)) r ⌝ }
@@ -126,7 +138,7 @@ fn add_first(m: &mut [u8], path: &[u8], index: u32, slots: u32) -> Added
             b: 0,
         });
     }
-    add_export_group(m, path, index, slots)
+    append_group(m, path, index, slots)
 }
 
 // What follows the path of a group: index and slots. Then the group is added.
@@ -155,43 +167,35 @@ fn read_declared(s: &[u8], c: Cursor, m: &mut [u8], path: &[u8]) -> Declared
     }
 }
 
-// One group with its slots. `fields` is the count of the block's fields before it.
-fn read_group(s: &[u8], c: Cursor, m: &mut [u8], scratch: &mut [u8], fields: u64) -> Bits
-    requires { ⌜ WellFormed (now m) × (4096 ≤ length (now scratch)) × (fields < 2 ^ 63) ⌝ }
-    ensures { λ r. ⌜ CountReads (now (s .entry)) (blockGroup fields) c (now (m .entry)) (now (m .exit)) (fields + 65536) r ⌝ }
+// One group with its slots.
+fn read_group(s: &[u8], c: Cursor, m: &mut [u8], scratch: &mut [u8]) -> Fields
+    requires { ⌜ WellFormed (now m) × (4096 ≤ length (now scratch)) ⌝ }
+    ensures { λ r. ⌜ CountReads (now (s .entry)) blockGroup c (now (m .entry)) (now (m .exit)) 65536 r ⌝ }
 {
     match read_text(s, c, scratch) {
-        Text::Refused(r) => Bits::Refused(r),
+        Text::Refused(r) => Fields::Refused(r),
         Text::Read(n, next) => match read_declared(s, next, m, &scratch[..n as usize]) {
-            Declared::Refused(r) => Bits::Refused(r),
-            Declared::Slots(index, slots, end) => read_slots(
-                s,
-                end,
-                m,
-                scratch,
-                index,
-                slots,
-                fields,
-            ),
+            Declared::Refused(r) => Fields::Refused(r),
+            Declared::Slots(index, slots, end) => read_slots(s, end, m, scratch, index, slots),
         },
     }
 }
 
 // Answers the count of all fields read.
-pub fn read_groups(s: &[u8], c: Cursor, m: &mut [u8], scratch: &mut [u8], n: u32) -> Bits
+pub fn read_groups(s: &[u8], c: Cursor, m: &mut [u8], scratch: &mut [u8], n: u32) -> Fields
     requires { ⌜ WellFormed (now m) × (4096 ≤ length (now scratch)) × (n ≤ 100000) ⌝ }
-    ensures { λ r. ⌜ CountReads (now (s .entry)) (blockGroups n 0) c (now (m .entry)) (now (m .exit)) (65536 * n) r ⌝ }
+    ensures { λ r. ⌜ CountReads (now (s .entry)) (sumFrom n 0 (λ _. blockGroup)) c (now (m .entry)) (now (m .exit)) (65536 * n) r ⌝ }
 {
     let mut at = c;
     let mut fields: u64 = 0;
     for _ in 0..n {
-        match read_group(s, at, m, scratch, fields) {
-            Bits::Refused(r) => return Bits::Refused(r),
-            Bits::Value(total, next) => {
-                fields = total;
+        match read_group(s, at, m, scratch) {
+            Fields::Refused(r) => return Fields::Refused(r),
+            Fields::Read(more, next) => {
+                fields += more;
                 at = next;
             }
         }
     }
-    Bits::Value(fields, at)
+    Fields::Read(fields, at)
 }

@@ -18,11 +18,11 @@ ghost use Prim.Native.Nat.{_≤_, _<_};
 ghost use lib.ListN.{length};
 ghost use Rattle.vrf_bitio.specs.Answers.{readAt};
 ghost use Rattle.vrf_text.specs.Text.{IsText, fstring};
-ghost use Rattle.vrf_model.specs.Block.{literal, resolved, blockGuid, blockGuids};
+ghost use Rattle.vrf_model.specs.Block.{noPaths, literal, resolved, byTable, blockGuid, blockGuids};
 ghost use Rattle.vrf_store.specs.Store.{allowancesOf};
 ghost use Rattle.vrf_store.specs.Inner.WellFormed.{WellFormed};
 ghost use Rattle.vrf_reader.specs.Inner.Texts.{TextIn};
-ghost use Rattle.vrf_checkpoint.specs.Inner.Guids.{BeforeEntry, atLiteral, pathAt, PathBy, named, EntryEnd, guidFrom, GuidReads, GuidBy, noTable};
+ghost use Rattle.vrf_checkpoint.specs.Inner.Guids.{BeforeEntry, atLiteral, pathAt, PathBy, EntryEnd, guidFrom, GuidReads, GuidBy};
 
 // Counts of the GUID entries so far: literals (kind 1), kind 0 entries, places resolved.
 pub struct Paths {
@@ -138,7 +138,7 @@ fn read_path(s: &[u8], c: Cursor, m: &mut [u8], scratch: &mut [u8], entry: u32, 
 // The flags byte after a path; then the GUID is set.
 fn read_end(s: &[u8], c: Cursor, m: &mut [u8], path: &[u8], guid: u32, outer: u32) -> Advanced
     requires { ⌜ WellFormed (now m) × IsText (now path) ⌝ }
-    ensures { λ r. ⌜ EntryEnd (now (s .entry)) (named guid outer (now (path .entry))) c (now (m .entry)) (now (m .exit)) r ⌝ }
+    ensures { λ r. ⌜ EntryEnd (now (s .entry)) guid (now (path .entry)) outer c (now (m .entry)) (now (m .exit)) r ⌝ }
 {
     match c.read_u8(s) {
         Byte::Refused(r) => Advanced::Refused(r),
@@ -175,7 +175,7 @@ fn read_named(
 // One entry: GUID, outer, and what follows them.
 fn read_guid(s: &[u8], c: Cursor, m: &mut [u8], scratch: &mut [u8], entry: u32, t: Paths) -> Guids
     requires { ⌜ BeforeEntry (now s) c (now m) (now scratch) entry t ⌝ }
-    ensures { λ r. ⌜ GuidBy (blockGuid entry) (now (s .entry)) c (now (m .entry)) (now (m .exit)) entry t r ⌝ }
+    ensures { λ r. ⌜ GuidBy (blockGuid byTable entry) (now (s .entry)) c (now (m .entry)) (now (m .exit)) entry t r ⌝ }
 {
     match c.read_int_packed(s) {
         Word::Refused(r) => Guids::Refused(r),
@@ -188,7 +188,7 @@ fn read_guid(s: &[u8], c: Cursor, m: &mut [u8], scratch: &mut [u8], entry: u32, 
 
 pub fn read_guids(s: &[u8], c: Cursor, m: &mut [u8], scratch: &mut [u8], n: u32) -> Guids
     requires { ⌜ WellFormed (now m) × (4096 ≤ length (now scratch)) × (n ≤ 1000000) ⌝ }
-    ensures { λ r. ⌜ GuidReads (now (s .entry)) (blockGuids n 0 noTable) c (now (m .entry)) (now (m .exit)) n r ⌝ }
+    ensures { λ r. ⌜ GuidReads (now (s .entry)) (blockGuids byTable n 0 noPaths) c (now (m .entry)) (now (m .exit)) n r ⌝ }
 {
     let mut at = c;
     let mut t = Paths {

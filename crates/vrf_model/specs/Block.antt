@@ -6,13 +6,13 @@ use Prim.Native.Nat.{ℕ, zero, suc, _+_, _/_}
 use lib.Dec.{eqb, ltb}
 use lib.ListN.{length, getD}
 use Rattle.vrf_bitio.specs.Reading.{position}
-use Rattle.vrf_bitio.specs.Number.{byte, word32, packed}
+use Rattle.vrf_bitio.specs.Number.{byte, word32}
 use Rattle.vrf_text.specs.Text.{fstring}
-use Rattle.vrf_model.specs.Book.{Content, none-counted}
+use Rattle.vrf_model.specs.Book.{Content, noIncrement}
 use Rattle.vrf_model.specs.Lookup.{pathPlace, indexPlace}
 use Rattle.vrf_model.specs.Setting.{Step, done, refuses, setGuid, addGroup, setField}
-use Rattle.vrf_model.specs.Names.{fname}
-use Rattle.vrf_model.specs.Parser.{Parser, return, fail, _>>=_, read, step}
+use Rattle.vrf_model.specs.Names.{number, fname}
+use Rattle.vrf_model.specs.Parser.{Parser, return, fail, _>>=_, read, step, sumFrom}
 
 -- seven counts return: GUIDs, groups, filled slots read, end byte, kind 0 entries, kind 1 entries, places resolved
 pub record BlockCounts : Type 0 where
@@ -26,52 +26,67 @@ pub record BlockCounts : Type 0 where
 
 -- ---- GUIDs
 
--- of the GUID entries read so far: this block's literals, the number of kind 0 entries, the number of places resolved
+-- of the GUID entries read so far: the paths that a place can refer to, and the numbers of kind 1 entries, of kind 0 entries and of places
+-- resolved
 pub record PathTable : Type 0 where
-  pub literals : List (List ℕ)
+  pub paths : List (List ℕ)
+  pub literals : ℕ
   pub indexed : ℕ
   pub resolved : ℕ
 
+unfoldable pub noPaths : PathTable
+noPaths = record { paths = []; literals = 0; indexed = 0; resolved = 0 }
+
+-- how the entries of a block give their paths: a kind 0 entry, given its number, and a kind 1 entry. Each answers the path and the table
+-- with this entry
+pub record PathRule : Type 0 where
+  pub place : ℕ → PathTable → Parser (List ℕ × PathTable)
+  pub text : PathTable → Parser (List ℕ × PathTable)
+
 -- literals are taken against allowance 5; n is the count with this one
 unfoldable pub takeLiteral : ℕ → Content → Step (Unit {0})
-takeLiteral n c = cond (ltb (c .allowed .literals) n) (refuses 42 5 0) (done tt c none-counted)
+takeLiteral n c = cond (ltb (c .allowed .literals) n) (refuses 42 5 0) (done tt c noIncrement)
 
 -- text (kind 1)
 unfoldable pub literal : PathTable → Parser (List ℕ × PathTable)
 literal t = do
   path ← read fstring
-  u ← step (takeLiteral (length (t .literals) + 1))
-  return (path, record { literals = t .literals ++ (path ∷ []); indexed = t .indexed; resolved = t .resolved })
+  u ← step (takeLiteral (t .literals + 1))
+  return (path, record { paths = t .paths ++ (path ∷ []); literals = t .literals + 1; indexed = t .indexed; resolved = t .resolved })
 
 -- packed place among this block's earlier literals (kind 0); 33: no such place
 unfoldable pub resolved : ℕ → PathTable → Parser (List ℕ × PathTable)
 resolved entry t = do
-  place ← read packed
-  cond (ltb place (length (t .literals)))
-      (return (getD (t .literals) place [], record { literals = t .literals; indexed = t .indexed + 1; resolved = t .resolved + 1 }))
+  place ← read number
+  cond (ltb place (length (t .paths)))
+      (return (getD (t .paths) place [], record { paths = t .paths; literals = t .literals; indexed = t .indexed + 1; resolved = t .resolved + 1 }))
       (fail 33 entry place)
 
+-- the rule of document 01: a place is one among this block's earlier literals
+unfoldable pub byTable : PathRule
+byTable = record { place = resolved; text = literal }
+
 -- Decision over the kind byte: 0 place, 1 text; 32: any other
-unfoldable pub pathOfKind : ℕ → PathTable → ℕ → Parser (List ℕ × PathTable)
-pathOfKind entry t kind = cond (eqb kind 0) (resolved entry t) (cond (eqb kind 1) (literal t) (fail 32 entry kind))
+unfoldable pub pathOfKind : PathRule → ℕ → PathTable → ℕ → Parser (List ℕ × PathTable)
+pathOfKind rule entry t kind = cond (eqb kind 0) (rule .place entry t) (cond (eqb kind 1) (rule .text t) (fail 32 entry kind))
 
 -- per GUID: GUID and outer packed, kind byte, then text or place, flags byte
-unfoldable pub blockGuid : ℕ → PathTable → Parser PathTable
-blockGuid entry t = do
-  guid ← read packed
-  outer ← read packed
+unfoldable pub blockGuid : PathRule → ℕ → PathTable → Parser PathTable
+blockGuid rule entry t = do
+  guid ← read number
+  outer ← read number
   kind ← read byte
-  p ← pathOfKind entry t kind
+  p ← pathOfKind rule entry t kind
   flags ← read byte
-  u ← step (setGuid (record { guid = guid; path = p .0; outer = outer }))
+  u ← step (setGuid guid (p .0) outer)
   return (p .1)
 
 -- n GUIDs; entry is the number of the first
-unfoldable pub blockGuids : ℕ → ℕ → PathTable → Parser PathTable
-blockGuids zero entry t = return t
-blockGuids (suc n) entry t = do
-  t′ ← blockGuid entry t
-  blockGuids n (entry + 1) t′
+unfoldable pub blockGuids : PathRule → ℕ → ℕ → PathTable → Parser PathTable
+blockGuids rule zero entry t = return t
+blockGuids rule (suc n) entry t = do
+  t′ ← blockGuid rule entry t
+  blockGuids rule n (entry + 1) t′
 
 -- ---- groups
 
@@ -89,44 +104,30 @@ addFirst path index slots c =
 unfoldable pub sameHandle : ℕ → ℕ → Parser (Unit {0})
 sameHandle slot handle = cond (eqb handle slot) (return tt) (fail 35 slot handle)
 
--- handle packed (equal to the slot), checksum, name; it answers 1, the count of fields read
+-- handle packed (equal to the slot), checksum, name; it answers 1, for one filled slot
 unfoldable pub blockField : ℕ → ℕ → Parser ℕ
 blockField index slot = do
-  handle ← read packed
+  handle ← read number
   u ← sameHandle slot handle
   checksum ← read word32
   name ← read fname
   placed ← step (setField index handle checksum name)
   return 1
 
--- per slot a byte, 0 empty, else a field; it answers how many fields were read
+-- per slot a byte, 0 empty, else a field; it answers how many slots were filled, 0 or 1
 unfoldable pub blockSlot : ℕ → ℕ → Parser ℕ
 blockSlot index slot = do
   exported ← read byte
   cond (eqb exported 0) (return 0) (blockField index slot)
 
--- n slots; slot is the first, and fields the count of fields so far
-unfoldable pub blockSlots : ℕ → ℕ → ℕ → ℕ → Parser ℕ
-blockSlots zero index slot fields = return fields
-blockSlots (suc n) index slot fields = do
-  f ← blockSlot index slot
-  blockSlots n index (slot + 1) (fields + f)
-
--- per group: path text, index packed, slots packed; 31 (3): slots above 65,536
-unfoldable pub blockGroup : ℕ → Parser ℕ
-blockGroup fields = do
+-- per group: path text, index packed, slots packed, then the slots; 31 (3): slots above 65,536. It answers how many slots were filled
+unfoldable pub blockGroup : Parser ℕ
+blockGroup = do
   path ← read fstring
-  index ← read packed
-  slots ← read packed
+  index ← read number
+  slots ← read number
   place ← cond (ltb 65536 slots) (fail 31 3 slots) (step (addFirst path index slots))
-  blockSlots slots index 0 fields
-
--- n groups; fields is the count of fields so far
-unfoldable pub blockGroups : ℕ → ℕ → Parser ℕ
-blockGroups zero fields = return fields
-blockGroups (suc n) fields = do
-  fields′ ← blockGroup fields
-  blockGroups n fields′
+  sumFrom slots 0 (blockSlot index)
 
 -- ---- the block
 
@@ -149,16 +150,16 @@ blockEnd w = do
   cond (eqb (p / 8) (w + 8)) (return (p / 8)) (fail 36 (p / 8) (w + 8))
 
 -- 32-bit word W, three zero words, GUID count, GUIDs, group count, groups, end byte
-unfoldable pub block : Parser BlockCounts
-block = do
+unfoldable pub block : PathRule → Parser BlockCounts
+block rule = do
   w ← read word32
   z4 ← zeroWord 4
   z8 ← zeroWord 8
   z12 ← zeroWord 12
   guids ← countUpTo 1 1000000
-  t ← blockGuids guids 0 (record { literals = []; indexed = 0; resolved = 0 })
+  t ← blockGuids rule guids 0 noPaths
   groups ← countUpTo 2 100000
-  fields ← blockGroups groups 0
+  fields ← sumFrom groups 0 (λ _. blockGroup)
   frame ← blockEnd w
   return (record {
     guids = guids;
@@ -166,6 +167,6 @@ block = do
     fields = fields;
     frame = frame;
     indexed = t .indexed;
-    literals = length (t .literals);
+    literals = t .literals;
     resolved = t .resolved;
   })

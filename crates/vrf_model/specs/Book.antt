@@ -38,8 +38,16 @@ pub record Content : Type 0 where
   pub guids : List Guid
   pub groups : List Group
 
--- five counters: the two generations, dropped, replaced, renamed
+-- five counters, modulo 2^64: the two generations, dropped, replaced, renamed
 pub record Counters : Type 0 where
+  pub schema : ℕ
+  pub guid : ℕ
+  pub dropped : ℕ
+  pub replaced : ℕ
+  pub renamed : ℕ
+
+-- what a step adds to each counter; these numbers are not reduced
+pub record Increments : Type 0 where
   pub schema : ℕ
   pub guid : ℕ
   pub dropped : ℕ
@@ -52,12 +60,11 @@ pub record Book : Type 0 where
 
 -- ---- counters
 
-unfoldable pub none-counted : Counters
-none-counted = record { schema = 0; guid = 0; dropped = 0; replaced = 0; renamed = 0 }
+unfoldable pub noIncrement : Increments
+noIncrement = record { schema = 0; guid = 0; dropped = 0; replaced = 0; renamed = 0 }
 
--- the sum, not reduced modulo 2^64
-unfoldable pub addCounters : Counters → Counters → Counters
-addCounters a b = record {
+unfoldable pub addIncrements : Increments → Increments → Increments
+addIncrements a b = record {
   schema = a .schema + b .schema;
   guid = a .guid + b .guid;
   dropped = a .dropped + b .dropped;
@@ -66,7 +73,7 @@ addCounters a b = record {
 }
 
 -- five counters go up modulo 2^64: a, stepped by b
-unfoldable pub stepped : Counters → Counters → Counters
+unfoldable pub stepped : Counters → Increments → Counters
 stepped a b = record {
   schema = (a .schema + b .schema) % 2 ^ 64;
   guid = (a .guid + b .guid) % 2 ^ 64;
@@ -77,11 +84,14 @@ stepped a b = record {
 
 -- ---- a freshly opened book
 
+unfoldable pub zeroCounters : Counters
+zeroCounters = record { schema = 0; guid = 0; dropped = 0; replaced = 0; renamed = 0 }
+
 unfoldable pub fresh : Allowances → Content
 fresh a = record { allowed = a; guids = []; groups = [] }
 
 unfoldable pub freshBook : Allowances → Book
-freshBook a = record { content = fresh a; counters = none-counted }
+freshBook a = record { content = fresh a; counters = zeroCounters }
 
 -- ---- what is held
 

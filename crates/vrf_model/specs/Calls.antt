@@ -8,13 +8,13 @@ use lib.ListN.{length}
 use Rattle.vrf_bitio.specs.Reading.{Read, ok, refused}
 use Rattle.vrf_bitio.specs.Window.{window}
 use Rattle.vrf_text.specs.Text.{CallerText, accepted, refusal, callerText}
-use Rattle.vrf_model.specs.Book.{Content, Counters, Book, none-counted, stepped}
+use Rattle.vrf_model.specs.Book.{Guid, Group, Content, Increments, Book, noIncrement, stepped}
 use Rattle.vrf_model.specs.Lookup.{placeOr, pathPlace, indexPlace, guidPlace, pathAt, indexAt, slotsAt, slotAt, slotChecksum, slotName, uniqueLeafMatch, resolveCnc, findClassNetCacheKey}
 use Rattle.vrf_model.specs.Lookup.{outerGuid, outerPath, gameplayTag}
 use Rattle.vrf_model.specs.Setting.{Step, done, refuses, setGuid, addGroup, setField, clear}
 use Rattle.vrf_model.specs.Parser.{Parsed, parsed, failed, Parser}
 use Rattle.vrf_model.specs.Runs.{fieldsRun, guidRun, objectAt}
-use Rattle.vrf_model.specs.Block.{BlockCounts, block}
+use Rattle.vrf_model.specs.Block.{BlockCounts, byTable, block}
 
 -- a window is bytes, a first bit and a bit count
 pub record Window : Type 0 where
@@ -26,8 +26,35 @@ pub record Window : Type 0 where
 unfoldable pub whole : List ℕ → Window
 whole s = record { bytes = s; first = 0; count = 8 * length s }
 
+-- lookups of groups: by index, path, tag, leaf or instance name, and what is at a place
+pub data GroupLookup : Type 0 where
+  get-group-by-index : ℕ → GroupLookup
+  get-group-by-path : List ℕ → GroupLookup
+  get-gameplay-tag-name : ℕ → GroupLookup
+  get-field : ℕ → ℕ → GroupLookup
+  unique-leaf-match : List ℕ → GroupLookup
+  resolve-cnc-for-instance-name : List ℕ → GroupLookup
+  find-class-net-cache-key : List ℕ → GroupLookup
+  -- path, index and slot count at a group place, a slot's name
+  group-path : ℕ → GroupLookup
+  group-index : ℕ → GroupLookup
+  group-slots : ℕ → GroupLookup
+  field-name : ℕ → ℕ → GroupLookup
+
+-- lookups of GUIDs
+pub data GuidLookup : Type 0 where
+  get-path-by-guid : ℕ → GuidLookup
+  get-outer-guid : ℕ → GuidLookup
+  get-outer-path : ℕ → GuidLookup
+  -- the path at a GUID place
+  guid-path : ℕ → GuidLookup
+
+pub data Lookup : Type 0 where
+  of-groups : GroupLookup → Lookup
+  of-guids : GuidLookup → Lookup
+
+-- the book calls: those that can change a book, and the lookups
 pub data Call : Type 0 where
-  -- the book calls
   clear-book : Call
   add-export-group : List ℕ → ℕ → ℕ → Call
   set-field-on-group : ℕ → ℕ → ℕ → List ℕ → Call
@@ -36,23 +63,7 @@ pub data Call : Type 0 where
   read-export-guids : Window → Call
   load-object : Window → Bool → ℕ → Call
   read-checkpoint-tables : Window → Call
-  -- the lookups
-  get-group-by-index : ℕ → Call
-  get-group-by-path : List ℕ → Call
-  get-path-by-guid : ℕ → Call
-  get-outer-guid : ℕ → Call
-  get-outer-path : ℕ → Call
-  get-gameplay-tag-name : ℕ → Call
-  get-field : ℕ → ℕ → Call
-  unique-leaf-match : List ℕ → Call
-  resolve-cnc-for-instance-name : List ℕ → Call
-  find-class-net-cache-key : List ℕ → Call
-  -- path, index and slot count at a group place, a slot's name, and the path at a GUID place
-  group-path : ℕ → Call
-  group-index : ℕ → Call
-  group-slots : ℕ → Call
-  field-name : ℕ → ℕ → Call
-  guid-path : ℕ → Call
+  lookup : Lookup → Call
 
 pub data Answer : Type 0 where
   -- a refusal carries a number and details a, b
@@ -78,11 +89,45 @@ pub data Answer : Type 0 where
 pub record Result : Type 0 where
   pub answer : Answer
   pub content : Content
-  pub counted : Counters
+  pub counted : Increments
+
+-- caller's text: 40, then 41; both come before every other check of the call. `refuse` makes a refusal of its number, a and b
+unfoldable pub ifTextAccepted : {A : Type 0} → (ℕ → ℕ → ℕ → A) → CallerText → A → A
+ifTextAccepted refuse accepted x = x
+ifTextAccepted refuse (refusal n a b) x = refuse n a b
+
+-- ---- lookups
+
+-- what a lookup of groups answers: it depends on the group list alone
+unfoldable pub lookGroups : GroupLookup → List Group → Answer
+lookGroups (get-group-by-index index) groups = found (indexPlace index groups)
+lookGroups (get-group-by-path path) groups = ifTextAccepted refusal-of (callerText path) (found (pathPlace path groups))
+lookGroups (get-gameplay-tag-name tag) groups = found (gameplayTag tag groups)
+lookGroups (get-field place slot) groups = found (slotChecksum (slotAt groups place slot))
+lookGroups (unique-leaf-match name) groups = ifTextAccepted refusal-of (callerText name) (found (uniqueLeafMatch name groups))
+lookGroups (resolve-cnc-for-instance-name name) groups = ifTextAccepted refusal-of (callerText name) (found (resolveCnc name groups))
+lookGroups (find-class-net-cache-key path) groups = ifTextAccepted refusal-of (callerText path) (found (findClassNetCacheKey path groups))
+lookGroups (group-path place) groups = text (pathAt groups place)
+lookGroups (group-index place) groups = number (indexAt groups place)
+lookGroups (group-slots place) groups = number (slotsAt groups place)
+lookGroups (field-name place slot) groups = text (slotName (slotAt groups place slot))
+
+-- what a lookup of GUIDs answers: it depends on the GUID list alone
+unfoldable pub lookGuids : GuidLookup → List Guid → Answer
+lookGuids (get-path-by-guid guid) guids = found (guidPlace guid guids)
+lookGuids (get-outer-guid guid) guids = found (outerGuid guid guids)
+lookGuids (get-outer-path guid) guids = found (outerPath guid guids)
+lookGuids (guid-path place) guids = text (placeOr (λ r. r .path) [] guids place)
+
+unfoldable pub look : Lookup → Content → Answer
+look (of-groups l) c = lookGroups l (c .groups)
+look (of-guids l) c = lookGuids l (c .guids)
+
+-- ---- calls
 
 -- no content and no counter changes
 unfoldable pub unchanged : Content → Answer → Result
-unchanged c a = record { answer = a; content = c; counted = none-counted }
+unchanged c a = record { answer = a; content = c; counted = noIncrement }
 
 -- a refusal changes no book content or counter, unless the call is a reader
 unfoldable pub ofStep : {A : Type 0} → (A → Answer) → Content → Step A → Result
@@ -96,16 +141,11 @@ ofParsed f (failed n a b c t) = record { answer = refusal-of n a b; content = c;
 
 -- window: 43 and 15 are checked before anything is read
 unfoldable pub readOpened : {A : Type 0} → (A → ℕ → Answer) → Parser A → Content → Read (ℕ × ℕ) → Result
-readOpened f r c (ok w p l) = ofParsed f (r p l c none-counted)
+readOpened f r c (ok w p l) = ofParsed f (r p l c noIncrement)
 readOpened f r c (refused n a b) = unchanged c (refusal-of n a b)
 
 unfoldable pub readWindow : {A : Type 0} → Window → (A → ℕ → Answer) → Parser A → Content → Result
 readWindow w f r c = readOpened f r c (window (w .bytes) (w .first) (w .count))
-
--- caller's text: 40, then 41; both come before every other check of the call
-unfoldable pub ifTextAccepted : Content → CallerText → Result → Result
-ifTextAccepted c accepted r = r
-ifTextAccepted c (refusal n a b) r = unchanged c (refusal-of n a b)
 
 -- adding: 22 (a direct call) slots above 65,536
 unfoldable pub addDirectly : List ℕ → ℕ → ℕ → Content → Step ℕ
@@ -114,28 +154,14 @@ addDirectly path index slots c = cond (ltb 65536 slots) (refuses 22 slots 0) (ad
 -- what each call answers, the content that it leaves, and what it counts
 unfoldable pub run : Call → Content → Result
 run clear-book c = ofStep (λ u. acted) c (clear c)
-run (add-export-group path index slots) c = ifTextAccepted c (callerText path) (ofStep at-place c (addDirectly path index slots c))
-run (set-field-on-group index handle checksum name) c = ifTextAccepted c (callerText name) (ofStep field-placed c (setField index handle checksum name c))
-run (set-net-guid-path guid path outer) c = ifTextAccepted c (callerText path) (ofStep (λ u. acted) c (setGuid (record { guid = guid; path = path; outer = outer }) c))
+run (add-export-group path index slots) c = ofStep at-place c (ifTextAccepted refuses (callerText path) (addDirectly path index slots c))
+run (set-field-on-group index handle checksum name) c = ofStep field-placed c (ifTextAccepted refuses (callerText name) (setField index handle checksum name c))
+run (set-net-guid-path guid path outer) c = ofStep (λ u. acted) c (ifTextAccepted refuses (callerText path) (setGuid guid path outer c))
 run (read-net-field-exports w) c = readWindow w ran fieldsRun c
 run (read-export-guids w) c = readWindow w ran guidRun c
 run (load-object w exporting depth) c = readWindow w ran (objectAt depth exporting) c
-run (read-checkpoint-tables w) c = readWindow w (λ n p. block-counts n) block c
-run (get-group-by-index index) c = unchanged c (found (indexPlace index (c .groups)))
-run (get-group-by-path path) c = ifTextAccepted c (callerText path) (unchanged c (found (pathPlace path (c .groups))))
-run (get-path-by-guid guid) c = unchanged c (found (guidPlace guid (c .guids)))
-run (get-outer-guid guid) c = unchanged c (found (outerGuid guid (c .guids)))
-run (get-outer-path guid) c = unchanged c (found (outerPath guid (c .guids)))
-run (get-gameplay-tag-name tag) c = unchanged c (found (gameplayTag tag (c .groups)))
-run (get-field place slot) c = unchanged c (found (slotChecksum (slotAt (c .groups) place slot)))
-run (unique-leaf-match name) c = ifTextAccepted c (callerText name) (unchanged c (found (uniqueLeafMatch name (c .groups))))
-run (resolve-cnc-for-instance-name name) c = ifTextAccepted c (callerText name) (unchanged c (found (resolveCnc name (c .groups))))
-run (find-class-net-cache-key path) c = ifTextAccepted c (callerText path) (unchanged c (found (findClassNetCacheKey path (c .groups))))
-run (group-path place) c = unchanged c (text (pathAt (c .groups) place))
-run (group-index place) c = unchanged c (number (indexAt (c .groups) place))
-run (group-slots place) c = unchanged c (number (slotsAt (c .groups) place))
-run (field-name place slot) c = unchanged c (text (slotName (slotAt (c .groups) place slot)))
-run (guid-path place) c = unchanged c (text (placeOr (λ r. r .path) [] (c .guids) place))
+run (read-checkpoint-tables w) c = readWindow w (λ n p. block-counts n) (block byTable) c
+run (lookup l) c = unchanged c (look l c)
 
 -- a call on a book: the counters go up by what the call counted. The content does not depend on them
 unfoldable pub runBook : Call → Book → Book

@@ -1,5 +1,5 @@
--- What demand 3 is stated with (`Demand3` in `vrf_schema`): the counts of a written block, when writing is refused, how far counters are
--- apart, and which calls look up groups.
+-- What demand 3 is stated with (`Demand3` in `vrf_schema`): the counts of a written block and the counters after reading it, when writing
+-- is refused, and how far counters are apart.
 use mathlib.Core.Path.{_≡_}
 use mathlib.Core.List.{List}
 use mathlib.Core.Logic.{_↔_, _⊎_}
@@ -8,8 +8,6 @@ use lib.ListN.{length}
 use Rattle.vrf_model.specs.Book.{Content, Counters, heldFields}
 use Rattle.vrf_model.specs.Block.{BlockCounts}
 use Rattle.vrf_model.specs.Writer.{encodeBook, Written, written, notWritten, write}
-use Rattle.vrf_model.specs.Calls.{Call, get-group-by-index, get-group-by-path, get-gameplay-tag-name, get-field, unique-leaf-match, resolve-cnc-for-instance-name, find-class-net-cache-key}
-use Rattle.vrf_model.specs.Calls.{group-path, group-index, group-slots, field-name}
 use Rattle.vrf_model.specs.Clash.{NoClash, FirstClash, SomeClash}
 
 -- ---- the counts of a written block
@@ -25,6 +23,10 @@ countsOfBlock c = record {
   literals = length (c .guids);
   resolved = 0;
 }
+
+-- the counters of a fresh book that has read a written block: a generation steps for each group and for each GUID
+unfoldable pub countersOfBlock : Content → Counters
+countersOfBlock c = record { schema = length (c .groups); guid = length (c .guids); dropped = 0; replaced = 0; renamed = 0 }
 
 -- ---- when writing is refused
 
@@ -79,19 +81,3 @@ apart a b = record {
   replaced = ahead (a .replaced) (b .replaced);
   renamed = ahead (a .renamed) (b .renamed);
 }
-
--- ---- lookups of groups
-
--- the calls that look up groups: by path, index, leaf or tag, and by place
-pub data OfGroups : Call → Type 0 where
-  by-index : (index : ℕ) → OfGroups (get-group-by-index index)
-  by-path : (path : List ℕ) → OfGroups (get-group-by-path path)
-  by-tag : (tag : ℕ) → OfGroups (get-gameplay-tag-name tag)
-  by-slot : (place slot : ℕ) → OfGroups (get-field place slot)
-  by-leaf : (name : List ℕ) → OfGroups (unique-leaf-match name)
-  by-instance : (name : List ℕ) → OfGroups (resolve-cnc-for-instance-name name)
-  by-class : (path : List ℕ) → OfGroups (find-class-net-cache-key path)
-  path-at : (place : ℕ) → OfGroups (group-path place)
-  index-at : (place : ℕ) → OfGroups (group-index place)
-  slots-at : (place : ℕ) → OfGroups (group-slots place)
-  name-at : (place slot : ℕ) → OfGroups (field-name place slot)

@@ -1,4 +1,4 @@
--- The book's rules (document 01, The book), which hold of every book that these calls made; and which calls a typed program can make.
+-- The book's rules (document 01, The book), which hold of every book that these calls made.
 use mathlib.Core.Path.{_≡_}
 use mathlib.Core.List.{List, [], _∷_}
 use mathlib.Core.Option.{none}
@@ -8,9 +8,6 @@ use lib.ListN.{length}
 use Rattle.vrf_text.specs.Text.{IsText}
 use Rattle.vrf_model.specs.Book.{Guid, Slot, empty, filled, Group, Allowances, Content, heldFields, heldText}
 use Rattle.vrf_model.specs.Lookup.{lastPlace}
-use Rattle.vrf_model.specs.Calls.{Call, clear-book, add-export-group, set-field-on-group, set-net-guid-path, read-net-field-exports, read-export-guids, load-object, read-checkpoint-tables}
-use Rattle.vrf_model.specs.Calls.{get-group-by-index, get-group-by-path, get-path-by-guid, get-outer-guid, get-outer-path, get-gameplay-tag-name, get-field, unique-leaf-match}
-use Rattle.vrf_model.specs.Calls.{resolve-cnc-for-instance-name, find-class-net-cache-key, group-path, group-index, group-slots, field-name, guid-path}
 
 -- P holds of each element
 pub data Each {A : Type 0} (P : A → Type 0) : List A → Type 0 where
@@ -68,29 +65,3 @@ pub record Lawful (a : Allowances) (c : Content) : Type 0 where
   pub groups : Each LawfulGroup (c .groups)
   pub indices-distinct : Distinct (λ g. g .index) (c .groups)
   pub within : WithinAllowances c
-
--- a call that a typed program can make: those of its numbers that a book stores have 32 bits
-abbrev pub Sized : Call → Type 0
-Sized clear-book = Unit {0}
-Sized (add-export-group path index slots) = Is32 index
-Sized (set-field-on-group index handle checksum name) = Is32 checksum
-Sized (set-net-guid-path guid path outer) = Is32 guid × Is32 outer
-Sized (read-net-field-exports w) = Unit {0}
-Sized (read-export-guids w) = Unit {0}
-Sized (load-object w exporting depth) = Unit {0}
-Sized (read-checkpoint-tables w) = Unit {0}
-Sized (get-group-by-index index) = Unit {0}
-Sized (get-group-by-path path) = Unit {0}
-Sized (get-path-by-guid guid) = Unit {0}
-Sized (get-outer-guid guid) = Unit {0}
-Sized (get-outer-path guid) = Unit {0}
-Sized (get-gameplay-tag-name tag) = Unit {0}
-Sized (get-field place slot) = Unit {0}
-Sized (unique-leaf-match name) = Unit {0}
-Sized (resolve-cnc-for-instance-name name) = Unit {0}
-Sized (find-class-net-cache-key path) = Unit {0}
-Sized (group-path place) = Unit {0}
-Sized (group-index place) = Unit {0}
-Sized (group-slots place) = Unit {0}
-Sized (field-name place slot) = Unit {0}
-Sized (guid-path place) = Unit {0}

@@ -7,7 +7,10 @@ pub mod Clash
 pub mod Untouched
 pub mod Answers
 pub mod Held
-pub mod Lawful
+pub mod Readings
+pub mod Names
+pub mod Allowed
+pub mod Calls
 pub mod Parser
 pub mod ReadBack
 pub mod Writer

@@ -31,6 +31,11 @@ unfoldable pub lastPlace : {A : Type 0} → (A → Bool) → List A → Option �
 lastPlace p [] = none
 lastPlace p (a ∷ l) = restOrHead (p a) (lastPlace p l)
 
+-- the places of a list at which a test holds, in order; its first element has place i
+unfoldable pub placesFrom : {A : Type 0} → ℕ → (A → Bool) → List A → List ℕ
+placesFrom i p [] = []
+placesFrom i p (a ∷ l) = cond (p a) (i ∷ placesFrom (suc i) p l) (placesFrom (suc i) p l)
+
 -- f of the element at place i; d if there is no such place
 unfoldable pub placeOr : {A B : Type 0} → (A → B) → B → List A → ℕ → B
 placeOr f d [] i = d
@@ -91,18 +96,14 @@ leafIs l (some t) = same t l
 unfoldable pub hasLeaf : List ℕ → Group → Bool
 hasLeaf l g = leafIs l (leaf (g .path))
 
--- the claim in a list, from whether its head has the leaf and from the claim in its rest
-unfoldable pub claimWithHead : Bool → Claim → Claim
-claimWithHead true absent = claimed 0
-claimWithHead true ambiguous = ambiguous
-claimWithHead true (claimed i) = ambiguous
-claimWithHead false absent = absent
-claimWithHead false ambiguous = ambiguous
-claimWithHead false (claimed i) = claimed (suc i)
+-- the claim, from the places of the groups that have the leaf
+unfoldable pub claimOfPlaces : List ℕ → Claim
+claimOfPlaces [] = absent
+claimOfPlaces (i ∷ []) = claimed i
+claimOfPlaces (i ∷ j ∷ more) = ambiguous
 
 unfoldable pub leafClaim : List ℕ → List Group → Claim
-leafClaim l [] = absent
-leafClaim l (g ∷ gs) = claimWithHead (hasLeaf l g) (leafClaim l gs)
+leafClaim l groups = claimOfPlaces (placesFrom 0 (hasLeaf l) groups)
 
 -- ---- resolutions
 

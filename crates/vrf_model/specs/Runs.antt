@@ -2,29 +2,36 @@
 use mathlib.Core.Bool.{Bool, true, cond, _||_}
 use mathlib.Core.List.{List, [], _∷_}
 use mathlib.Core.Option.{Option, none, some}
-use Prim.Native.Nat.{ℕ, zero, suc, _+_, _-_, _*_, _/_, _%_, _^_}
+use Prim.Native.Nat.{ℕ, zero, suc, _-_, _/_, _%_, _^_}
 use lib.Dec.{eqb, leb, ltb}
-use lib.ListN.{length, take, drop}
-use Rattle.vrf_bitio.specs.Number.{byte, word32, packed}
+use lib.ListN.{length}
+use Rattle.vrf_bitio.specs.Number.{byte, word32, bytes}
 use Rattle.vrf_text.specs.Text.{fstring}
-use Rattle.vrf_model.specs.Book.{Content, none-counted}
+use Rattle.vrf_model.specs.Book.{Content, noIncrement}
 use Rattle.vrf_model.specs.Lookup.{indexPlace}
 use Rattle.vrf_model.specs.Setting.{Step, done, refuses, setGuid, addGroup, setField}
-use Rattle.vrf_model.specs.Names.{fname}
+use Rattle.vrf_model.specs.Names.{number, fname}
 use Rattle.vrf_model.specs.Parser.{Parsed, parsed, failed, Parser, return, fail, _>>=_, read, step, times}
+
+-- a run: its count, then that many entries; it answers its count
+unfoldable pub runOf : Parser (Unit {0}) → Parser ℕ
+runOf entry = do
+  n ← read number
+  u ← times n entry
+  return n
 
 -- ---- fields run
 
 -- 20: unknown index
 unfoldable pub known : ℕ → Content → Option ℕ → Step (Unit {0})
 known index c none = refuses 20 index 0
-known index c (some i) = done tt c none-counted
+known index c (some i) = done tt c noIncrement
 
 -- a group that the run declares; 22: slots above 65,536
 unfoldable pub declaredGroup : ℕ → Parser (Unit {0})
 declaredGroup index = do
   path ← read fstring
-  slots ← read packed
+  slots ← read number
   place ← cond (ltb 65536 slots) (fail 22 slots 0) (step (addGroup path index slots))
   return tt
 
@@ -38,7 +45,7 @@ groupOf index flag =
 -- a field: handle, checksum, name
 unfoldable pub exportedField : ℕ → Parser (Unit {0})
 exportedField index = do
-  handle ← read packed
+  handle ← read number
   checksum ← read word32
   name ← read fname
   placed ← step (setField index handle checksum name)
@@ -47,18 +54,15 @@ exportedField index = do
 -- one export: its group, then a field if the byte is not 0
 unfoldable pub exportEntry : Parser (Unit {0})
 exportEntry = do
-  index ← read packed
-  flag ← read packed
+  index ← read number
+  flag ← read number
   u ← groupOf index flag
   hasField ← read byte
   cond (eqb hasField 0) (return tt) (exportedField index)
 
 -- `read_net_field_exports` answers its count
 unfoldable pub fieldsRun : Parser ℕ
-fieldsRun = do
-  n ← read packed
-  u ← times n exportEntry
-  return n
+fieldsRun = runOf exportEntry
 
 -- ---- load_object
 
@@ -73,23 +77,23 @@ skipChecksum flags = cond (eqb (flags / 4 % 2) 1) (do
   return tt) (return tt)
 
 -- bit 0 has a path. The outer object is read first: inner objects are recorded first
-unfoldable pub withPath : Parser ℕ → ℕ → ℕ → Parser ℕ
-withPath outerObject guid flags = do
+unfoldable pub objectPath : Parser ℕ → ℕ → ℕ → Parser ℕ
+objectPath outerObject guid flags = do
   outer ← outerObject
   path ← read fstring
   u ← skipChecksum flags
-  v ← step (setGuid (record { guid = guid; path = path; outer = outer }))
+  v ← step (setGuid guid path outer)
   return guid
 
 unfoldable pub objectAfter : Parser ℕ → Bool → ℕ → Parser ℕ
 objectAfter outerObject exporting guid = do
   flags ← flagsOf exporting guid
-  cond (eqb (flags % 2) 1) (withPath outerObject guid flags) (return guid)
+  cond (eqb (flags % 2) 1) (objectPath outerObject guid flags) (return guid)
 
 -- GUID 0 ends a chain with nothing more read
 unfoldable pub objectWithOuter : Parser ℕ → Bool → Parser ℕ
 objectWithOuter outerObject exporting = do
-  guid ← read packed
+  guid ← read number
   cond (eqb guid 0) (return 0) (objectAfter outerObject exporting guid)
 
 -- an object with this depth left, which is 16 minus its depth. At depth 16 or more it is refused before reading
@@ -103,17 +107,21 @@ objectAt depth exporting = object (16 - depth) exporting
 
 -- ---- GUID run
 
--- after a payload is read: 25 if whole bytes are left in it; otherwise the run continues at pos, after the payload
-unfoldable pub afterPayload : {A : Type 0} → ℕ → List ℕ → Parsed A → Parsed A
-afterPayload pos l (parsed a p [] c t) = parsed a pos l c t
-afterPayload pos l (parsed a p (b ∷ m) c t) = failed 25 (length (b ∷ m)) 0 c t
-afterPayload pos l (failed n a b c t) = failed n a b c t
+-- after a window of its own is read: 25 if whole bytes are left in it; otherwise the reader continues at pos, after the window
+unfoldable pub afterInner : {A : Type 0} → ℕ → List ℕ → Parsed A → Parsed A
+afterInner pos l (parsed a p [] c t) = parsed a pos l c t
+afterInner pos l (parsed a p (b ∷ m) c t) = failed 25 (length (b ∷ m)) 0 c t
+afterInner pos l (failed n a b c t) = failed n a b c t
 
--- a payload of n bytes is a window of its own, and positions inside it count from its first bit
+-- bytes that are a window of their own: positions inside it count from its first bit
+unfoldable pub innerWindow : {A : Type 0} → Parser A → List ℕ → Parser A
+innerWindow r window pos l c t = afterInner pos l (r 0 window c t)
+
+-- a payload of n bytes
 unfoldable pub payloadOf : {A : Type 0} → ℕ → Parser A → Parser A
-payloadOf n r pos l c t =
-    cond (ltb (length l) n) (failed 10 pos (8 * n) c t)
-    (afterPayload (pos + 8 * n) (drop n l) (r 0 (take n l) c t))
+payloadOf n r = do
+  payload ← read (bytes n)
+  innerWindow r payload
 
 -- 24: negative size
 unfoldable pub guidEntry : Parser (Unit {0})
@@ -124,7 +132,4 @@ guidEntry = do
 
 -- `read_export_guids` answers its count
 unfoldable pub guidRun : Parser ℕ
-guidRun = do
-  n ← read packed
-  u ← times n guidEntry
-  return n
+guidRun = runOf guidEntry

@@ -3,47 +3,53 @@
 use mathlib.Core.Bool.{Bool, true, false, cond, _&&_}
 use mathlib.Core.List.{List, [], _∷_, _++_}
 use mathlib.Core.Option.{Option, none, some}
-use Prim.Native.Nat.{ℕ, _-_}
+use Prim.Native.Nat.{ℕ, suc, _-_}
 use lib.Dec.{eqb, ltb}
 use lib.ListN.{length, set, replicate}
 use Rattle.vrf_path.specs.Text.{same}
-use Rattle.vrf_model.specs.Book.{Guid, Slot, empty, filled, Group, Content, Counters, none-counted, fresh, passed}
+use Rattle.vrf_model.specs.Book.{Guid, Slot, empty, filled, Group, Content, Increments, noIncrement, fresh, passed}
 use Rattle.vrf_model.specs.Lookup.{placeOr, pathPlace, indexPlace, guidPlace, slotAt}
 
 -- done: an answer, the content then held and what the counters go up by; or a refusal's number, a and b
 pub data Step (A : Type 0) : Type 0 where
-  done : A → Content → Counters → Step A
+  done : A → Content → Increments → Step A
   refuses : ℕ → ℕ → ℕ → Step A
 
 -- keeping: 42, a count after this step would pass its allowance, lowest first
-unfoldable pub unlessPassed : {A : Type 0} → Option ℕ → A → Content → Counters → Step A
+unfoldable pub unlessPassed : {A : Type 0} → Option ℕ → A → Content → Increments → Step A
 unlessPassed none a c t = done a c t
 unlessPassed (some which) a c t = refuses 42 which 0
 
-unfoldable pub keep : {A : Type 0} → A → Content → Counters → Step A
+unfoldable pub keep : {A : Type 0} → A → Content → Increments → Step A
 keep a c t = unlessPassed (passed c) a c t
 
 -- ---- what each step adds to the counters, as in cache.rs
 
-unfoldable pub schemaStep : Counters
+unfoldable pub schemaStep : Increments
 schemaStep = record { schema = 1; guid = 0; dropped = 0; replaced = 0; renamed = 0 }
 
-unfoldable pub replacedStep : Counters
+unfoldable pub replacedStep : Increments
 replacedStep = record { schema = 1; guid = 0; dropped = 0; replaced = 1; renamed = 0 }
 
-unfoldable pub guidStep : Counters
+unfoldable pub guidStep : Increments
 guidStep = record { schema = 0; guid = 1; dropped = 0; replaced = 0; renamed = 0 }
 
-unfoldable pub droppedStep : Counters
+unfoldable pub droppedStep : Increments
 droppedStep = record { schema = 0; guid = 0; dropped = 1; replaced = 0; renamed = 0 }
 
-unfoldable pub renamedStep : ℕ → Counters
+unfoldable pub renamedStep : ℕ → Increments
 renamedStep n = record { schema = 0; guid = 0; dropped = 0; replaced = 0; renamed = n }
 
-unfoldable pub clearStep : Counters
+unfoldable pub clearStep : Increments
 clearStep = record { schema = 1; guid = 1; dropped = 0; replaced = 0; renamed = 0 }
 
--- ---- set_net_guid_path
+-- ---- changes of a list
+
+-- the list with f of the element at place i; the list as it is if there is no such place
+unfoldable pub alter : {A : Type 0} → (A → A) → List A → ℕ → List A
+alter f [] i = []
+alter f (a ∷ l) ℕ.zero = f a ∷ l
+alter f (a ∷ l) (suc i) = a ∷ alter f l i
 
 unfoldable pub withGuids : Content → List Guid → Content
 withGuids c l = record { allowed = c .allowed; guids = l; groups = c .groups }
@@ -51,20 +57,29 @@ withGuids c l = record { allowed = c .allowed; guids = l; groups = c .groups }
 unfoldable pub withGroups : Content → List Group → Content
 withGroups c l = record { allowed = c .allowed; guids = c .guids; groups = l }
 
--- whether path and outer are the same
-unfoldable pub sameGuid : Guid → Guid → Bool
-sameGuid r q = same (r .path) (q .path) && eqb (r .outer) (q .outer)
+-- ---- set_net_guid_path
+
+abbrev pub newGuid : ℕ → List ℕ → ℕ → Guid
+newGuid guid path outer = record { guid = guid; path = path; outer = outer }
+
+-- a record that takes another path and outer
+abbrev pub withPath : List ℕ → ℕ → Guid → Guid
+withPath path outer r = newGuid (r .guid) path outer
+
+-- whether a record has this path and outer
+unfoldable pub hasPath : List ℕ → ℕ → Guid → Bool
+hasPath path outer r = same path (r .path) && eqb outer (r .outer)
 
 -- GUID, path and outer in order of first setting: a new GUID is appended, a known one takes path and outer in its place; an identical
 -- setting does nothing
-unfoldable pub setGuidAt : Guid → Content → Option ℕ → Step (Unit {0})
-setGuidAt r c none = keep tt (withGuids c (c .guids ++ (r ∷ []))) guidStep
-setGuidAt r c (some i) =
-    cond (placeOr (sameGuid r) false (c .guids) i) (done tt c none-counted)
-    (keep tt (withGuids c (set (c .guids) i r)) guidStep)
+unfoldable pub setGuidAt : ℕ → List ℕ → ℕ → Content → Option ℕ → Step (Unit {0})
+setGuidAt guid path outer c none = keep tt (withGuids c (c .guids ++ (newGuid guid path outer ∷ []))) guidStep
+setGuidAt guid path outer c (some i) =
+    cond (placeOr (hasPath path outer) false (c .guids) i) (done tt c noIncrement)
+    (keep tt (withGuids c (alter (withPath path outer) (c .guids) i)) guidStep)
 
-unfoldable pub setGuid : Guid → Content → Step (Unit {0})
-setGuid r c = setGuidAt r c (guidPlace (r .guid) (c .guids))
+unfoldable pub setGuid : ℕ → List ℕ → ℕ → Content → Step (Unit {0})
+setGuid guid path outer c = setGuidAt guid path outer c (guidPlace guid (c .guids))
 
 -- ---- add_export_group
 
@@ -80,8 +95,7 @@ mergedGroup path index slots g = record { path = path; index = index; slots = gr
 
 -- path found: that group takes the new path and index and grows to the slot count, never shrinks
 unfoldable pub merge : List ℕ → ℕ → ℕ → Content → ℕ → Step ℕ
-merge path index slots c i =
-    keep i (withGroups c (set (c .groups) i (placeOr (mergedGroup path index slots) (newGroup path index slots) (c .groups) i))) schemaStep
+merge path index slots c i = keep i (withGroups c (alter (mergedGroup path index slots) (c .groups) i)) schemaStep
 
 -- path and index found at different groups: 23; path found: merge; only the index found: the group is replaced, fields gone; neither:
 -- append
@@ -104,16 +118,12 @@ unfoldable pub renames : Slot → List ℕ → ℕ
 renames empty name = 0
 renames (filled c n) name = cond (same n name) 0 1
 
--- a default for places without a group; a place that was found has one
-unfoldable pub noGroup : Group
-noGroup = record { path = []; index = 0; slots = [] }
-
 -- answers not placed (and counts a drop) for an unknown index or a handle past the slots
 unfoldable pub setFieldAt : ℕ → ℕ → List ℕ → Content → Option ℕ → Step Bool
 setFieldAt handle checksum name c none = done false c droppedStep
 setFieldAt handle checksum name c (some i) =
     cond (ltb handle (placeOr (λ g. length (g .slots)) 0 (c .groups) i))
-    (keep true (withGroups c (set (c .groups) i (placeOr (withSlot handle (filled checksum name)) noGroup (c .groups) i))) (renamedStep (renames (slotAt (c .groups) i handle) name)))
+    (keep true (withGroups c (alter (withSlot handle (filled checksum name)) (c .groups) i)) (renamedStep (renames (slotAt (c .groups) i handle) name)))
     (done false c droppedStep)
 
 unfoldable pub setField : ℕ → ℕ → ℕ → List ℕ → Content → Step Bool

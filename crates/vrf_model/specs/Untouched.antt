@@ -7,9 +7,7 @@ use Prim.Native.Nat.{ℕ}
 use lib.ListN.{length}
 use Rattle.vrf_model.specs.Book.{Slot, Group, Content}
 use Rattle.vrf_model.specs.Lookup.{placeOr, indexPlace, pathAt, indexAt, slotsAt, slotAt}
-use Rattle.vrf_model.specs.Calls.{Call, clear-book, add-export-group, set-field-on-group, set-net-guid-path, read-net-field-exports, read-export-guids, load-object, read-checkpoint-tables}
-use Rattle.vrf_model.specs.Calls.{get-group-by-index, get-group-by-path, get-path-by-guid, get-outer-guid, get-outer-path, get-gameplay-tag-name, get-field, unique-leaf-match}
-use Rattle.vrf_model.specs.Calls.{resolve-cnc-for-instance-name, find-class-net-cache-key, group-path, group-index, group-slots, field-name, guid-path}
+use Rattle.vrf_model.specs.Calls.{Call, clear-book, add-export-group, set-field-on-group, set-net-guid-path, read-net-field-exports, read-export-guids, load-object, read-checkpoint-tables, lookup}
 
 -- the group at a place, if there is one
 abbrev pub groupAt : List Group → ℕ → Option Group
@@ -51,18 +49,4 @@ IsReader (read-net-field-exports w) = Unit {0}
 IsReader (read-export-guids w) = Unit {0}
 IsReader (load-object w exporting depth) = Unit {0}
 IsReader (read-checkpoint-tables w) = Unit {0}
-IsReader (get-group-by-index index) = ⊥
-IsReader (get-group-by-path path) = ⊥
-IsReader (get-path-by-guid guid) = ⊥
-IsReader (get-outer-guid guid) = ⊥
-IsReader (get-outer-path guid) = ⊥
-IsReader (get-gameplay-tag-name tag) = ⊥
-IsReader (get-field place slot) = ⊥
-IsReader (unique-leaf-match name) = ⊥
-IsReader (resolve-cnc-for-instance-name name) = ⊥
-IsReader (find-class-net-cache-key path) = ⊥
-IsReader (group-path place) = ⊥
-IsReader (group-index place) = ⊥
-IsReader (group-slots place) = ⊥
-IsReader (field-name place slot) = ⊥
-IsReader (guid-path place) = ⊥
+IsReader (lookup l) = ⊥

@@ -1,3 +1,2 @@
 -- Lemmas that the proofs use, by subject.
 pub mod Names
-pub mod Signed

@@ -1,5 +1,5 @@
 -- Lemmas for the functions that write numbers, suffixes and names.
-use mathlib.Core.Path.{_≡_, refl, sym, _∙_}
+use mathlib.Core.Path.{_≡_, refl, sym, ap, _∙_}
 use mathlib.Core.List.{List, [], _∷_, _++_, append-assoc}
 use Prim.Native.Char.{code}
 use Prim.Native.Nat.{ℕ, suc, _+_, _*_, _/_, _%_, _<_, _≤_}
@@ -7,6 +7,7 @@ use native.Mathlib.Omega.{arith}
 use lib.IntN.{ℤ}
 use lib.ListN.{length, take, drop, set, length-append, length-set}
 use lib.Seq.{length-take-le}
+use mir.Facts.{toZ-ofZ}
 use mir.Syntax.{w32}
 use mir.Val.{SFits, toZ, ofZ}
 use Rattle.vrf_bitio.specs.Pasted.{pasted}
@@ -19,7 +20,6 @@ use Rattle.vrf_names.specs.declared.Rendered.{Rendered}
 use Rattle.vrf_names.specs.declared.Rendered.the-variants.{Length, Refused}
 use Rattle.vrf_names.specs.declared.Suffix.{Suffix}
 use Rattle.vrf_names.specs.declared.Suffix.the-variants.{Empty, Plain, Minus}
-use Rattle.vrf_names.proofs.Signed.{as-passed}
 
 -- a number written to a buffer, last digit first: rest is what is left of it, end the place of its last digit
 module _ (out : List ℕ) (at rest end : ℕ) (e : end + 1 ≡ at + length (decimal rest)) (h : end < length out) where
@@ -68,6 +68,10 @@ module _ (m : ℕ) (t before : List ℕ) {len : ℕ} (en : len ≡ length t) whe
 
   pub answer-fits : len ≤ 4096 → len ≤ m → {after : List ℕ} → after ≡ pasted before 0 t → RenderedAnswer (renderedInto m t) before after (Length len)
   answer-fits l h ea = rw (into-fits m t (omega arith) (omega arith), ea, en) (record { answer = refl; bytes = refl })
+
+-- a signed number is passed as its bits, and the callee gets the same number
+as-passed : (z : ℤ) → SFits w32 z → {t : List ℕ} → t ≡ suffix (toZ w32 (ofZ w32 z)) → t ≡ suffix z
+as-passed z h e = e ∙ ap suffix (toZ-ofZ h)
 
 -- a buffer after a suffix is written after its first n bytes
 written : (out : List ℕ) (n : ℕ) (z : ℤ) (s : Suffix) → suffixText s ≡ suffix z → {r : ℕ} → r ≡ length (suffixText s)

@@ -94,17 +94,17 @@ pub fn render_index(n: u32, out: &mut [u8]) -> Rendered
     Rendered::Length(len)
 }
 
-// What a number adds to a name. The lowest number has no positive counterpart, so 1 is added before negation and again after it.
+// What a number adds to a name.
 fn suffix_of(number: i32) -> Suffix
     ensures { λ r. ⌜ suffixText r ≡ suffix number ⌝ }
 {
+    if number < 0 {
+        return Suffix::Minus(vrf_bitio::magnitude(number));
+    }
     if number == 0 {
         return Suffix::Empty;
     }
-    if 0 < number {
-        return Suffix::Plain((number - 1) as u32);
-    }
-    Suffix::Minus((-(number + 1)) as u32 + 1)
+    Suffix::Plain(vrf_bitio::magnitude(number) - 1)
 }
 
 // The number of bytes that a suffix adds.

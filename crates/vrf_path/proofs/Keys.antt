@@ -13,7 +13,7 @@ use borrow.Author.Tests.{ltb-true, ltb-false}
 use Rattle.vrf_path.specs.Text.{same}
 use Rattle.vrf_path.specs.Keys.{defaultPrefix, charactersCore, hasKey, defaultAlias, coreAlias, keyIs}
 use Rattle.vrf_path.specs.Answers.{keyBytes}
-use Rattle.vrf_path.specs.Laws.Keys.{has-by-parts, core-other}
+use Rattle.vrf_path.specs.Laws.Keys.{has-by-parts}
 use Rattle.vrf_path.specs.declared.Key.{Key}
 use Rattle.vrf_path.specs.declared.Key.the-variants.{Itself, Stripped, Prefixed, Cut, Inserted}
 
@@ -120,6 +120,3 @@ module _ (t k : List ℕ) {r : Bool} where
 
     pub is-core : r ≡ false → {c : Option (List ℕ)} → c ≡ coreAlias t → {q : Bool} → q ≡ keyIs c k → q ≡ hasKey t k
     is-core h ec eq = sym (has-by-parts t k ∙ rw (sym es ∙ hs, ← ed, sym er ∙ h, ← ec, ← eq))
-
-    pub is-none : r ≡ false → (length k + 6 ≡ length t → ⊥) → (length t + 6 ≡ length k → ⊥) → false ≡ hasKey t k
-    is-none h hl hs = is-core h refl (sym (core-other t k hl hs))

@@ -327,7 +327,7 @@ pub fn is_absent(key: Key) -> bool
 pub fn left(n: usize, k: usize) -> usize
     ensures { λ r. ⌜ r ≡ n - k ⌝ }
 {
-    if k <= n { n - k } else { 0 }
+    vrf_bitio::left_from(n, k)
 }
 
 // The byte at i, 0 past the end.

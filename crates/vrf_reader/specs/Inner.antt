@@ -4,3 +4,4 @@ pub mod Texts
 pub mod Fields
 pub mod Objects
 pub mod Within
+pub mod Runs

@@ -1,7 +1,9 @@
 // `read_net_field_exports`: each export declares a group or refers to one, and may set a field on it.
 use crate::Advanced;
+use crate::ReadNumber;
 use crate::names::read_fname;
 use crate::names::read_text;
+use crate::runs::read_run;
 use vrf_bitio::Byte;
 use vrf_bitio::Cursor;
 use vrf_bitio::Refusal;
@@ -18,10 +20,9 @@ use vrf_table::Entry;
 use vrf_text::Text;
 ghost use Prim.Native.Nat.{_≤_};
 ghost use lib.ListN.{length};
-ghost use Rattle.vrf_model.specs.Parser.{times};
 ghost use Rattle.vrf_model.specs.Runs.{declaredGroup, groupOf, exportedField, exportEntry, fieldsRun};
 ghost use Rattle.vrf_store.specs.Inner.WellFormed.{WellFormed};
-ghost use Rattle.vrf_reader.specs.Inner.Simulates.{Refines, cursorOutcome, wordOutcome};
+ghost use Rattle.vrf_reader.specs.Inner.Simulates.{Refines, cursorOutcome, numberOutcome};
 ghost use Rattle.vrf_reader.specs.Inner.Fields.{fieldRead, fieldOf};
 
 const MAX_SLOTS: u32 = 65536;
@@ -139,7 +140,7 @@ fn group_of(
 }
 
 // One export: index, flag, group, field.
-fn export_entry(s: &[u8], c: Cursor, m: &mut [u8], scratch: &mut [u8]) -> Advanced
+pub fn export_entry(s: &[u8], c: Cursor, m: &mut [u8], scratch: &mut [u8]) -> Advanced
     requires { ⌜ WellFormed (now m) × (4096 ≤ length (now scratch)) ⌝ }
     ensures { λ r. ⌜ Refines (now (s .entry)) exportEntry c (now (m .entry)) (now (m .exit)) (cursorOutcome r) ⌝ }
 {
@@ -155,32 +156,9 @@ fn export_entry(s: &[u8], c: Cursor, m: &mut [u8], scratch: &mut [u8]) -> Advanc
     }
 }
 
-fn export_entries(s: &[u8], c: Cursor, m: &mut [u8], scratch: &mut [u8], n: u32) -> Advanced
+pub fn read_net_field_exports(s: &[u8], c: Cursor, m: &mut [u8], scratch: &mut [u8]) -> ReadNumber
     requires { ⌜ WellFormed (now m) × (4096 ≤ length (now scratch)) ⌝ }
-    ensures { λ r. ⌜ Refines (now (s .entry)) (times n exportEntry) c (now (m .entry)) (now (m .exit)) (cursorOutcome r) ⌝ }
+    ensures { λ r. ⌜ Refines (now (s .entry)) fieldsRun c (now (m .entry)) (now (m .exit)) (numberOutcome r) ⌝ }
 {
-    let mut at = c;
-    let mut i: u32 = 0;
-    while i < n {
-        match export_entry(s, at, m, scratch) {
-            Advanced::Refused(r) => return Advanced::Refused(r),
-            Advanced::To(next) => at = next,
-        }
-        i += 1;
-    }
-    Advanced::To(at)
-}
-
-// Answers the count of exports. A refused run leaves all it took before the refused step.
-pub fn read_net_field_exports(s: &[u8], c: Cursor, m: &mut [u8], scratch: &mut [u8]) -> Word
-    requires { ⌜ WellFormed (now m) × (4096 ≤ length (now scratch)) ⌝ }
-    ensures { λ r. ⌜ Refines (now (s .entry)) fieldsRun c (now (m .entry)) (now (m .exit)) (wordOutcome r) ⌝ }
-{
-    match c.read_int_packed(s) {
-        Word::Refused(r) => Word::Refused(r),
-        Word::Value(n, next) => match export_entries(s, next, m, scratch, n) {
-            Advanced::Refused(r) => Word::Refused(r),
-            Advanced::To(end) => Word::Value(n, end),
-        },
-    }
+    read_run(s, c, m, scratch, false)
 }

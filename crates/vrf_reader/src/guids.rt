@@ -1,7 +1,9 @@
 // `read_export_guids`: each entry is an object in a payload of its own.
 use crate::Advanced;
+use crate::ReadNumber;
 use crate::objects::MAX_NET_GUID_RECURSION;
 use crate::objects::load_object;
+use crate::runs::read_run;
 use vrf_bitio::Cursor;
 use vrf_bitio::Refusal;
 use vrf_bitio::Sub;
@@ -12,10 +14,9 @@ ghost use mathlib.Core.Path.{_≡_};
 ghost use mathlib.Core.Bool.{true};
 ghost use Prim.Native.Nat.{_-_, _/_, _≤_};
 ghost use lib.ListN.{length};
-ghost use Rattle.vrf_model.specs.Parser.{times};
 ghost use Rattle.vrf_model.specs.Runs.{objectAt, payloadOf, guidEntry, guidRun};
 ghost use Rattle.vrf_store.specs.Inner.WellFormed.{WellFormed};
-ghost use Rattle.vrf_reader.specs.Inner.Simulates.{Refines, cursorOutcome, wordOutcome};
+ghost use Rattle.vrf_reader.specs.Inner.Simulates.{Refines, cursorOutcome, numberOutcome};
 ghost use Rattle.vrf_reader.specs.Inner.Within.{CursorWithin};
 
 fn whole_bytes(c: Cursor) -> u32
@@ -28,31 +29,31 @@ fn whole_bytes(c: Cursor) -> u32
 }
 
 // A payload of `size` bytes is a window of its own; 25 if its object leaves whole bytes. Answers the GUID.
-fn read_payload(s: &[u8], c: Cursor, m: &mut [u8], scratch: &mut [u8], size: u32) -> Word
+fn read_payload(s: &[u8], c: Cursor, m: &mut [u8], scratch: &mut [u8], size: u32) -> ReadNumber
     requires { ⌜ WellFormed (now m) × ((4096 ≤ length (now scratch)) × CursorWithin (now s) c) ⌝ }
-    ensures { λ r. ⌜ Refines (now (s .entry)) (payloadOf size (objectAt 0 true)) c (now (m .entry)) (now (m .exit)) (wordOutcome r) ⌝ }
+    ensures { λ r. ⌜ Refines (now (s .entry)) (payloadOf size (objectAt 0 true)) c (now (m .entry)) (now (m .exit)) (numberOutcome r) ⌝ }
 {
     match c.sub_reader(s, 8 * (size as u64)) {
-        Sub::Refused(r) => Word::Refused(r),
+        Sub::Refused(r) => ReadNumber::Refused(r),
         Sub::Inner(at, next) => match load_object(s, at, m, scratch, true, MAX_NET_GUID_RECURSION) {
-            Word::Refused(r) => Word::Refused(r),
-            Word::Value(guid, end) => {
+            ReadNumber::Refused(r) => ReadNumber::Refused(r),
+            ReadNumber::Of(guid, end) => {
                 let left = whole_bytes(end);
                 if left != 0 {
-                    return Word::Refused(Refusal {
+                    return ReadNumber::Refused(Refusal {
                         number: TRAILING_PAYLOAD,
                         a: left as u64,
                         b: 0,
                     });
                 }
-                Word::Value(guid, next)
+                ReadNumber::Of(guid, next)
             }
         },
     }
 }
 
 // One entry: the payload's size, 24 if it is negative, and the payload.
-fn guid_entry(s: &[u8], c: Cursor, m: &mut [u8], scratch: &mut [u8]) -> Advanced
+pub fn guid_entry(s: &[u8], c: Cursor, m: &mut [u8], scratch: &mut [u8]) -> Advanced
     requires { ⌜ WellFormed (now m) × ((4096 ≤ length (now scratch)) × CursorWithin (now s) c) ⌝ }
     ensures { λ r. ⌜ Refines (now (s .entry)) guidEntry c (now (m .entry)) (now (m .exit)) (cursorOutcome r) ⌝ }
 {
@@ -67,39 +68,16 @@ fn guid_entry(s: &[u8], c: Cursor, m: &mut [u8], scratch: &mut [u8]) -> Advanced
                 });
             }
             match read_payload(s, next, m, scratch, size) {
-                Word::Refused(r) => Advanced::Refused(r),
-                Word::Value(_, following) => Advanced::To(following),
+                ReadNumber::Refused(r) => Advanced::Refused(r),
+                ReadNumber::Of(_, following) => Advanced::To(following),
             }
         }
     }
 }
 
-fn guid_entries(s: &[u8], c: Cursor, m: &mut [u8], scratch: &mut [u8], n: u32) -> Advanced
+pub fn read_export_guids(s: &[u8], c: Cursor, m: &mut [u8], scratch: &mut [u8]) -> ReadNumber
     requires { ⌜ WellFormed (now m) × ((4096 ≤ length (now scratch)) × CursorWithin (now s) c) ⌝ }
-    ensures { λ r. ⌜ Refines (now (s .entry)) (times n guidEntry) c (now (m .entry)) (now (m .exit)) (cursorOutcome r) ⌝ }
+    ensures { λ r. ⌜ Refines (now (s .entry)) guidRun c (now (m .entry)) (now (m .exit)) (numberOutcome r) ⌝ }
 {
-    let mut at = c;
-    let mut i: u32 = 0;
-    while i < n {
-        match guid_entry(s, at, m, scratch) {
-            Advanced::Refused(r) => return Advanced::Refused(r),
-            Advanced::To(next) => at = next,
-        }
-        i += 1;
-    }
-    Advanced::To(at)
-}
-
-// Answers the count of entries. A refused run leaves all it took before the refused step.
-pub fn read_export_guids(s: &[u8], c: Cursor, m: &mut [u8], scratch: &mut [u8]) -> Word
-    requires { ⌜ WellFormed (now m) × ((4096 ≤ length (now scratch)) × CursorWithin (now s) c) ⌝ }
-    ensures { λ r. ⌜ Refines (now (s .entry)) guidRun c (now (m .entry)) (now (m .exit)) (wordOutcome r) ⌝ }
-{
-    match c.read_int_packed(s) {
-        Word::Refused(r) => Word::Refused(r),
-        Word::Value(n, next) => match guid_entries(s, next, m, scratch, n) {
-            Advanced::Refused(r) => Word::Refused(r),
-            Advanced::To(end) => Word::Value(n, end),
-        },
-    }
+    read_run(s, c, m, scratch, true)
 }

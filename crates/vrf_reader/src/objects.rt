@@ -1,5 +1,6 @@
 // `load_object`: an object and its outer objects, which are recorded first.
 use crate::Advanced;
+use crate::ReadNumber;
 use crate::names::read_text;
 use vrf_bitio::Byte;
 use vrf_bitio::Cursor;
@@ -13,7 +14,7 @@ ghost use Prim.Native.Nat.{_≤_};
 ghost use lib.ListN.{length};
 ghost use Rattle.vrf_model.specs.Runs.{flagsOf, skipChecksum, object};
 ghost use Rattle.vrf_store.specs.Inner.WellFormed.{WellFormed};
-ghost use Rattle.vrf_reader.specs.Inner.Simulates.{Refines, RefinesReading, cursorOutcome, byteOutcome, wordOutcome};
+ghost use Rattle.vrf_reader.specs.Inner.Simulates.{Refines, RefinesReading, cursorOutcome, byteOutcome, numberOutcome};
 ghost use Rattle.vrf_reader.specs.Inner.Objects.{ObjectHeadOf, recorded};
 
 // At this depth or more an object is refused.
@@ -81,17 +82,17 @@ fn record_object(
     guid: u32,
     flags: u8,
     outer: u32,
-) -> Word
+) -> ReadNumber
     requires { ⌜ WellFormed (now m) × (4096 ≤ length (now scratch)) ⌝ }
-    ensures { λ r. ⌜ Refines (now (s .entry)) (recorded guid flags outer) c (now (m .entry)) (now (m .exit)) (wordOutcome r) ⌝ }
+    ensures { λ r. ⌜ Refines (now (s .entry)) (recorded guid flags outer) c (now (m .entry)) (now (m .exit)) (numberOutcome r) ⌝ }
 {
     match read_text(s, c, scratch) {
-        Text::Refused(r) => Word::Refused(r),
+        Text::Refused(r) => ReadNumber::Refused(r),
         Text::Read(n, next) => match skip_checksum(s, next, flags) {
-            Advanced::Refused(r) => Word::Refused(r),
+            Advanced::Refused(r) => ReadNumber::Refused(r),
             Advanced::To(at) => match set_net_guid_path(m, guid, &scratch[..n as usize], outer) {
-                Acted::Refused(r) => Word::Refused(r),
-                Acted::Done => Word::Value(guid, at),
+                Acted::Refused(r) => ReadNumber::Refused(r),
+                Acted::Done => ReadNumber::Of(guid, at),
             },
         },
     }
@@ -105,20 +106,20 @@ pub fn load_object(
     scratch: &mut [u8],
     exporting: bool,
     left: u32,
-) -> Word
+) -> ReadNumber
     requires { ⌜ WellFormed (now m) × (4096 ≤ length (now scratch)) ⌝ }
-    ensures { λ r. ⌜ Refines (now (s .entry)) (object left exporting) c (now (m .entry)) (now (m .exit)) (wordOutcome r) ⌝ }
+    ensures { λ r. ⌜ Refines (now (s .entry)) (object left exporting) c (now (m .entry)) (now (m .exit)) (numberOutcome r) ⌝ }
 {
     if left == 0 {
-        return Word::Refused(Refusal {
+        return ReadNumber::Refused(Refusal {
             number: TOO_DEEP,
             a: MAX_NET_GUID_RECURSION as u64,
             b: 0,
         });
     }
     match read_head(s, c, exporting) {
-        ObjectHead::Refused(r) => Word::Refused(r),
-        ObjectHead::Ends(guid, next) => Word::Value(guid, next),
+        ObjectHead::Refused(r) => ReadNumber::Refused(r),
+        ObjectHead::Ends(guid, next) => ReadNumber::Of(guid, next),
         ObjectHead::Path(guid, flags, next) => match load_object(
             s,
             next,
@@ -127,8 +128,8 @@ pub fn load_object(
             exporting,
             left - 1,
         ) {
-            Word::Refused(r) => Word::Refused(r),
-            Word::Value(outer, at) => record_object(s, at, m, scratch, guid, flags, outer),
+            ReadNumber::Refused(r) => ReadNumber::Refused(r),
+            ReadNumber::Of(outer, at) => record_object(s, at, m, scratch, guid, flags, outer),
         },
     }
 }

@@ -1,3 +1,2 @@
--- Laws that the proofs of this crate share: what is read or written stays inside the lent buffer.
-pub mod Scratch
+-- A law that the proofs of this crate share: what is written stays inside the lent buffer.
 pub mod Written

@@ -1,4 +1,3 @@
--- Bounds that the player keeps: its books in the memory, written blocks in the scratch buffer, and places in the script.
+-- Bounds that the player keeps: its books in the memory, and written blocks in the scratch buffer.
 pub mod Areas
 pub mod Blocks
-pub mod Places

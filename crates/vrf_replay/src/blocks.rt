@@ -1,22 +1,17 @@
 // The call `write`. The last written block is at the front of the scratch buffer. The writer is lent bytes after it, so a refused writing
 // leaves that block. A new block is then moved to the front and replaces it.
-use crate::answer;
-use crate::books;
-use crate::books::Books;
-use crate::run::Run;
-use crate::script;
+use crate::books::move_part;
+use crate::turn::Turn;
 use std::num::wrapping_add_u64;
 use vrf_model::Wrote;
+use vrf_script::answer;
+use vrf_script::items;
+use vrf_script::run::Run;
+ghost use mathlib.Core.Path.{_≡_};
 ghost use Prim.Native.Nat.{_+_, _≤_};
 ghost use lib.ListN.{length};
 ghost use Rattle.vrf_replay.specs.Inner.Areas.{total};
 ghost use Rattle.vrf_replay.specs.Inner.Blocks.{KeptIn, WroteIn};
-
-// What a writing leaves: the run after it, and the length of the last written block.
-pub struct WrittenBlock {
-    pub run: Run,
-    pub kept: usize,
-}
 
 // A number times the prime of FNV-1a, 2^40 + 435, modulo 2^64.
 fn times_prime(n: u64) -> u64 {
@@ -43,13 +38,11 @@ fn fnv(s: &[u8]) -> u64 {
 fn write_into(book: &[u8], buffer: &mut [u8]) -> Wrote
     ensures { λ r. ⌜ WroteIn (length (now (buffer .entry))) r ⌝ }
 {
-    script::fill_from(buffer, 0, 0xA5);
+    items::fill_from(buffer, 0, 0xA5);
     vrf_schema::writing::write_checkpoint_tables(book, buffer)
 }
 
-fn answered(answer: Wrote, out: &mut [u8], to: usize) -> usize
-    ensures { λ r. ⌜ r ≤ length (now (out .entry)) ⌝ }
-{
+fn answered(answer: Wrote, out: &mut [u8], to: usize) -> usize {
     match answer {
         Wrote::Length(n) => answer::labelled(out, to, b"length ", n),
         Wrote::Refused(r) => answer::refusal(out, to, r),
@@ -57,10 +50,8 @@ fn answered(answer: Wrote, out: &mut [u8], to: usize) -> usize
 }
 
 // The line of a writing: the answer, and the hash of the whole buffer after the writing.
-fn say(answer: Wrote, sum: u64, out: &mut [u8], run: Run) -> Run
-    ensures { λ r. ⌜ r .to ≤ length (now (out .entry)) ⌝ }
-{
-    let started = answer::begin(out, run.to, run.call);
+fn say(answer: Wrote, sum: u64, out: &mut [u8], run: Run) -> Run {
+    let started = run.begin(out);
     let after = answered(answer, out, started);
     let label = answer::word(out, after, b" fnv ");
     let shown = answer::hexadecimal(out, label, sum);
@@ -76,68 +67,76 @@ fn keep(answer: Wrote, scratch: &mut [u8], kept: usize, n: usize) -> usize
         Wrote::Refused(_) => kept,
         Wrote::Length(long) => {
             let size = long as usize;
-            books::move_down(scratch, kept, 0, size);
+            move_part(scratch, kept, 0, size);
             size
         }
     }
 }
 
-// Writes into the n bytes after the last written block.
-fn write(
-    book: &[u8],
-    n: usize,
-    scratch: &mut [u8],
-    out: &mut [u8],
-    run: Run,
-    kept: usize,
-) -> WrittenBlock
-    requires { ⌜ (kept + n ≤ length (now scratch)) × (kept ≤ 268435456) ⌝ }
-    ensures { λ r. ⌜ (r .run .to ≤ length (now (out .entry))) × (KeptIn (length (now (scratch .entry))) (r .kept)) ⌝ }
+// Writes into the n bytes from place `kept` on.
+fn write_at(book: &[u8], scratch: &mut [u8], kept: usize, n: usize) -> Wrote
+    requires { ⌜ kept + n ≤ length (now scratch) ⌝ }
+    ensures { λ r. ⌜ WroteIn n r ⌝ }
 {
     let end = kept + n;
-    let answer = write_into(book, &mut scratch[kept..end]);
+    write_into(book, &mut scratch[kept..end])
+}
+
+// Writes into the n bytes after the last written block.
+fn write_after(book: &[u8], n: usize, scratch: &mut [u8], out: &mut [u8], turn: Turn) -> Turn
+    requires { ⌜ (turn .kept + n ≤ length (now scratch)) × (turn .kept ≤ 268435456) ⌝ }
+    ensures { λ r. ⌜ (total (r .books) ≡ total (turn .books)) × (KeptIn (length (now (scratch .entry))) (r .kept)) ⌝ }
+{
+    let kept = turn.kept;
+    let end = kept + n;
+    let answer = write_at(book, scratch, kept, n);
     let sum = fnv(&scratch[kept..end]);
-    WrittenBlock {
-        run: say(answer, sum, out, run),
-        kept: keep(answer, scratch, kept, n),
+    let size = keep(answer, scratch, kept, n);
+    let books = turn.books;
+    Turn {
+        run: say(answer, sum, out, turn.run),
+        books,
+        kept: size,
     }
 }
 
-pub fn play(
-    script: &[u8],
-    memory: &[u8],
-    scratch: &mut [u8],
-    out: &mut [u8],
-    run: Run,
-    books: Books,
-    kept: usize,
-) -> WrittenBlock
-    requires { ⌜ (total books ≤ length (now memory)) × (KeptIn (length (now scratch)) kept) ⌝ }
-    ensures { λ r. ⌜ (r .run .to ≤ length (now (out .entry))) × (KeptIn (length (now (scratch .entry))) (r .kept)) ⌝ }
+// A buffer that does not fit after the last written block is too large.
+fn write(book: &[u8], n: u64, scratch: &mut [u8], out: &mut [u8], turn: Turn) -> Turn
+    requires { ⌜ KeptIn (length (now scratch)) (turn .kept) ⌝ }
+    ensures { λ r. ⌜ (total (r .books) ≡ total (turn .books)) × (KeptIn (length (now (scratch .entry))) (r .kept)) ⌝ }
 {
-    let at = run.at;
-    if script::left(script, at) < 8 {
-        return WrittenBlock {
-            run: run.cut(out),
-            kept,
-        };
+    if ((scratch.len() - turn.kept) as u64) < n {
+        let run = turn.run;
+        return turn.after(run.too_large(out));
     }
-    let n = script::long_at(script, at);
-    let following = run.following(at + 8);
+    write_after(book, n as usize, scratch, out, turn)
+}
+
+// Writes the current book into a buffer of n bytes.
+fn write_current(memory: &[u8], n: u64, scratch: &mut [u8], out: &mut [u8], turn: Turn) -> Turn
+    requires { ⌜ (total (turn .books) ≤ length (now memory)) × (KeptIn (length (now scratch)) (turn .kept)) ⌝ }
+    ensures { λ r. ⌜ (total (r .books) ≡ total (turn .books)) × (KeptIn (length (now (scratch .entry))) (r .kept)) ⌝ }
+{
+    let books = turn.books;
     let area = books.area(memory);
     let from = area.from;
-    let to = from + area.size;
+    let to = area.to;
     if from == to {
-        return WrittenBlock {
-            run: following.line(out, b"no book"),
-            kept,
-        };
+        let run = turn.run;
+        return turn.after(run.no_book(out));
     }
-    if ((scratch.len() - kept) as u64) < n {
-        return WrittenBlock {
-            run: following.too_large(out),
-            kept,
-        };
+    write(&memory[from..to], n, scratch, out, turn)
+}
+
+pub fn play(script: &[u8], memory: &[u8], scratch: &mut [u8], out: &mut [u8], turn: Turn) -> Turn
+    requires { ⌜ (total (turn .books) ≤ length (now memory)) × (KeptIn (length (now scratch)) (turn .kept)) ⌝ }
+    ensures { λ r. ⌜ (total (r .books) ≡ total (turn .books)) × (KeptIn (length (now (scratch .entry))) (r .kept)) ⌝ }
+{
+    let run = turn.run;
+    let at = run.at;
+    if items::left(script, at) < 8 {
+        return turn.after(run.cut(out));
     }
-    write(&memory[from..to], n as usize, scratch, out, following, kept)
+    let n = items::long_at(script, at);
+    write_current(memory, n, scratch, out, turn.after(run.following(at + 8)))
 }

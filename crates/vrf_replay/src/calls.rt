@@ -1,114 +1,99 @@
-// The calls on the current book, except `open`, `use` and `write`.
-use crate::answer;
+// The calls that move no book and keep the last written block.
 use crate::books::Books;
 use crate::changes;
 use crate::dump;
-use crate::given;
-use crate::given::ScriptCall;
-use crate::run::Run;
-use crate::script;
-use crate::script::Blob;
-ghost use Prim.Native.Nat.{_+_, _≤_, _<_};
+use crate::tallies;
+use vrf_script::bits;
+use vrf_script::given;
+use vrf_script::given::Given;
+use vrf_script::given::Numbers;
+use vrf_script::items;
+use vrf_script::run::Run;
+ghost use Prim.Native.Nat.{_≤_};
 ghost use lib.ListN.{length};
+ghost use Rattle.vrf_script.specs.Inner.Bounds.{BlobIn};
 ghost use Rattle.vrf_replay.specs.Inner.Areas.{total};
-ghost use Rattle.vrf_replay.specs.Inner.Places.{BlobIn};
 
-fn on_book(book: &mut [u8], call: ScriptCall, blob: &[u8], out: &mut [u8], run: Run) -> Run
-    requires { ⌜ run .to ≤ length (now out) ⌝ }
-    ensures { λ r. ⌜ r .to ≤ length (now (out .entry)) ⌝ }
-{
-    if let ScriptCall::Dump(groups, slots, guids) = call {
-        return dump::play(book, groups, slots, guids, out, run);
-    }
-    let started = answer::begin(out, run.to, run.call);
-    let after = changes::say(book, call, blob, out, started);
+// A call on a book that has one line as its answer.
+fn on_book(book: &mut [u8], code: u8, n: Numbers, blob: &[u8], out: &mut [u8], run: Run) -> Run {
+    let started = run.begin(out);
+    let after = changes::say(book, code, n, blob, out, started);
     run.ended(out, after)
 }
 
-// A blob that is in the script is lent directly.
-fn on_part(
-    book: &mut [u8],
-    call: ScriptCall,
+fn on_given(
     script: &[u8],
-    a: usize,
-    e: usize,
+    book: &mut [u8],
+    code: u8,
+    n: Numbers,
+    blob: &[u8],
     out: &mut [u8],
     run: Run,
-) -> Run
-    requires { ⌜ (a ≤ e) × (e ≤ length (now script)) × (run .to ≤ length (now out)) ⌝ }
-    ensures { λ r. ⌜ r .to ≤ length (now (out .entry)) ⌝ }
-{
-    on_book(book, call, &script[a..e], out, run)
+) -> Run {
+    match code {
+        0x2E => dump::play(book, n.x, n.y, n.z, out, run),
+        0x30 => bits::play(blob, script, out, run),
+        0x31 => tallies::play(blob, out, run),
+        _ => on_book(book, code, n, blob, out, run),
+    }
 }
 
-// A filled blob is laid out in a scratch buffer of the same length.
-fn on_scratch(
-    book: &mut [u8],
-    call: ScriptCall,
+// Lays the blob out if it is a filled one.
+fn on_blob(
     script: &[u8],
-    a: usize,
-    e: usize,
+    book: &mut [u8],
+    code: u8,
+    given: Given,
     scratch: &mut [u8],
     out: &mut [u8],
     run: Run,
 ) -> Run
-    requires { ⌜ (a ≤ e) × (e < length (now script)) × (e ≤ a + length (now scratch)) × (run .to ≤ length (now out)) ⌝ }
-    ensures { λ r. ⌜ r .to ≤ length (now (out .entry)) ⌝ }
+    requires { ⌜ BlobIn (length (now script)) (given .blob) ⌝ }
 {
-    script::lay_out(scratch, &script[a..e], script[e]);
-    on_book(book, call, scratch, out, run)
-}
-
-fn on_filled(
-    book: &mut [u8],
-    call: ScriptCall,
-    script: &[u8],
-    a: usize,
-    e: usize,
-    n: usize,
-    scratch: &mut [u8],
-    out: &mut [u8],
-    run: Run,
-) -> Run
-    requires { ⌜ (a ≤ e) × (e < length (now script)) × (e ≤ a + n) × (run .to ≤ length (now out)) ⌝ }
-    ensures { λ r. ⌜ r .to ≤ length (now (out .entry)) ⌝ }
-{
-    if scratch.len() < n {
+    let blob = given.blob;
+    if scratch.len() < blob.laid {
         return run.too_large(out);
     }
-    on_scratch(book, call, script, a, e, &mut scratch[0..n], out, run)
+    let n = given.numbers;
+    let bytes = items::bytes(script, blob, scratch);
+    on_given(script, book, code, n, bytes, out, run)
 }
 
-fn on_blob(
-    book: &mut [u8],
-    call: ScriptCall,
+// Calls up to 2F are calls on the current book. An unopened book has no bytes.
+fn lacks_book(code: u8, from: usize, to: usize) -> bool {
+    if code < 0x30 { from == to } else { false }
+}
+
+// A call with its arguments. The run is at the place after them.
+fn on_current(
     script: &[u8],
-    blob: Blob,
+    code: u8,
+    given: Given,
+    memory: &mut [u8],
     scratch: &mut [u8],
     out: &mut [u8],
     run: Run,
+    books: Books,
 ) -> Run
-    requires { ⌜ (BlobIn (length (now script)) blob) × (run .to ≤ length (now out)) ⌝ }
-    ensures { λ r. ⌜ r .to ≤ length (now (out .entry)) ⌝ }
+    requires { ⌜ (total books ≤ length (now memory)) × (BlobIn (length (now script)) (given .blob)) ⌝ }
 {
-    match blob {
-        Blob::Cut => run.cut(out),
-        Blob::Here(a, e) => on_part(book, call, script, a, e, out, run),
-        Blob::Filled(a, e, n) => on_filled(book, call, script, a, e, n, scratch, out, run),
+    let area = books.area(memory);
+    let from = area.from;
+    let to = area.to;
+    if lacks_book(code, from, to) {
+        return run.no_book(out);
     }
+    on_blob(
+        script,
+        &mut memory[from..to],
+        code,
+        given,
+        scratch,
+        out,
+        run,
+    )
 }
 
-// A call on an unopened book answers `no book`, unless the script ends within the call.
-fn unopened(blob: Blob, out: &mut [u8], run: Run) -> Run
-    ensures { λ r. ⌜ r .to ≤ length (now (out .entry)) ⌝ }
-{
-    match blob {
-        Blob::Cut => run.cut(out),
-        _ => run.line(out, b"no book"),
-    }
-}
-
-// A call on the current book. A filled blob is laid out in the scratch buffer.
 pub fn play(
     script: &[u8],
     code: u8,
@@ -118,47 +103,28 @@ pub fn play(
     run: Run,
     books: Books,
 ) -> Run
-    requires { ⌜ (total books ≤ length (now memory)) × (run .to ≤ length (now out)) × (run .at ≤ length (now script)) ⌝ }
-    ensures { λ r. ⌜ r .to ≤ length (now (out .entry)) ⌝ }
+    requires { ⌜ (total books ≤ length (now memory)) × (run .at ≤ length (now script)) ⌝ }
 {
     let given = given::take(script, code, run.at);
-    let call = given.call;
-    let blob = given.blob;
-    let following = run.following(given.next);
-    let area = books.area(memory);
-    let from = area.from;
-    let to = from + area.size;
-    if from == to {
-        return unopened(blob, out, following);
+    if given.cut {
+        return run.cut(out);
     }
-    on_blob(
-        &mut memory[from..to],
-        call,
-        script,
-        blob,
-        scratch,
-        out,
-        following,
-    )
+    let following = run.following(given.next);
+    on_current(script, code, given, memory, scratch, out, following, books)
 }
 
 // Reads the last written block into the current book.
 pub fn play_written(memory: &mut [u8], block: &[u8], out: &mut [u8], run: Run, books: Books) -> Run
-    requires { ⌜ (total books ≤ length (now memory)) × (run .to ≤ length (now out)) × (length (now block) ≤ 268435456) ⌝ }
-    ensures { λ r. ⌜ r .to ≤ length (now (out .entry)) ⌝ }
+    requires { ⌜ (total books ≤ length (now memory)) × (length (now block) ≤ 268435456) ⌝ }
 {
     let area = books.area(memory);
     let from = area.from;
-    let to = from + area.size;
+    let to = area.to;
     if from == to {
-        return run.line(out, b"no book");
+        return run.no_book(out);
     }
+    let started = run.begin(out);
     let bits = 8 * block.len() as u64;
-    on_book(
-        &mut memory[from..to],
-        ScriptCall::Block(0, bits),
-        block,
-        out,
-        run,
-    )
+    let after = changes::block(&mut memory[from..to], block, 0, bits, out, started);
+    run.ended(out, after)
 }

@@ -5,11 +5,11 @@ use mathlib.Core.Path.{_≡_}
 use mathlib.Core.List.{List, [], _∷_}
 use Prim.Native.Nat.{ℕ, _≤_}
 use lib.ListN.{length, take}
-use Rattle.vrf_model.specs.Book.{Allowances, Content, freshBook}
+use Rattle.vrf_model.specs.Book.{Allowances, freshBook}
 use Rattle.vrf_model.specs.Writer.{write}
-use Rattle.vrf_model.specs.Calls.{Call, Answer, block-counts, whole, read-checkpoint-tables, run, play, answers}
+use Rattle.vrf_model.specs.Calls.{GroupLookup, of-groups, Call, lookup, Answer, block-counts, whole, read-checkpoint-tables, lookGroups, play, answers}
 use Rattle.vrf_model.specs.Answers.{wroteOf}
-use Rattle.vrf_model.specs.LateJoin.{Writing, countsOfBlock, apart, OfGroups}
+use Rattle.vrf_model.specs.LateJoin.{Writing, countsOfBlock, countersOfBlock, apart}
 use Rattle.vrf_model.specs.declared.Acted.the-variants.{Done}
 use Rattle.vrf_model.specs.declared.Wrote.{Wrote}
 use Rattle.vrf_model.specs.declared.Wrote.the-variants.{Length}
@@ -32,9 +32,9 @@ pub data Trace : List Call → List ℕ → List Answer → List ℕ → Type 0 
 
 -- ---- the claim
 
--- on the memory m, the answers of the lookups of groups (by path, index or leaf, and what is at a place) depend on the group list alone
+-- on the memory m, lookups of groups (by path, index or leaf, and what is at a place) answer what document 01 reads off the group list alone
 pub record OffList (m : List ℕ) : Type 0 where
-  pub answered : {k : Call} → OfGroups k → {m′ : List ℕ} {r : Answer} → CallContract k m m′ r → (c : Content) → c .groups ≡ bookOf m .content .groups → r ≡ run k c .answer
+  pub answered : (l : GroupLookup) {m′ : List ℕ} {r : Answer} → CallContract (lookup (of-groups l)) m m′ r → r ≡ lookGroups l (bookOf m .content .groups)
 
 -- what the early and the late reader have after the same further calls
 pub record Agree (m late : List ℕ) (rs : List Answer) (m′ : List ℕ) (qs : List Answer) (late′ : List ℕ) : Type 0 where
@@ -53,6 +53,8 @@ pub record LateReader (m late : List ℕ) (r : Answer) : Type 0 where
   -- the block was not refused: the seven counts are those of the early reader's book
   pub answered : r ≡ block-counts (countsOfBlock (bookOf m .content))
   pub lists : bookOf late .content ≡ bookOf m .content
+  -- its generations are the numbers of groups and of GUIDs, its other counters are 0
+  pub counters : bookOf late .counters ≡ countersOfBlock (bookOf m .content)
   pub together : (further : List Call) {rs qs : List Answer} {m′ late′ : List ℕ} → Trace further m rs m′ → Trace further late qs late′ → Agree m late rs m′ qs late′
 
 -- Demand 3, sentence by sentence (the late seat of document 01 is the late reader here):

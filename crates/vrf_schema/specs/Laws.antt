@@ -7,5 +7,6 @@ pub mod Open
 pub mod Write
 pub mod Demand1
 pub mod Demand3
+pub mod OneBlock
 pub mod Opens
 pub mod Determined

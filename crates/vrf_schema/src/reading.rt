@@ -2,10 +2,10 @@
 use crate::checked::check_book;
 use vrf_bitio::Cursor;
 use vrf_bitio::Opened;
-use vrf_bitio::Word;
 use vrf_checkpoint::block;
 use vrf_model::Ran;
 use vrf_model::Tables;
+use vrf_reader::ReadNumber;
 use vrf_reader::fields;
 use vrf_reader::guids;
 use vrf_reader::objects;
@@ -28,12 +28,12 @@ fn check_book_window(book: &[u8], window: &[u8], first: u64, count: u64) -> Open
 }
 
 // The call's answer, which holds the position after what was read instead of the cursor.
-fn ended(w: Word) -> Ran
+fn ended(w: ReadNumber) -> Ran
     ensures { λ r. ⌜ r ≡ ranBy w ⌝ }
 {
     match w {
-        Word::Value(n, next) => Ran::Ended(n, next.pos),
-        Word::Refused(r) => Ran::Refused(r),
+        ReadNumber::Of(n, next) => Ran::Ended(n, next.pos),
+        ReadNumber::Refused(r) => Ran::Refused(r),
     }
 }
 

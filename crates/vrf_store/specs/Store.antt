@@ -8,6 +8,7 @@ use Prim.Native.Nat.{ℕ, _+_, _*_, _^_}
 use lib.Dec.{eqb}
 use Rattle.vrf_words.specs.Words.{word, part}
 use Rattle.vrf_model.specs.Book.{Guid, Slot, empty, filled, Group, Allowances, Content, Counters, Book}
+use Rattle.vrf_model.specs.Setting.{newGuid}
 use Rattle.vrf_table.specs.Chain.{lastBelow}
 use Rattle.vrf_table.specs.Table.{key, info, text, keyHit}
 use Rattle.vrf_store.specs.UpTo.{upTo}
@@ -88,7 +89,7 @@ storeOf m = storeBy (headerOf m) m
 -- ---- the book that a store holds
 
 unfoldable pub guidAt : Store → ℕ → Guid
-guidAt s e = record { guid = key (s .guidRows) e; path = text (s .guidRows) (s .texts) e; outer = info (s .guidRows) e }
+guidAt s e = newGuid (key (s .guidRows) e) (text (s .guidRows) (s .texts) e) (info (s .guidRows) e)
 
 unfoldable pub fieldAt : Store → ℕ → Slot
 fieldAt s e = filled (info (s .fieldRows) e) (text (s .fieldRows) (s .texts) e)

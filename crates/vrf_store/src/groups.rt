@@ -1,4 +1,6 @@
 // Changes of the groups, and the three indexes that find a group: by path-name index, by a key of its path and by its leaf.
+use crate::look::leaf_buckets;
+use crate::look::row_info;
 use crate::parts::group_rows;
 use crate::parts::groups;
 use crate::parts::groups_allowed;
@@ -6,7 +8,6 @@ use crate::parts::guids_allowed;
 use crate::parts::held;
 use crate::parts::leaf_heads;
 use crate::parts::leaf_links;
-use crate::parts::row_text;
 use crate::parts::texts;
 use crate::rows::text_len;
 use vrf_path::Key;
@@ -20,6 +21,7 @@ use vrf_table::key_bucket;
 use vrf_table::leaf_claim;
 use vrf_table::put_key;
 use vrf_table::put_text;
+use vrf_table::row_text;
 use vrf_table::spell::spell;
 use vrf_table::text_bucket;
 use vrf_words::get32;
@@ -124,7 +126,7 @@ fn leaf_bucket_in(m: &[u8], g: u32) -> Bucket
     requires { ⌜ Indexable (now m) g ⌝ }
     ensures { λ r. ⌜ bucketed r ≡ leafOf (storeOf (now (m .entry))) g ⌝ }
 {
-    let b = (2 * groups_allowed(m) + 1) as u32;
+    let b = leaf_buckets(m);
     leaf_bucket_of(group_rows(m), texts(m), leaf_links(m), leaf_heads(m), b, g)
 }
 
@@ -297,13 +299,6 @@ fn set_row(m: &mut [u8], e: u32, index: u32, at: u32, len: u32, slots: u32)
     rebuild_group_indexes(m);
 }
 
-fn slot_count(rows: &[u8], e: u32) -> u32
-    requires { ⌜ 24 * e + 24 ≤ length (now rows) ⌝ }
-    ensures { λ r. ⌜ r ≡ info (now (rows .entry)) e ⌝ }
-{
-    get32(rows, 6 * (e as usize) + 5)
-}
-
 fn larger(a: u32, b: u32) -> u32
     ensures { λ r. ⌜ r ≡ a + (b - a) ⌝ }
 {
@@ -315,7 +310,7 @@ pub fn set_group(m: &mut [u8], e: u32, index: u32, at: u32, len: u32, slots: u32
     requires { ⌜ OldGroup (now m) e index at len slots ⌝ }
     ensures { λ _. ⌜ Stepped (now (m .entry)) (now (m .exit)) (withGroup (held (now (m .entry))) e (mergedGroup (part (storeOf (now (m .entry)) .texts) at len) index slots)) ⌝ }
 {
-    let most = larger(slot_count(group_rows(m), e), slots);
+    let most = larger(row_info(group_rows(m), e), slots);
     set_row(m, e, index, at, len, most);
 }
 

@@ -16,13 +16,13 @@ use crate::parts::leaf_heads;
 use crate::parts::leaf_links;
 use crate::parts::path_heads;
 use crate::parts::path_links;
-use crate::parts::row_text;
 use crate::parts::texts;
 use vrf_table::Claim;
 use vrf_table::Entry;
 use vrf_table::find_key;
 use vrf_table::find_path;
 use vrf_table::first_claim;
+use vrf_table::row_text;
 use vrf_table::text_bucket;
 use vrf_words::get32;
 use vrf_words::get64;
@@ -47,35 +47,35 @@ ghost use Rattle.vrf_store.specs.Inner.Fields.{fieldFound, slotRow};
 
 // The number of buckets of each index.
 pub fn guid_buckets(m: &[u8]) -> u32
-    requires { ⌜ WellFormed (now m) ⌝ }
+    requires { ⌜ (128 ≤ length (now m)) × (allowancesOf (now m) .guids ≤ 1000000) ⌝ }
     ensures { λ r. ⌜ r ≡ Layout.guidBuckets (allowancesOf (now (m .entry))) ⌝ }
 {
     (4 * guids_allowed(m) + 1) as u32
 }
 
 pub fn group_buckets(m: &[u8]) -> u32
-    requires { ⌜ WellFormed (now m) ⌝ }
+    requires { ⌜ (128 ≤ length (now m)) × (allowancesOf (now m) .groups ≤ 100000) ⌝ }
     ensures { λ r. ⌜ r ≡ Layout.groupBuckets (allowancesOf (now (m .entry))) ⌝ }
 {
     (groups_allowed(m) + 1) as u32
 }
 
 pub fn path_buckets(m: &[u8]) -> u32
-    requires { ⌜ WellFormed (now m) ⌝ }
+    requires { ⌜ (128 ≤ length (now m)) × (allowancesOf (now m) .groups ≤ 100000) ⌝ }
     ensures { λ r. ⌜ r ≡ Layout.pathBuckets (allowancesOf (now (m .entry))) ⌝ }
 {
     (3 * groups_allowed(m) + 1) as u32
 }
 
 pub fn leaf_buckets(m: &[u8]) -> u32
-    requires { ⌜ WellFormed (now m) ⌝ }
+    requires { ⌜ (128 ≤ length (now m)) × (allowancesOf (now m) .groups ≤ 100000) ⌝ }
     ensures { λ r. ⌜ r ≡ Layout.leafBuckets (allowancesOf (now (m .entry))) ⌝ }
 {
     (2 * groups_allowed(m) + 1) as u32
 }
 
 pub fn field_buckets(m: &[u8]) -> u32
-    requires { ⌜ WellFormed (now m) ⌝ }
+    requires { ⌜ (128 ≤ length (now m)) × (allowancesOf (now m) .fields ≤ 1000000) ⌝ }
     ensures { λ r. ⌜ r ≡ Layout.fieldBuckets (allowancesOf (now (m .entry))) ⌝ }
 {
     (4 * fields_allowed(m) + 1) as u32

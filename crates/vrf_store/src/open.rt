@@ -11,7 +11,7 @@ use vrf_words::zero_words;
 ghost use mathlib.Core.Path.{_≡_};
 ghost use Prim.Native.Nat.{_≤_};
 ghost use lib.ListN.{length};
-ghost use Rattle.vrf_model.specs.Book.{none-counted, fresh};
+ghost use Rattle.vrf_model.specs.Book.{zeroCounters, fresh};
 ghost use Rattle.vrf_model.specs.Lawful.{Allowed};
 ghost use Rattle.vrf_store.specs.Layout;
 ghost use Rattle.vrf_store.specs.Store.{headerOf, countersOf};
@@ -64,7 +64,7 @@ pub fn memory_needed(guids: u64, groups: u64, fields: u64, text: u64, literals: 
 fn write_header(m: &mut [u8], guids: u32, groups: u32, fields: u32, text: u32, literals: u32)
     requires { ⌜ 128 ≤ length (now m) ⌝ }
     ensures { λ _. ⌜ (headerOf (now (m .exit)) ≡ emptyHeader (record { guids = guids; groups = groups; fields = fields; text = text; literals = literals }) 0)
-        × (countersOf (now (m .exit)) ≡ none-counted)
+        × (countersOf (now (m .exit)) ≡ zeroCounters)
         × (length (now (m .exit)) ≡ length (now (m .entry))) ⌝ }
 {
     put32(m, 0, guids);

@@ -3,7 +3,6 @@ use vrf_words::get32;
 ghost use mathlib.Core.Path.{_≡_};
 ghost use Prim.Native.Nat.{_+_, _*_, _<_, _≤_, _^_};
 ghost use lib.ListN.{length};
-ghost use Rattle.vrf_table.specs.Table.{at, len, text};
 ghost use Rattle.vrf_store.specs.Layout;
 ghost use Rattle.vrf_store.specs.Store.{allowancesOf, headerOf, storeOf, words, halfAt};
 ghost use Rattle.vrf_store.specs.Inner.WellFormed.{Enough};
@@ -235,15 +234,4 @@ pub fn texts(m: &[u8]) -> &[u8]
     let from = half_at(m);
     let to = from + text_allowed(m);
     &m[from..to]
-}
-
-// The text of row e of a table, where x is the memory of the texts.
-pub fn row_text<'a>(rows: &[u8], x: &'a [u8], e: u32) -> &'a [u8]
-    requires { ⌜ (24 * e + 24 ≤ length (now rows)) × (at (now rows) e + len (now rows) e ≤ length (now x)) ⌝ }
-    ensures { λ r. ⌜ now r ≡ text (now (rows .entry)) (now (x .entry)) e ⌝ }
-{
-    let row = 6 * (e as usize);
-    let from = get32(rows, row + 3) as usize;
-    let to = from + (get32(rows, row + 4) as usize);
-    &x[from..to]
 }

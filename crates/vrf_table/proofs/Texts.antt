@@ -7,7 +7,7 @@ use native.Mathlib.Omega.{arith}
 use lib.Dec.{eqb}
 use lib.ListN.{length, getD, take, drop, length-take, length-drop, take-append-drop}
 use lib.Seq.{take-all, drop-drop}
-use Rattle.vrf_text.specs.Laws.Cases.{clash}
+use Rattle.vrf_bitio.specs.Laws.Cases.{clash}
 use Rattle.vrf_path.specs.Text.{same}
 use Rattle.vrf_path.specs.Keys.{coreAlias, keyIs}
 use Rattle.vrf_path.specs.Leaf.{leaf}

@@ -1,7 +1,7 @@
 -- Laws for the search loops: one turn at the entry that pointer p points to, and claims as two walks.
 use mathlib.Core.Path.{_≡_, sym, ap, _∙_}
 use mathlib.Core.Bool.{Bool, true, false, cond}
-use mathlib.Core.Option.{none, some}
+use mathlib.Core.Option.{Option, none, some}
 use Prim.Native.Nat.{ℕ, suc, _-_, _<_, _≤_}
 use native.Mathlib.Omega.{arith}
 use Rattle.vrf_model.specs.Lookup.{absent, ambiguous, claimed}
@@ -12,22 +12,23 @@ use Rattle.vrf_table.specs.Laws.Chain.{walk-at, walk-past, walk-skip, wa
 use Rattle.vrf_table.specs.declared.Entry.{Entry}
 use Rattle.vrf_table.specs.declared.Entry.the-variants.{At, Nowhere}
 
-module _ (hit : ℕ → Bool) (link : ℕ → ℕ) (limit p : ℕ) where
-  pub walk-ended : p ≤ 0 → walk hit link limit p ≡ none
-  walk-ended h = let z : p ≡ 0 = omega arith in rw z (walk-nil hit link limit)
+-- one turn at the pointer p: so far, the walk below limit finds what the whole walk finds
+module _ (hit : ℕ → Bool) (link : ℕ → ℕ) (limit p : ℕ) {o : Option ℕ} (same : o ≡ walk hit link limit p) where
+  pub walk-ended : p ≤ 0 → none ≡ o
+  walk-ended h = let z : p ≡ 0 = omega arith in sym (same ∙ rw z (walk-nil hit link limit))
 
   module _ (h : 0 < p) where
-    pub walk-beyond : limit ≤ p - 1 → walk hit link limit p ≡ none
-    walk-beyond k = walk-past hit link limit p (omega arith)
+    pub walk-beyond : limit ≤ p - 1 → none ≡ o
+    walk-beyond k = sym (same ∙ walk-past hit link limit p (omega arith))
 
     module _ (k : p - 1 < limit) where
-      meets : walk hit link limit p ≡ cond (hit (p - 1)) (some (p - 1)) (walk hit link (p - 1) (link (p - 1)))
-      meets = let z : p ≡ suc (p - 1) = omega arith in walk-skip hit link limit p (omega arith) ∙ ap (λ (i : ℕ). walk hit link i i) z ∙ walk-at hit link (p - 1)
+      meets : o ≡ cond (hit (p - 1)) (some (p - 1)) (walk hit link (p - 1) (link (p - 1)))
+      meets = let z : p ≡ suc (p - 1) = omega arith in same ∙ walk-skip hit link limit p (omega arith) ∙ ap (λ (i : ℕ). walk hit link i i) z ∙ walk-at hit link (p - 1)
 
-      pub walk-found : {b : Bool} → b ≡ hit (p - 1) → b ≡ true → walk hit link limit p ≡ some (p - 1)
-      walk-found e t = meets ∙ rw (sym e ∙ t)
+      pub walk-found : {b : Bool} → b ≡ hit (p - 1) → b ≡ true → some (p - 1) ≡ o
+      walk-found e t = sym (meets ∙ rw (sym e ∙ t))
 
-      pub walk-on : {b : Bool} → b ≡ hit (p - 1) → b ≡ false → {q : ℕ} → q ≡ link (p - 1) → walk hit link limit p ≡ walk hit link (p - 1) q
+      pub walk-on : {b : Bool} → b ≡ hit (p - 1) → b ≡ false → {q : ℕ} → q ≡ link (p - 1) → o ≡ walk hit link (p - 1) q
       walk-on e t eq = meets ∙ rw (sym e ∙ t, eq)
 
 -- r is what the walk found from pointer p on, where the chain starts

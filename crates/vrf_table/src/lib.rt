@@ -21,7 +21,7 @@ ghost use Rattle.vrf_path.specs.Leaf.{leaf};
 ghost use Rattle.vrf_path.specs.Inner.Leaf.{Dotless};
 ghost use Rattle.vrf_words.specs.Words.{word};
 ghost use Rattle.vrf_table.specs.Chain.{walk};
-ghost use Rattle.vrf_table.specs.Table.{at, len, bucket, keyHash, keyBucket, findKey};
+ghost use Rattle.vrf_table.specs.Table.{at, len, text, bucket, keyHash, keyBucket, findKey};
 ghost use Rattle.vrf_table.specs.TextIndex.{turn, fourTurns, lastTurns, textHash, mixed, textBucket, keyNumbered, pathHit, findPath, leafHit, claimAt, claimOf};
 ghost use Rattle.vrf_table.specs.Inner.Table.{setKey, setText};
 ghost use Rattle.vrf_table.specs.Inner.TextIndex.{leafBucket, firstAt};
@@ -108,6 +108,17 @@ pub fn put_text(rows: &mut [u8], e: u32, at: u32, len: u32, info: u32)
     put32(rows, row + 3, at);
     put32(rows, row + 4, len);
     put32(rows, row + 5, info);
+}
+
+// The text of row e, where x is the memory of the texts.
+pub fn row_text<'a>(rows: &[u8], x: &'a [u8], e: u32) -> &'a [u8]
+    requires { ⌜ (24 * e + 24 ≤ length (now rows)) × (at (now rows) e + len (now rows) e ≤ length (now x)) ⌝ }
+    ensures { λ r. ⌜ now r ≡ text (now (rows .entry)) (now (x .entry)) e ⌝ }
+{
+    let row = 6 * (e as usize);
+    let from = get32(rows, row + 3) as usize;
+    let to = from + (get32(rows, row + 4) as usize);
+    &x[from..to]
 }
 
 // Byte i as a number, 0 past the end.
@@ -248,10 +259,7 @@ fn path_hit(rows: &[u8], x: &[u8], e: u32, k: &[u8]) -> bool
     requires { ⌜ (24 * (e / 3) + 24 ≤ length (now rows)) × (at (now rows) (e / 3) + len (now rows) (e / 3) ≤ length (now x)) ⌝ }
     ensures { λ r. ⌜ r ≡ pathHit (now (rows .entry)) (now (x .entry)) (now (k .entry)) e ⌝ }
 {
-    let row = 6 * ((e / 3) as usize);
-    let from = get32(rows, row + 3) as usize;
-    let to = from + (get32(rows, row + 4) as usize);
-    key_is(&x[from..to], e % 3, k)
+    key_is(row_text(rows, x, e / 3), e % 3, k)
 }
 
 // The newest entry that is the key k, out of the entries of n groups.
@@ -329,10 +337,7 @@ fn leaf_hit(rows: &[u8], x: &[u8], e: u32, name: &[u8], suffix: &[u8]) -> bool
     requires { ⌜ Suffixed (now name) (now suffix) × (24 * e + 24 ≤ length (now rows)) × (at (now rows) e + len (now rows) e ≤ length (now x)) ⌝ }
     ensures { λ r. ⌜ r ≡ leafHit (now (rows .entry)) (now (x .entry)) (now (name .entry) ++ now (suffix .entry)) e ⌝ }
 {
-    let row = 6 * (e as usize);
-    let from = get32(rows, row + 3) as usize;
-    let to = from + (get32(rows, row + 4) as usize);
-    leaf_is(&x[from..to], name, suffix)
+    leaf_is(row_text(rows, x, e), name, suffix)
 }
 
 // The first group with that leaf, out of n, in the chain that starts at pointer p.

@@ -1,9 +1,10 @@
 // Writes out texts that the book does not hold: a path's aliases, and leaves with a suffix.
 use vrf_path::Key;
+use vrf_words::lower;
 use vrf_words::put_part;
 ghost use mathlib.Core.Path.{_≡_};
 ghost use mathlib.Core.List.{_++_};
-ghost use Prim.Native.Nat.{_+_, _≤_, min};
+ghost use Prim.Native.Nat.{_+_, _≤_};
 ghost use lib.ListN.{length, drop};
 ghost use Rattle.vrf_path.specs.Answers.{keyBytes};
 ghost use Rattle.vrf_table.specs.Inner.Spelled.{SpelledInto};
@@ -16,15 +17,6 @@ pub fn join(scratch: &mut [u8], a: &[u8], b: &[u8]) -> usize
     put_part(scratch, 0, &a[..]);
     put_part(scratch, a.len(), &b[..]);
     a.len() + b.len()
-}
-
-fn lower(a: usize, b: usize) -> usize
-    ensures { λ r. ⌜ r ≡ min a b ⌝ }
-{
-    if a < b {
-        return a;
-    }
-    b
 }
 
 // The text without its first k bytes.

@@ -10,12 +10,13 @@ use lib.ListN.{take, drop}
 use lib.Pow.{pow-lt, pow-add, shl-shr}
 use lib.Seq.{getD-take, getD-drop}
 use Rattle.vrf_bitio.specs.Bits.{bitOf, bitsOf, bytesOf, Bytes}
+use Rattle.vrf_bitio.specs.Laws.Cases.{by-order}
+use Rattle.vrf_bitio.specs.Laws.Runs.{run-at, bytes-run}
 use Rattle.vrf_bitio.specs.Laws.Bits.{bits-lt, bits-split}
 use Rattle.vrf_text.specs.Utf8.{utf8}
 use Rattle.vrf_text.specs.Inner.Steps.{byteOf, WordHolds, Clear}
-use Rattle.vrf_text.specs.Laws.Cases.{by-order}
 use Rattle.vrf_text.specs.Laws.Utf8.{utf8-ascii}
-use Rattle.vrf_text.proofs.Runs.{run-at, bytes-run, holds-in}
+use Rattle.vrf_text.proofs.Runs.{holds-in}
 
 -- bit b of each of k bytes
 marks : ℕ → ℕ → ℕ

@@ -2,16 +2,17 @@
 use mathlib.Core.Bool.{Bool, true, false, cond, _&&_}
 use mathlib.Core.List.{List, [], _∷_}
 use mathlib.Core.Path.{_≡_, refl, sym, ap, _∙_}
-use Prim.Native.Nat.{ℕ, suc, _/_, _%_, _≤_, _<_, zero-le}
+use Prim.Native.Nat.{ℕ, suc, _+_, _/_, _%_, _≤_, _<_, zero-le}
+use native.Mathlib.Nat.{add-zero}
 use native.Mathlib.Omega.{arith}
 use lib.Dec.{eqb}
 use lib.ListN.{getD, drop}
 use lib.Seq.{getD-drop, drop-drop}
 use borrow.Author.Tests.{le-leb, lt-leb, ne-eqb}
-use Rattle.vrf_text.specs.Utf8.{Lead, asks, bad, lead, within, utf8From, utf8}
+use Rattle.vrf_bitio.specs.Laws.Cases.{by-order, clash}
+use Rattle.vrf_text.specs.Utf8.{asks, bad, lead, within, utf8From, utf8}
 use Rattle.vrf_text.specs.Inner.Steps.{byteOf, WordHolds, Utf8Step}
-use Rattle.vrf_text.specs.Laws.Cases.{at-most, by-order, clash}
-use Rattle.vrf_text.specs.Laws.Utf8.{utf8-lead, utf8-bad, lead-1, lead-2}
+use Rattle.vrf_text.specs.Laws.Utf8.{utf8-lead, utf8-bad, lead-1, lead-2, lo-3, hi-3, lead-3, lo-4, hi-4, lead-4}
 
 -- ---- lead bytes and tail bytes at the start of a list
 
@@ -51,46 +52,6 @@ module _ (a : ℕ) where
         lt-leb a 0xF4 h,
       )
 
-  -- the range of the second byte, by the lead byte
-  abbrev lo-3 : ℕ
-  lo-3 = cond (eqb a 0xE0) 0xA0 0x80
-
-  abbrev hi-3 : ℕ
-  hi-3 = cond (eqb a 0xED) 0x9F 0xBF
-
-  lead-3 : 0xE0 ≤ a → a < 0xF0 → lead a ≡ asks 2 lo-3 hi-3
-  unfolding lead
-  lead-3 h k =
-      let P : Lead → Type 0 = λ r. r ≡ asks 2 lo-3 hi-3 in
-      at-most P a 0x7F (λ q. absurd (omega arith)) λ _.
-      at-most P a 0xC1 (λ q. absurd (omega arith)) λ _.
-      at-most P a 0xDF (λ q. absurd (omega arith)) λ _.
-      at-most P a 0xE0 (λ q. let e : a ≡ 0xE0 = omega arith in rw e) λ p.
-      at-most P a 0xEC (λ q. rw (ne-eqb a 0xE0 (λ e. omega arith), ne-eqb a 0xED (λ e. omega arith))) λ p.
-      at-most P a 0xED (λ q. let e : a ≡ 0xED = omega arith in rw e) λ p.
-      at-most P a 0xEF (λ q. rw (ne-eqb a 0xE0 (λ e. omega arith), ne-eqb a 0xED (λ e. omega arith))) λ q. absurd (omega arith)
-
-  abbrev lo-4 : ℕ
-  lo-4 = cond (eqb a 0xF0) 0x90 0x80
-
-  abbrev hi-4 : ℕ
-  hi-4 = cond (eqb a 0xF4) 0x8F 0xBF
-
-  lead-4 : 0xF0 ≤ a → a ≤ 0xF4 → lead a ≡ asks 3 lo-4 hi-4
-  unfolding lead
-  lead-4 h k =
-      let P : Lead → Type 0 = λ r. r ≡ asks 3 lo-4 hi-4 in
-      at-most P a 0x7F (λ q. absurd (omega arith)) λ _.
-      at-most P a 0xC1 (λ q. absurd (omega arith)) λ _.
-      at-most P a 0xDF (λ q. absurd (omega arith)) λ _.
-      at-most P a 0xE0 (λ q. absurd (omega arith)) λ _.
-      at-most P a 0xEC (λ q. absurd (omega arith)) λ _.
-      at-most P a 0xED (λ q. absurd (omega arith)) λ _.
-      at-most P a 0xEF (λ q. absurd (omega arith)) λ _.
-      at-most P a 0xF0 (λ q. let e : a ≡ 0xF0 = omega arith in rw e) λ p.
-      at-most P a 0xF3 (λ q. rw (ne-eqb a 0xF0 (λ e. omega arith), ne-eqb a 0xF4 (λ e. omega arith))) λ p.
-      at-most P a 0xF4 (λ q. let e : a ≡ 0xF4 = omega arith in rw e) λ q. absurd (omega arith)
-
 -- `pick` is not 0 if neither choice is
 pick-pos : (t : Bool) {x y : ℕ} → 0 < x → 0 < y → 0 < cond t x y
 pick-pos true h k = h
@@ -107,30 +68,24 @@ module _ (w : ℕ) (l : List ℕ) (h : WordHolds w l) where
   unfolding byteOf
   byte-0 = h 0 (omega arith)
 
-  byte-1 : getD (drop 1 l) 0 0 ≡ w / 256 % 256
-  unfolding byteOf
-  byte-1 = getD-drop 1 l 0 0 ∙ h 1 (omega arith)
-
-  byte-2 : getD (drop 2 l) 0 0 ≡ w / 256 / 256 % 256
-  unfolding byteOf
-  byte-2 = getD-drop 2 l 0 0 ∙ h 2 (omega arith)
-
-  byte-3 : getD (drop 3 l) 0 0 ≡ w / 256 / 256 / 256 % 256
-  unfolding byteOf
-  byte-3 = getD-drop 3 l 0 0 ∙ h 3 (omega arith)
-
   led : {n lo hi : ℕ} → lead (w % 256) ≡ asks n lo hi → utf8 l ≡ utf8From n lo hi (drop 1 l)
   led e = begins l (ap lead byte-0 ∙ e)
 
+  -- byte i is due, and between lo and hi
+  tail : (i n lo hi : ℕ) → i < 8 → 0 < lo → utf8From (suc n) lo hi (drop i l) ≡ within lo hi (byteOf w i) && utf8From n 0x80 0xBF (drop (i + 1) l)
+  tail i n lo hi k p = due n lo hi (drop i l) p ∙ rw (getD-drop i l 0 0, add-zero i, h i k, drop-drop 1 i l)
+
   second : (n : ℕ) {lo hi : ℕ} → 0 < lo → lead (w % 256) ≡ asks (suc n) lo hi → utf8 l ≡ within lo hi (w / 256 % 256) && utf8From n 0x80 0xBF (drop 2 l)
-  second n {lo} {hi} p e = led e ∙ due n lo hi (drop 1 l) p ∙ rw (byte-1, drop-drop 1 1 l)
+  unfolding byteOf
+  second n {lo} {hi} p e = led e ∙ tail 1 n lo hi (omega arith) p
 
   third : (n : ℕ) → utf8From (suc n) 0x80 0xBF (drop 2 l) ≡ within 0x80 0xBF (w / 256 / 256 % 256) && utf8From n 0x80 0xBF (drop 3 l)
-  third n = due n 0x80 0xBF (drop 2 l) (omega arith) ∙ rw (byte-2, drop-drop 1 2 l)
+  unfolding byteOf
+  third n = tail 2 n 0x80 0xBF (omega arith) (omega arith)
 
   fourth : utf8From 1 0x80 0xBF (drop 3 l) ≡ within 0x80 0xBF (w / 256 / 256 / 256 % 256) && utf8 (drop 4 l)
-  unfolding utf8
-  fourth = due 0 0x80 0xBF (drop 3 l) (omega arith) ∙ rw (byte-3, drop-drop 1 3 l)
+  unfolding byteOf utf8
+  fourth = tail 3 0 0x80 0xBF (omega arith) (omega arith)
 
 -- each answer of the code, from the tests before it
 module _ (w : ℕ) where
@@ -168,20 +123,21 @@ module _ (w : ℕ) where
   abbrev Fourth : Bool
   Fourth = within 0x80 0xBF (w / 256 / 256 / 256 % 256)
 
+  -- the test of the second byte, by the answers of `pick`
+  picked : {lo hi x y : ℕ} {r t : Bool} → lo ≡ x → hi ≡ y → r ≡ Second lo hi → r ≡ t → Second x y ≡ t
+  picked el eh e f = rw (← el, ← eh) (sym e ∙ f)
+
   module _ (h : 0xE0 ≤ w % 256) (k : w % 256 < 0xF0) where
     of-three : (l : List ℕ) → WordHolds w l → utf8 l ≡ Second (lo-3 (w % 256)) (hi-3 (w % 256)) && (Third && utf8 (drop 3 l))
     unfolding utf8
     of-three l q = second w l q 1 (pick-pos (eqb (w % 256) 0xE0) (omega arith) (omega arith)) (lead-3 (w % 256) h k) ∙ rw (third w l q 0)
 
     module _ {lo hi : ℕ} {r : Bool} (el : lo ≡ lo-3 (w % 256)) (eh : hi ≡ hi-3 (w % 256)) (e : r ≡ Second lo hi) where
-      by-three : {t : Bool} → r ≡ t → Second (lo-3 (w % 256)) (hi-3 (w % 256)) ≡ t
-      by-three f = rw (← el, ← eh) (sym e ∙ f)
-
       pub three-pass : Third ≡ true → r ≡ true → Utf8Step w 4 3
-      three-pass f g = record { few = omega arith; passed = λ l q. sym (of-three l q ∙ rw (by-three g, f)) }
+      three-pass f g = record { few = omega arith; passed = λ l q. sym (of-three l q ∙ rw (picked el eh e g, f)) }
 
       pub three-fail : r ≡ false → Utf8Step w 4 0
-      three-fail g = record { few = omega arith; passed = λ l q. of-three l q ∙ rw (by-three g) }
+      three-fail g = record { few = omega arith; passed = λ l q. of-three l q ∙ rw (picked el eh e g) }
 
   module _ (h : 0xF0 ≤ w % 256) (k : w % 256 ≤ 0xF4) where
     of-four : (l : List ℕ) → WordHolds w l → utf8 l ≡ Second (lo-4 (w % 256)) (hi-4 (w % 256)) && (Third && (Fourth && utf8 (drop 4 l)))
@@ -192,14 +148,11 @@ module _ (w : ℕ) where
     fourth-fail f g = record { few = omega arith; passed = λ l q. of-four l q ∙ rw (f, g, and-false) }
 
     module _ {lo hi : ℕ} {r : Bool} (el : lo ≡ lo-4 (w % 256)) (eh : hi ≡ hi-4 (w % 256)) (e : r ≡ Second lo hi) where
-      by-four : {t : Bool} → r ≡ t → Second (lo-4 (w % 256)) (hi-4 (w % 256)) ≡ t
-      by-four f = rw (← el, ← eh) (sym e ∙ f)
-
       pub four-pass : Third ≡ true → Fourth ≡ true → r ≡ true → Utf8Step w 4 4
-      four-pass f f′ g = record { few = omega arith; passed = λ l q. sym (of-four l q ∙ rw (by-four g, f, f′)) }
+      four-pass f f′ g = record { few = omega arith; passed = λ l q. sym (of-four l q ∙ rw (picked el eh e g, f, f′)) }
 
       pub four-fail : r ≡ false → Utf8Step w 4 0
-      four-fail g = record { few = omega arith; passed = λ l q. of-four l q ∙ rw (by-four g) }
+      four-fail g = record { few = omega arith; passed = λ l q. of-four l q ∙ rw (picked el eh e g) }
 
   pub third-fail : 0xE0 ≤ w % 256 → Third ≡ false → Utf8Step w 4 0
   third-fail h f = by-order (w % 256) 0xEF

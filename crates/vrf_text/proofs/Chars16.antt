@@ -5,9 +5,9 @@ use mathlib.Core.Path.{_≡_, refl, sym, ap, _∙_}
 use Prim.Native.Nat.{ℕ, _+_, _*_, _/_, _%_, _≤_, _<_}
 use native.Mathlib.Omega.{arith}
 use lib.ListN.{getD, drop}
+use Rattle.vrf_bitio.specs.Laws.Cases.{at-most, clash}
 use Rattle.vrf_text.specs.Utf16.{Kind, single, high, low, kind, pair, before, utf16From, utf16}
 use Rattle.vrf_text.specs.Inner.Steps.{WordHolds16, UnitsTaken, Utf16Step}
-use Rattle.vrf_text.specs.Laws.Cases.{at-most, clash}
 use Rattle.vrf_text.specs.Laws.Utf16.{kind-below, kind-above, kind-high, kind-low, single-first, high-first, low-second}
 
 pub low-range : (a : ℕ) → kind a ≡ low → (0xDC00 ≤ a) × (a ≤ 0xDFFF)

@@ -7,10 +7,10 @@ use native.Mathlib.Omega.{arith}
 use lib.ListN.{length, drop, length-append, drop-of-length-le}
 use lib.Seq.{drop-drop}
 use Rattle.vrf_bitio.specs.Pasted.{pasted}
+use Rattle.vrf_bitio.specs.Laws.Cases.{clash}
 use Rattle.vrf_bitio.specs.Laws.Pasted.{pasted-nil, pasted-length, pasted-append}
 use Rattle.vrf_text.specs.Utf16.{before, utf16, utf16From, utf8Of, utf8Chars, unitsToUtf8}
 use Rattle.vrf_text.specs.Inner.Steps.{unitsOf, WordHolds16, UnitsTaken, Utf16Step, FitsTarget, WroteText}
-use Rattle.vrf_text.specs.Laws.Cases.{clash}
 use Rattle.vrf_text.proofs.Runs.{units-drop}
 
 -- the bytes x put before the UTF-8 of the rest, if the rest has no error

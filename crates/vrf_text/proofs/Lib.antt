@@ -6,7 +6,6 @@ pub mod Walks
 pub mod Chars16
 pub mod CharWrites
 pub mod Decoding
-pub mod Signs
 pub mod Texts
 pub mod Words
 pub mod Takes

@@ -11,6 +11,8 @@ use Rattle.vrf_bitio.specs.Reading.{ok}
 use Rattle.vrf_bitio.specs.Window.{rest, copied}
 use Rattle.vrf_bitio.specs.Pasted.{pasted}
 use Rattle.vrf_bitio.specs.Answers.{readAt, Gave, Refuses, CopiedAnswer}
+use Rattle.vrf_bitio.specs.Laws.Cases.{clash}
+use Rattle.vrf_bitio.specs.Laws.Runs.{bytes-run}
 use Rattle.vrf_bitio.specs.Laws.Answers.{refused-first, refused-then, gave-then}
 use Rattle.vrf_bitio.specs.declared.Copied.{Copied}
 use Rattle.vrf_bitio.specs.declared.Copied.the-variants.{Done, Refused as NotCopied}
@@ -19,10 +21,9 @@ use Rattle.vrf_bitio.specs.declared.Refusal.{Refusal}
 use Rattle.vrf_text.specs.Text.{fstring, intoTarget, fstringInto}
 use Rattle.vrf_text.specs.Answers.{TextAnswer}
 use Rattle.vrf_text.specs.Inner.Steps.{bitAt}
-use Rattle.vrf_text.specs.Laws.Cases.{clash}
 use Rattle.vrf_text.specs.declared.Text.{Text}
 use Rattle.vrf_text.specs.declared.Text.the-variants.{Read as Given, Refused as NoText}
-use Rattle.vrf_text.proofs.Runs.{bytes-run, packed-run}
+use Rattle.vrf_text.proofs.Runs.{packed-run}
 
 -- ---- the test of the target's length, for a text v of n bytes
 

@@ -1,6 +1,6 @@
 -- A text on the wire, tested in the slice. Its bytes or units are those left at the cursor, one final zero is dropped, and the answer
 -- depends on what they are as UTF-8.
-use mathlib.Core.Bool.{Bool, true, false, cond, _||_, false≢true}
+use mathlib.Core.Bool.{Bool, true, false, cond, _||_}
 use mathlib.Core.List.{List}
 use mathlib.Core.Option.{Option, none, some}
 use mathlib.Core.Path.{_≡_, refl, sym, ap, _∙_}
@@ -10,9 +10,12 @@ use lib.Dec.{ltb, eqb}
 use lib.ListN.{length}
 use borrow.Author.Tests.{lt-ltb, le-ltb, ltb-false}
 use Rattle.vrf_bitio.specs.Bits.{bitsOf, bytesOf}
+use Rattle.vrf_bitio.specs.Laws.Cases.{neither}
 use Rattle.vrf_bitio.specs.Reading.{Read, ok, refused}
 use Rattle.vrf_bitio.specs.Window.{rest}
+use Rattle.vrf_bitio.specs.Inner.Cursor.{moved}
 use Rattle.vrf_bitio.specs.Answers.{restOf, readAt, Gave}
+use Rattle.vrf_bitio.specs.Laws.Runs.{runs, bytes-run}
 use Rattle.vrf_bitio.specs.Laws.Bits.{bytes-take, bytes-drop}
 use Rattle.vrf_bitio.specs.Laws.Reading.{bind-ok, bind-refused}
 use Rattle.vrf_bitio.specs.Laws.Window.{bytes-length, rest-length}
@@ -22,17 +25,9 @@ use Rattle.vrf_text.specs.Utf16.{unitsToUtf8}
 use Rattle.vrf_text.specs.Text.{textBytes, dropZero, asUtf8, checked, text8, text16}
 use Rattle.vrf_text.specs.Inner.Steps.{unitsOf, bitAt}
 use Rattle.vrf_text.specs.Laws.Text.{textBytes-ok}
-use Rattle.vrf_text.proofs.Runs.{runs, run-trim, bytes-run, units-run}
+use Rattle.vrf_text.proofs.Runs.{run-trim, units-run}
 
 -- ---- the bytes of a text
-
-neither : (a b : Bool) → (a || b) ≡ false → (a ≡ false) × (b ≡ false)
-neither false b e = (refl, e)
-neither true b e = absurd (false≢true (sym e))
-
--- the cursor after n bits
-abbrev pub following : Cursor → ℕ → Cursor
-following c n = record { first = c .first; count = c .count; pos = c .pos + n }
 
 module _ (c : Cursor) (n : ℕ) {t : Bool} (e : t ≡ (ltb 1048576 n || ltb ((c .count - c .pos) / 8) n)) where
   pub few : t ≡ false → (n ≤ 1048576) × (8 * n ≤ c .count - c .pos)
@@ -45,7 +40,7 @@ module _ (c : Cursor) (n : ℕ) {t : Bool} (e : t ≡ (ltb 1048576 n || ltb ((c 
     unfolding textBytes
     too-many h = rw (rest-length s (c .first) (c .count) (c .pos), sym e ∙ h)
 
-    bytes-read : t ≡ false → readAt s c (textBytes start w n) ≡ ok (bytesOf s (bitAt c) n) (c .pos + 8 * n) (restOf s (following c (8 * n)))
+    bytes-read : t ≡ false → readAt s c (textBytes start w n) ≡ ok (bytesOf s (bitAt c) n) (c .pos + 8 * n) (restOf s (moved c (8 * n)))
     unfolding rest
     bytes-read h =
         let m : ℕ = (c .count - c .pos) / 8 in
@@ -79,14 +74,14 @@ module _ (s : List ℕ) (c : Cursor) (start w n : ℕ) {t : Bool} where
     bytes-refused f = bind-refused (textBytes start w n) _ (c .pos) (restOf s c) (too-many c n e s start w f)
 
     pub bytes-reached : t ≡ false → 0 < n → {last k : ℕ} → last ≡ bitsOf s (bitAt c + 8 * (n - 1)) 8 → k ≡ cond (eqb last 0) (n - 1) n
-        → Reached s c (readAt s c (text8 start w n)) start (asUtf8 (bytesOf s (bitAt c) k)) (following c (8 * n))
+        → Reached s c (readAt s c (text8 start w n)) start (asUtf8 (bytesOf s (bitAt c) k)) (moved c (8 * n))
     unfolding text8
     bytes-reached f h {last} {k} el ek =
         let z : dropZero (bytesOf s (bitAt c) n) ≡ bytesOf s (bitAt c) k
         = rw (bytes-run s (bitAt c) n, bytes-run s (bitAt c) k) (trim 8 s (bitAt c) n h el ek) in
         record {
           at = bind-ok (textBytes start w n) _ (c .pos) (restOf s c) (bytes-read c n e s start w f)
-              ∙ ap (λ (b : List ℕ). checked start (asUtf8 b) (c .pos + 8 * n) (restOf s (following c (8 * n)))) z;
+              ∙ ap (λ (b : List ℕ). checked start (asUtf8 b) (c .pos + 8 * n) (restOf s (moved c (8 * n)))) z;
           first = refl;
           count = refl;
         }
@@ -98,7 +93,7 @@ module _ (s : List ℕ) (c : Cursor) (start w n : ℕ) {t : Bool} where
     units-refused f = bind-refused (textBytes start w (2 * n)) _ (c .pos) (restOf s c) (too-many c (2 * n) e s start w f)
 
     pub units-reached : t ≡ false → 0 < n → {last k : ℕ} → last ≡ bitsOf s (bitAt c + 16 * (n - 1)) 16 → k ≡ cond (eqb last 0) (n - 1) n
-        → Reached s c (readAt s c (text16 start w n)) start (unitsToUtf8 (unitsOf s (bitAt c) k)) (following c (16 * n))
+        → Reached s c (readAt s c (text16 start w n)) start (unitsToUtf8 (unitsOf s (bitAt c) k)) (moved c (16 * n))
     unfolding text16
     units-reached f h {last} {k} el ek =
         let z : dropZero (unitsOf s (bitAt c) n) ≡ unitsOf s (bitAt c) k
@@ -106,8 +101,8 @@ module _ (s : List ℕ) (c : Cursor) (start w n : ℕ) {t : Bool} where
         let m : 8 * (2 * n) ≡ 16 * n = omega arith in
         record {
           at = bind-ok (textBytes start w (2 * n)) _ (c .pos) (restOf s c) (bytes-read c (2 * n) e s start w f)
-              ∙ ap (λ (b : List ℕ). checked start (unitsToUtf8 b) (c .pos + 8 * (2 * n)) (restOf s (following c (8 * (2 * n))))) z
-              ∙ ap (λ (k′ : ℕ). checked start (unitsToUtf8 (unitsOf s (bitAt c) k)) (c .pos + k′) (restOf s (following c k′))) m;
+              ∙ ap (λ (b : List ℕ). checked start (unitsToUtf8 b) (c .pos + 8 * (2 * n)) (restOf s (moved c (8 * (2 * n))))) z
+              ∙ ap (λ (k′ : ℕ). checked start (unitsToUtf8 (unitsOf s (bitAt c) k)) (c .pos + k′) (restOf s (moved c k′))) m;
           first = refl;
           count = refl;
         }

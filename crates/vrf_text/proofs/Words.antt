@@ -15,6 +15,7 @@ use Rattle.vrf_bitio.specs.Reading.{Read, ok, refused, return}
 use Rattle.vrf_bitio.specs.Window.{rest}
 use Rattle.vrf_bitio.specs.Number.{word32, int32, signed}
 use Rattle.vrf_bitio.specs.Answers.{restOf, readAt, Gave, Refuses}
+use Rattle.vrf_bitio.specs.Laws.Cases.{by-cond, by-order, clash}
 use Rattle.vrf_bitio.specs.Laws.Bits.{bits-lt}
 use Rattle.vrf_bitio.specs.Laws.Reading.{bind-ok, bind-refused}
 use Rattle.vrf_bitio.specs.Laws.Window.{word-found, word-lacks}
@@ -23,7 +24,6 @@ use Rattle.vrf_bitio.specs.declared.Cursor.{Cursor}
 use Rattle.vrf_bitio.specs.declared.Refusal.{Refusal}
 use Rattle.vrf_text.specs.Text.{text8, text16, textOf, fstring}
 use Rattle.vrf_text.specs.Inner.Steps.{bitAt, LengthOf, FoundAnswer}
-use Rattle.vrf_text.specs.Laws.Cases.{by-cond, by-order, clash}
 use Rattle.vrf_text.specs.Laws.Text.{textOf-8, fstring-at}
 use Rattle.vrf_text.specs.declared.FoundText.{FoundText}
 use Rattle.vrf_text.specs.declared.FoundText.the-variants.{Bytes, Units, Refused}

@@ -1,5 +1,4 @@
 -- Laws of UTF-8, of UTF-16 and of text on the wire, and that each contract determines its answer.
-pub mod Cases
 pub mod Utf8
 pub mod Utf16
 pub mod RoundTrip

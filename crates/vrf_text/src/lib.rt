@@ -388,32 +388,27 @@ fn put_units(s: &[u8], p: u64, n: usize, out: &mut [u8])
 
 // ---- a text on the wire. It is first tested in the slice, so that a refused text leaves the target unchanged, and then copied.
 
-// Decodes a text's length word. A number below 0 is negated; this works for the lowest number too.
+// Decodes a text's length word. A number below 0 is negated.
 fn length_of(n: i32) -> Length
     ensures { λ r. ⌜ LengthOf n r ⌝ }
 {
     if n < 0 {
-        return Length::Units(((-1 - n) as u32) + 1);
+        return Length::Units(vrf_bitio::magnitude(n));
     }
     if n == 0 {
         return Length::Empty;
     }
-    Length::Bytes(n as u32)
+    Length::Bytes(vrf_bitio::magnitude(n))
 }
 
 // Whether n bytes are more than a text on the wire may have, or more than are left.
 fn too_long(c: Cursor, n: u64) -> bool
     ensures { λ r. ⌜ r ≡ (ltb 1048576 n || ltb ((c .count - c .pos) / 8) n) ⌝ }
 {
-    let pos = c.pos;
-    let count = c.count;
     if WIRE_BYTES < n {
         return true;
     }
-    if count < pos {
-        return 0 < n;
-    }
-    (((count - pos) / 8) as u64) < n
+    ((vrf_bitio::left_from(c.count as usize, c.pos as usize) / 8) as u64) < n
 }
 
 // The number of bytes or units of a text of n, after a last one that is 0 is dropped.

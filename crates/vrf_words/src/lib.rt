@@ -142,7 +142,8 @@ fn put_many(m: &mut [u8], at: usize, t: &[u8], k: usize)
     put_sixteen(m, at, t, k + 16);
 }
 
-fn lower(a: usize, b: usize) -> usize
+// The lower of two places.
+pub fn lower(a: usize, b: usize) -> usize
     ensures { λ r. ⌜ r ≡ min a b ⌝ }
 {
     if a < b {

@@ -2,39 +2,21 @@
 use mathlib.Core.Path.{_∙_}
 use native.Mathlib.Omega.{arith}
 use borrow.Author.Needs.{needs}
-use denote.Ref.{now}
 use Rattle.vrf_bitio.proofs.Words.{none, mask-pos, within, across, across-fits}
 use Rattle.vrf_bitio.proofs.bits_within.Statement.{statement}
 use Rattle.vrf_bitio.proofs.bits_within.Tie as tie
 
 returns : tie.Need-returns
-returns c =
-    let start = c .before .before in
-    none (now (start .args .s)) (start .args .p) (start .args .w) (c .if1 .taken)
+returns c = none _ _ _ (c .if1 .taken)
 
 returns-2 : tie.Need-returns-2
-returns-2 c =
-    let at-if2 = c .before in
-    let after-load-u64 = at-if2 .before in
-    let start = after-load-u64 .before .before .before in
-    let a = start .args in
-    c .low-bits .ensures ∙ within (now (a .s)) (a .p) (a .w) _ (after-load-u64 .load-u64 .ensures) (at-if2 .if2 .taken)
+returns-2 c = c .low-bits .ensures ∙ within _ _ _ _ (c .before .before .load-u64 .ensures) (c .before .if2 .taken)
 
 add-result : tie.Need-add-result
-add-result c =
-    let at-if2 = c .before in
-    let after-load-u64 = at-if2 .before in
-    let start = after-load-u64 .before .before .before in
-    let a = start .args in
-    record { fits = across-fits (now (a .s)) (a .p) (a .w) _ _ (after-load-u64 .load-u64 .ensures) (at-if2 .if2 .left) (omega arith) (c .byte-or-zero .ensures .0) }
+add-result c = record { fits = across-fits _ _ _ _ _ (c .before .before .load-u64 .ensures) (c .before .if2 .left) (omega arith) (c .byte-or-zero .ensures .0) }
 
 returns-3 : tie.Need-returns-3
-returns-3 c =
-    let at-if2 = c .before in
-    let after-load-u64 = at-if2 .before in
-    let start = after-load-u64 .before .before .before in
-    let a = start .args in
-    across (now (a .s)) (a .p) (a .w) _ _ (after-load-u64 .load-u64 .ensures) (at-if2 .if2 .left) (omega arith) (c .byte-or-zero .ensures .0)
+returns-3 c = across _ _ _ _ _ (c .before .before .load-u64 .ensures) (c .before .if2 .left) (omega arith) (c .byte-or-zero .ensures .0)
 
 rem-result : tie.Need-rem-result
 rem-result c = mask-pos _ (omega arith)

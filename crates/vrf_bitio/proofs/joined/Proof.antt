@@ -8,7 +8,7 @@ use Rattle.vrf_bitio.proofs.joined.Statement.{statement}
 use Rattle.vrf_bitio.proofs.joined.Tie as tie
 
 add-result : tie.Need-add-result
-add-result c = record { fits = join-fits (c .args .carry) (c .args .next) (c .args .off) (omega arith) (omega arith) }
+add-result c = record { fits = join-fits _ _ _ (omega arith) (omega arith) }
 
 returns : tie.Need-returns
 returns c = ap (λ (x : ℕ). c .args .carry / 2 ^ (c .args .off) + x) (upper (c .args .next) (c .args .off) (omega arith))

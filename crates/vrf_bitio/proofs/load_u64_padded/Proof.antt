@@ -2,7 +2,6 @@
 use mathlib.Core.Path.{_≡_}
 use Prim.Native.Nat.{_+_, _-_, _*_, _≤_}
 use native.Mathlib.Omega.{arith}
-use denote.Ref.{now}
 use Rattle.vrf_bitio.specs.Bits.{bitsOf}
 use Rattle.vrf_bitio.proofs.Words.{fits, below, start, end}
 use Rattle.vrf_bitio.proofs.load_u64_padded.Statement.{statement}
@@ -15,37 +14,24 @@ abbrev μ-loop : tie.MeasureT-loop
 μ-loop s i word₀ k₀ word k = k
 
 loop-holds : tie.Need-loop-holds Inv-loop μ-loop
-loop-holds c = (omega arith, start (now (c .before .before .args .s)) (c .before .before .args .i) (c .left-from .result) (c .left-from .ensures))
+loop-holds c = (omega arith, start _ _ (c .left-from .result) (c .left-from .ensures))
 
 mul-word : tie.Need-mul-word Inv-loop μ-loop
-mul-word c =
-    let at-loop = c .before in
-    let at-start = at-loop .before .before .before in
-    omega (arith, fits (now (at-start .args .s)) (at-start .args .i) (at-loop .loop .k) (at-loop .loop .word) (c .loop-test .taken) (at-loop .loop .inv .1))
+mul-word c = omega (arith, fits _ _ (c .before .loop .k) (c .before .loop .word) (c .loop-test .taken) (c .before .loop .inv .1))
 
 add-word : tie.Need-add-word Inv-loop μ-loop
 add-word c =
-    let at-loop-test = c .before in
-    let at-loop = at-loop-test .before in
-    let at-start = at-loop .before .before .before in
-    omega (arith, fits (now (at-start .args .s)) (at-start .args .i) (at-loop .loop .k) (at-loop .loop .word) (at-loop-test .loop-test .taken) (at-loop .loop .inv .1))
+    let l = c .before .before .loop in
+    omega (arith, fits _ _ (l .k) (l .word) (c .before .loop-test .taken) (l .inv .1))
 
 loop-again : tie.Need-loop-again Inv-loop μ-loop
 loop-again c =
-    let at-loop-test = c .before in
-    let at-loop = at-loop-test .before in
-    let at-start = at-loop .before .before .before in
-    (omega arith, below (now (at-start .args .s)) (at-start .args .i) (at-loop .loop .k) _ _ (at-loop-test .loop-test .taken) (at-loop .loop .inv .0) (at-loop .loop .inv .1) (c .byte-or-zero .ensures))
-
-returns : tie.Need-returns Inv-loop μ-loop
-returns c =
-    let at-loop = c .before in
-    let at-start = at-loop .before .before .before in
-    end (now (at-start .args .s)) (at-start .args .i) _ _ (c .loop-test .left) (at-loop .loop .inv .1)
+    let l = c .before .before .loop in
+    (omega arith, below _ _ (l .k) _ _ (c .before .loop-test .taken) (l .inv .0) (l .inv .1) (c .byte-or-zero .ensures))
 
 pub load-u64-padded-spec : {M : Type 1} → statement M
 load-u64-padded-spec =
     tie.close
     (tie.spec
     Inv-loop μ-loop (λ c κs. tt) loop-holds (λ c. omega arith) mul-word (λ c. omega arith) (λ c κs. tt) add-word
-    (λ c. omega arith) loop-again returns)
+    (λ c. omega arith) loop-again (λ c. end _ _ _ _ (c .loop-test .left) (c .before .loop .inv .1)))

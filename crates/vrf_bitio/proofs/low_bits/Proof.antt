@@ -5,7 +5,7 @@ use Rattle.vrf_bitio.proofs.low_bits.Statement.{statement}
 use Rattle.vrf_bitio.proofs.low_bits.Tie as tie
 
 returns : tie.Need-returns
-returns c = low (c .args .x) (c .args .w) (c .pre .1)
+returns c = low _ _ (c .pre .1)
 
 pub low-bits-spec : {M : Type 1} → statement M
 low-bits-spec = tie.close (tie.spec (λ c. search needs) (λ c. search needs) (λ c. search needs) (λ c. search needs) (λ c. search needs) returns)

@@ -9,6 +9,7 @@ use lib.ListN.{length, getD, take, drop, List·getD-eq-default}
 use lib.Seq.{drop-cons}
 use lib.Pow.{pow-pos, pow-add, mod-pow-add}
 use Rattle.vrf_bitio.specs.Bits.{bitOf, bitsOf, bytesOf, Bytes}
+use Rattle.vrf_bitio.specs.Laws.Runs.{run-take, run-drop, bytes-run}
 
 pub bitOf-lt : (s : List ℕ) (i : ℕ) → bitOf s i < 2
 unfolding bitOf
@@ -72,19 +73,10 @@ bits-past s p (suc w) h =
 
 -- the first n of k whole bytes, and those after the first n
 pub bytes-take : (s : List ℕ) (p n k : ℕ) → n ≤ k → take n (bytesOf s p k) ≡ bytesOf s p n
-unfolding bytesOf
-bytes-take s p zero k h = refl
-bytes-take s p (suc n) zero h = absurd (omega arith)
-bytes-take s p (suc n) (suc k) h = rw (bytes-take s (p + 8) n k (omega arith))
+bytes-take s p n k h = rw (bytes-run s p k, bytes-run s p n) (run-take 8 s p n k h)
 
 pub bytes-drop : (s : List ℕ) (p n k : ℕ) → drop n (bytesOf s p k) ≡ bytesOf s (p + 8 * n) (k - n)
-unfolding bytesOf
-bytes-drop s p zero k = let here : p + 8 * 0 ≡ p = omega arith in let all : k - 0 ≡ k = omega arith in rw (here, all)
-bytes-drop s p (suc n) zero = let none : 0 - suc n ≡ 0 = omega arith in rw none
-bytes-drop s p (suc n) (suc k) =
-    let next : p + 8 + 8 * n ≡ p + 8 * suc n = omega arith in
-    let one : suc k - suc n ≡ k - n = omega arith in
-    rw (one, ← next, bytes-drop s (p + 8) n k)
+bytes-drop s p n k = rw (bytes-run s p k, bytes-run s (p + 8 * n) (k - n)) (run-drop 8 s p n k)
 
 -- n whole bytes from the start of byte i on are n elements of the list, from place i on
 pub bytes-aligned : (s : List ℕ) → Bytes s → (n i : ℕ) → i + n ≤ length s → bytesOf s (8 * i) n ≡ take n (drop i s)

@@ -6,6 +6,7 @@ use mathlib.Core.List.{List}
 use Prim.Native.Nat.{ℕ}
 use native.Mathlib.Omega.{arith}
 use lib.IntN.{ℤ}
+use Rattle.vrf_bitio.specs.Laws.Cases.{clash}
 use Rattle.vrf_bitio.specs.Reading.{Read, ok}
 use Rattle.vrf_bitio.specs.Pasted.{pasted}
 use Rattle.vrf_bitio.specs.Answers.{Gave, Refuses, OpenedAnswer, SubAnswer, BitAnswer, BitsAnswer, ByteAnswer, WordAnswer, IntAnswer, CopiedAnswer}
@@ -46,7 +47,7 @@ module _ {A : Type 0} (x : Read A) where
 
   -- no outcome is both a value and a refusal
   not-both : {v : A} {p : ℕ} {m : List ℕ} {r : Refusal} → x ≡ ok v p m → Refuses x r → ⊥
-  not-both e f = let z : _≡_ {A = ℕ} 0 1 = cc in omega arith
+  not-both e f = clash (cc)
 
 same-bit : (v w : Bool) → cond {A = ℕ} v 1 0 ≡ cond w 1 0 → v ≡ w
 same-bit true true e = refl

@@ -8,6 +8,7 @@ use native.Mathlib.Omega.{arith}
 use lib.ListN.{length, getD}
 use borrow.Author.Tests.{lt-ltb, le-ltb}
 use Rattle.vrf_bitio.specs.Bits.{bytesOf, Bytes}
+use Rattle.vrf_bitio.specs.Laws.Cases.{clash}
 use Rattle.vrf_bitio.specs.Reading.{ok}
 use Rattle.vrf_bitio.specs.Window.{rest}
 use Rattle.vrf_bitio.specs.Number.{byte, chunks, packed, encodeChunks, encodePacked, TakesAtLeast}
@@ -55,14 +56,14 @@ module _ (weight low pos b v p : ℕ) (l m : List ℕ) where
 -- the writer's bytes for what the chunks add are no more than the bytes that were read, whichever those are
 chunks-fewest : (more start weight low pos : ℕ) (l : List ℕ) {v p : ℕ} {m : List ℕ} → Bytes l → chunks start more weight low pos l ≡ ok v p m → Adds more weight low pos l v p m
 unfolding byte
-chunks-fewest more start weight low pos [] h e = let z : _≡_ {A = ℕ} 0 1 = cc (chunks-lacks start weight low pos [] more refl) in absurd (omega arith)
+chunks-fewest more start weight low pos [] h e = clash (cc (chunks-lacks start weight low pos [] more refl))
 chunks-fewest zero start weight low pos (b ∷ l) {v} {p} {m} h e = elim (decLt 0 (b % 2)) [ yes odd ↦ runs-on (omega arith) | no even ↦ elim (decLt 15 (b / 2)) [ yes big ↦ too-large (omega arith) big | no small ↦ fits (omega arith) (omega arith) ] ]
   where
     runs-on : b % 2 ≡ 1 → Adds zero weight low pos (b ∷ l) v p m
-    runs-on odd = let z : _≡_ {A = ℕ} 0 1 = cc (last-runs-on start weight low pos (b ∷ l) refl odd) in absurd (omega arith)
+    runs-on odd = clash (cc (last-runs-on start weight low pos (b ∷ l) refl odd))
 
     too-large : (b % 2 ≡ 1 → ⊥) → 15 < b / 2 → Adds zero weight low pos (b ∷ l) v p m
-    too-large even big = let z : _≡_ {A = ℕ} 0 1 = cc (last-too-large start weight low pos (b ∷ l) refl even big) in absurd (omega arith)
+    too-large even big = clash (cc (last-too-large start weight low pos (b ∷ l) refl even big))
 
     fits : (b % 2 ≡ 1 → ⊥) → b / 2 ≤ 15 → Adds zero weight low pos (b ∷ l) v p m
     fits even small = ends weight low pos b v p l m zero (one-byte zero (b / 2) (omega arith)) (sym (last-ends start weight low pos (b ∷ l) refl even small) ∙ e)

@@ -50,20 +50,22 @@ unfolding lowBytes
 lowBytes-length zero v = refl
 lowBytes-length (suc k) v = ap suc (lowBytes-length k (v / 256))
 
-digits : (n q r s : ℕ) → q ≡ n / 256 → r ≡ q / 256 → s ≡ r / 256 → n < 2 ^ 32 → n % 256 + 256 * (q % 256) + 65536 * (r % 256) + 16777216 * (s % 256) ≡ n
-digits n q r s a b c h =
+-- the four base-256 digits of a 32-bit number add up to the number again
+digits-of : (n q r s : ℕ) → q ≡ n / 256 → r ≡ q / 256 → s ≡ r / 256 → n < 2 ^ 32 → n % 256 + 256 * (q % 256) + 65536 * (r % 256) + 16777216 * (s % 256) ≡ n
+digits-of n q r s a b c h =
     let e0 : n ≡ n % 256 + 256 * q = omega arith in
     let e1 : q ≡ q % 256 + 256 * r = omega arith in
     let e2 : r ≡ r % 256 + 256 * s = omega arith in
     let e3 : s % 256 ≡ s = omega arith in
     omega arith
 
+pub digits : (n : ℕ) → n < 2 ^ 32 → n % 256 + 256 * (n / 256 % 256) + 65536 * (n / 256 / 256 % 256) + 16777216 * (n / 256 / 256 / 256 % 256) ≡ n
+digits n h = digits-of n (n / 256) (n / 256 / 256) (n / 256 / 256 / 256) refl refl refl h
+
 -- reading the writer's bytes of a word gives the word back
 pub word32-decodes : (n : ℕ) → n < 2 ^ 32 → Decodes word32 (encodeWord32 n) n
 unfolding word32 encodeWord32 lowBytes
-word32-decodes n h pos tail =
-    let sum : n % 256 + 256 * (n / 256 % 256) + 65536 * (n / 256 / 256 % 256) + 16777216 * (n / 256 / 256 / 256 % 256) ≡ n = digits n (n / 256) (n / 256 / 256) (n / 256 / 256 / 256) refl refl refl h in
-    ap (λ (k : ℕ). ok k (pos + 32) tail) sum
+word32-decodes n h pos tail = ap (λ (k : ℕ). ok k (pos + 32) tail) (digits n h)
 
 -- reading the writer's bytes of the chunks of n adds weight * n to what was read before
 pub chunks-decode : (more n start weight low pos : ℕ) (tail : List ℕ) → n < 16 * 128 ^ more

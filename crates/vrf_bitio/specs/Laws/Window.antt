@@ -1,7 +1,7 @@
 -- Laws of windows: the bytes left at a position, and the outcome of reading a byte or a word there.
 use mathlib.Core.Path.{_≡_, refl, ap, _∙_}
 use mathlib.Core.List.{List, [], _∷_}
-use Prim.Native.Nat.{ℕ, zero, suc, _+_, _-_, _*_, _/_, _<_, _≤_, min}
+use Prim.Native.Nat.{ℕ, suc, _+_, _-_, _*_, _/_, _<_, _≤_, min}
 use native.Mathlib.Nat.{div-eq-of-lt}
 use native.Mathlib.Omega.{arith}
 use lib.ListN.{length}
@@ -11,12 +11,11 @@ use Rattle.vrf_bitio.specs.Bits.{bitsOf, bytesOf, Bytes}
 use Rattle.vrf_bitio.specs.Reading.{ok, refused}
 use Rattle.vrf_bitio.specs.Window.{rest, window}
 use Rattle.vrf_bitio.specs.Number.{byte, word32}
+use Rattle.vrf_bitio.specs.Laws.Runs.{run-length, bytes-run}
 use Rattle.vrf_bitio.specs.Laws.Bits.{bits-split, bytes-aligned}
 
 pub bytes-length : (s : List ℕ) (p n : ℕ) → length (bytesOf s p n) ≡ n
-unfolding bytesOf
-bytes-length s p zero = refl
-bytes-length s p (suc n) = ap suc (bytes-length s (p + 8) n)
+bytes-length s p n = rw (bytes-run s p n) (run-length 8 s p n)
 
 module _ (s : List ℕ) (first count pos : ℕ) where
   pub rest-length : length (rest s first count pos) ≡ (count - pos) / 8

@@ -8,7 +8,7 @@ use Rattle.vrf_text.specs.Text.{IsText}
 use Rattle.vrf_words.specs.Words.{part}
 use Rattle.vrf_model.specs.Book.{Group, Content}
 use Rattle.vrf_model.specs.Lookup.{placeOr, indexPlace}
-use Rattle.vrf_model.specs.Setting.{withGroups, noGroup, Step, keep, schemaStep, mergedGroup, replacedStep}
+use Rattle.vrf_model.specs.Setting.{withGroups, Step, keep, schemaStep, mergedGroup, replacedStep}
 use Rattle.vrf_store.specs.Store.{allowancesOf, headerOf, storeOf}
 use Rattle.vrf_store.specs.Inner.WellFormed.{WellFormed}
 use Rattle.vrf_store.specs.Inner.Stepped.{held, Stepped}
@@ -16,6 +16,10 @@ use Rattle.vrf_store.specs.Inner.Fields.{withGroup}
 use Rattle.vrf_store.specs.Inner.Groups.{Only}
 
 -- ---- the group at a place
+
+-- the default past the last group
+unfoldable pub noGroup : Group
+noGroup = record { path = []; index = 0; slots = [] }
 
 abbrev pub groupAt : Content → ℕ → Group
 groupAt c e = getD (c .groups) e noGroup

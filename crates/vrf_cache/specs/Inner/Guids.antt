@@ -1,13 +1,10 @@
 -- Contracts of the functions of `guids`: a record is added, or takes a new path and outer.
 use mathlib.Core.Path.{_≡_}
-use mathlib.Core.Bool.{Bool, _&&_}
 use mathlib.Core.List.{List, [], _∷_, _++_}
 use mathlib.Core.Option.{none}
 use Prim.Native.Nat.{ℕ, _<_}
-use lib.Dec.{eqb}
 use lib.ListN.{length, set}
 use Rattle.vrf_text.specs.Text.{IsText}
-use Rattle.vrf_path.specs.Text.{same}
 use Rattle.vrf_model.specs.Book.{Guid, Content}
 use Rattle.vrf_model.specs.Lookup.{placeOr, guidPlace}
 use Rattle.vrf_model.specs.Setting.{Step, keep, guidStep, withGuids}
@@ -51,9 +48,3 @@ pub record GuidToChange (m path : List ℕ) (e : ℕ) : Type 0 where
   pub good : WellFormed m
   pub isText : IsText path
   pub known : e < headerOf m .guids
-
--- ---- an identical setting
-
--- whether a record has this path and this outer
-abbrev pub has : List ℕ → ℕ → Guid → Bool
-has path outer g = same path (g .path) && eqb outer (g .outer)

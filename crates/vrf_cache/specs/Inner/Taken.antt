@@ -6,7 +6,7 @@ use mathlib.Core.List.{List}
 use Prim.Native.Nat.{ℕ}
 use lib.ListN.{length}
 use Rattle.vrf_bitio.specs.declared.Refusal.{Refusal}
-use Rattle.vrf_model.specs.Book.{Content, Counters, stepped}
+use Rattle.vrf_model.specs.Book.{Content, Increments, stepped}
 use Rattle.vrf_model.specs.Setting.{Step, done, refuses}
 use Rattle.vrf_model.specs.declared.Acted.{Acted}
 use Rattle.vrf_model.specs.declared.Acted.the-variants.{Done, Refused as NotActed}
@@ -19,7 +19,7 @@ use Rattle.vrf_store.specs.Inner.WellFormed.{WellFormed}
 use Rattle.vrf_store.specs.Inner.Stepped.{held}
 
 -- m′ is well-formed and as long as m, holds c, has the counters of m stepped by t, and has the literals of m
-pub record HoldsContent (m m′ : List ℕ) (c : Content) (t : Counters) : Type 0 where
+pub record HoldsContent (m m′ : List ℕ) (c : Content) (t : Increments) : Type 0 where
   pub good : WellFormed m′
   pub content : held m′ ≡ c
   pub counters : countersOf m′ ≡ stepped (countersOf m) t
@@ -29,7 +29,7 @@ pub record HoldsContent (m m′ : List ℕ) (c : Content) (t : Counters) : Type 
 -- the step s is done and answers a
 pub record Taken {A : Type 0} (s : Step A) (a : A) (m m′ : List ℕ) : Type 0 where
   pub content : Content
-  pub counted : Counters
+  pub counted : Increments
   pub step : s ≡ done a content counted
   pub holds : HoldsContent m m′ content counted
 

@@ -11,12 +11,12 @@ use native.Mathlib.Omega.{arith}
 use lib.ListN.{length, getD}
 use borrow.Author.Tests.{lt-ltb, le-ltb}
 use Rattle.vrf_bitio.specs.Bits.{Bytes}
-use Rattle.vrf_text.specs.Laws.Cases.{clash}
+use Rattle.vrf_bitio.specs.Laws.Cases.{clash}
 use Rattle.vrf_path.specs.Text.{same}
 use Rattle.vrf_path.specs.Laws.Text.{same-true}
 use Rattle.vrf_words.specs.Words.{part}
 use Rattle.vrf_words.specs.Laws.Words.{length-part}
-use Rattle.vrf_model.specs.Book.{empty, filled, Group, Allowances, Content, none-counted, slotFields, slotText}
+use Rattle.vrf_model.specs.Book.{empty, filled, Group, Allowances, Content, noIncrement, slotFields, slotText}
 use Rattle.vrf_model.specs.Lookup.{indexPlace, slotAt}
 use Rattle.vrf_model.specs.Setting.{Step, done, droppedStep, renamedStep, withGroups, renames, setFieldAt, setField}
 use Rattle.vrf_table.specs.Table.{key, at, len, info, text}
@@ -45,7 +45,7 @@ use Rattle.vrf_cache.specs.Laws.Groups.Slots.{slot-place, slot-counts, s
 
 -- no counter changes if no name changes
 still : {m m′ : List ℕ} {c : Content} → WellFormed m → Bytes m → Stepped m m′ c → HoldsContent m m′ c (renamedStep 0)
-unfolding renamedStep none-counted
+unfolding renamedStep noIncrement
 still good b s = record { good = s .good; content = s .content; counters = s .counters ∙ unmoved good b .counters; long = s .long; literals = s .literals }
 
 -- ---- the slots of a well-formed memory

@@ -15,10 +15,10 @@ use Rattle.vrf_bitio.specs.Bits.{Bytes}
 use Rattle.vrf_text.specs.Text.{IsText}
 use Rattle.vrf_path.specs.Text.{same}
 use Rattle.vrf_words.specs.Words.{part}
-use Rattle.vrf_model.specs.Book.{Guid, Allowances, Content, guidText, heldText, none-counted}
+use Rattle.vrf_model.specs.Book.{Guid, Allowances, Content, guidText, heldText, noIncrement}
 use Rattle.vrf_model.specs.Lookup.{placeOr, guidPlace}
-use Rattle.vrf_model.specs.Setting.{Step, guidStep, withGuids, sameGuid, setGuidAt, setGuid}
-use Rattle.vrf_model.specs.Laws.Places.{placeOr-at}
+use Rattle.vrf_model.specs.Setting.{Step, guidStep, withGuids, newGuid, withPath, hasPath, setGuidAt, setGuid}
+use Rattle.vrf_model.specs.Laws.Places.{placeOr-at, alter-set}
 use Rattle.vrf_table.specs.Table.{key}
 use Rattle.vrf_store.specs.Store.{allowancesOf, headerOf, storeOf, guidAt, contentOf}
 use Rattle.vrf_store.specs.Inner.WellFormed.{WellFormed}
@@ -31,15 +31,12 @@ use Rattle.vrf_store.specs.Laws.Lookups.{guid-known}
 use Rattle.vrf_cache.specs.Inner.Taken.{Taken, NotTaken}
 use Rattle.vrf_cache.specs.Inner.Passed.{passedBy, passesBy}
 use Rattle.vrf_cache.specs.Inner.Texts.{TextWritten}
-use Rattle.vrf_cache.specs.Inner.Guids.{setting, withNew, GuidToAdd, withOther, pathBytes, otherPasses, GuidToChange, has}
+use Rattle.vrf_cache.specs.Inner.Guids.{setting, withNew, GuidToAdd, withOther, pathBytes, otherPasses, GuidToChange}
 use Rattle.vrf_cache.specs.Laws.Taken.{unmoved, then, same-then, counted-then}
 use Rattle.vrf_cache.specs.Laws.Passed.{HeldCounts, sum-set, counts-guid, counts-guid-set}
 use Rattle.vrf_cache.specs.Laws.Keeping.{CountsAllowed, allows, kept, full}
 use Rattle.vrf_cache.specs.Laws.Numbers.{allowed, counts, Numbers, numbers}
 use Rattle.vrf_cache.specs.Laws.Texts.{put-placed, none-placed}
-
-abbrev guidIs : ℕ → List ℕ → ℕ → Guid
-guidIs guid path outer = record { guid = guid; path = path; outer = outer }
 
 -- ---- one more record
 
@@ -48,10 +45,10 @@ module _ {m path : List ℕ} (guid outer : ℕ) {w : ℕ} (asked : GuidToAdd m p
   e = let whole : headerOf m .held - 0 ≡ headerOf m .held = omega arith in rw (add-zero (headerOf m .groups), add-zero (headerOf m .fields), whole) at passes
 
   abbrev added : Content
-  added = withNew (held m) (guidIs guid path outer)
+  added = withNew (held m) (newGuid guid path outer)
 
   added-counts : HeldCounts added (headerOf m .guids + 1) (headerOf m .groups) (headerOf m .fields) (headerOf m .held + length path)
-  added-counts = counts-guid (held m) (counts (asked .good)) (guidIs guid path outer)
+  added-counts = counts-guid (held m) (counts (asked .good)) (newGuid guid path outer)
 
   added-allowed : added .allowed ≡ allowancesOf m
   unfolding withGuids
@@ -97,7 +94,7 @@ module _ {m : List ℕ} (good : WellFormed m) {e : ℕ} (known : e < headerOf m 
   pub path-held : pathBytes (held m) e ≤ headerOf m .held
   unfolding heldText guidText
   path-held =
-      let d = guidIs 0 [] 0 in
+      let d = newGuid 0 [] 0 in
       omega (arith, path-bytes d, sum-set guidText (held m .guids) e d d listed, counts good .text-is)
 
   -- the GUID of a record is its row's key
@@ -121,10 +118,10 @@ module _ {m path : List ℕ} {e : ℕ} (outer : ℕ) {w : ℕ} (asked : GuidToCh
   guid = key (storeOf m .guidRows) e
 
   abbrev other : List ℕ → Content
-  other t = withOther (held m) e (guidIs guid t outer)
+  other t = withOther (held m) e (newGuid guid t outer)
 
   counted : (t : List ℕ) → HeldCounts (other t) (headerOf m .guids) (headerOf m .groups) (headerOf m .fields) (headerOf m .held - pathBytes (held m) e + length t)
-  counted t = other-counts (asked .good) (asked .known) (guidIs guid t outer)
+  counted t = other-counts (asked .good) (asked .known) (newGuid guid t outer)
 
   other-allowed : (t : List ℕ) → other t .allowed ≡ allowancesOf m
   unfolding withGuids
@@ -164,32 +161,33 @@ module _ {m path : List ℕ} {e : ℕ} (outer : ℕ) {w : ℕ} (asked : GuidToCh
       same-key : key (storeOf m₂ .guidRows) e ≡ guid
       unfolding withGuids
       same-key =
-          let d = guidIs guid [] outer in
+          let d = newGuid guid [] outer in
           sym (listed-key (second .good) there d)
           ∙ ap (λ (c : Content). getD (c .guids) e d .guid) (second .content)
           ∙ ap (λ (g : Guid). g .guid) (getD-set-same (held m .guids) e d d (listed (asked .good) (asked .known)))
 
       set-again : (r : Guid) → withOther (other []) e r ≡ withOther (held m) e r
       unfolding withGuids
-      set-again r = ap (withGuids (held m)) (set-set (held m .guids) e (guidIs guid [] outer) r)
+      set-again r = ap (withGuids (held m)) (set-set (held m .guids) e (newGuid guid [] outer) r)
 
       pub other-taken : {m₃ m₄ : List ℕ} → Stepped m₂ m₃ (withOther (held m₂) e (guidOf (storeOf m₂) (key (storeOf m₂ .guidRows) e) a (length path) outer)) → CountersStepped m₃ m₄ guidStep → Taken (setting (other path)) tt m m₄
       other-taken s k = kept (counted path) (other-allowed path) q (tt {0}) guidStep z (counted-then (then second (rw (second .content, p .text, same-key, set-again) at s)) k)
 
 -- ---- identical, changed or new
 
-pub has-both : {m : List ℕ} (path : List ℕ) (outer : ℕ) {e : ℕ} → GuidToChange m path e → placeOr (has path outer) false (held m .guids) e ≡ (same path (placeOr (λ (g : Guid). g .path) [] (held m .guids) e) && eqb outer (placeOr (λ (g : Guid). g .outer) 0 (held m .guids) e))
+pub has-both : {m : List ℕ} (path : List ℕ) (outer : ℕ) {e : ℕ} → GuidToChange m path e → placeOr (hasPath path outer) false (held m .guids) e ≡ (same path (placeOr (λ (g : Guid). g .path) [] (held m .guids) e) && eqb outer (placeOr (λ (g : Guid). g .outer) 0 (held m .guids) e))
+unfolding hasPath
 has-both {m} path outer {e} asked =
     let l = held m .guids in
-    let d = guidIs 0 [] 0 in
+    let d = newGuid 0 [] 0 in
     let there : e < length l = listed (asked .good) (asked .known) in
-    rw (placeOr-at (has path outer) false l e d there, placeOr-at (λ (g : Guid). g .path) [] l e d there, placeOr-at (λ (g : Guid). g .outer) 0 l e d there)
+    rw (placeOr-at (hasPath path outer) false l e d there, placeOr-at (λ (g : Guid). g .path) [] l e d there, placeOr-at (λ (g : Guid). g .outer) 0 l e d there)
 
 module _ (m : List ℕ) (guid : ℕ) (path : List ℕ) (outer : ℕ) where
   abbrev asked : Step (Unit {0})
-  asked = setGuid (guidIs guid path outer) (held m)
+  asked = setGuid guid path outer (held m)
 
-  pub set-new : guidPlace guid (held m .guids) ≡ none → asked ≡ setting (withNew (held m) (guidIs guid path outer))
+  pub set-new : guidPlace guid (held m .guids) ≡ none → asked ≡ setting (withNew (held m) (newGuid guid path outer))
   unfolding setGuid setGuidAt
   set-new o = rw o
 
@@ -197,10 +195,13 @@ module _ (m : List ℕ) (guid : ℕ) (path : List ℕ) (outer : ℕ) where
     pub found : IsText path → GuidToChange m path e
     found isText = record { good = good; isText = isText; known = guid-known (good .valid) guid e o .0 }
 
-    pub set-same : Bytes m → true ≡ placeOr (has path outer) false (held m .guids) e → Taken asked tt m m
-    unfolding setGuid setGuidAt sameGuid
-    set-same b h = record { content = held m; counted = none-counted; step = rw (o, ← h); holds = unmoved good b }
+    pub set-same : Bytes m → true ≡ placeOr (hasPath path outer) false (held m .guids) e → Taken asked tt m m
+    unfolding setGuid setGuidAt
+    set-same b h = record { content = held m; counted = noIncrement; step = rw (o, ← h); holds = unmoved good b }
 
-    pub set-other : false ≡ placeOr (has path outer) false (held m .guids) e → asked ≡ setting (withOther (held m) e (guidIs (key (storeOf m .guidRows) e) path outer))
-    unfolding setGuid setGuidAt sameGuid
-    set-other h = rw (o, ← h, guid-known (good .valid) guid e o .1)
+    pub set-other : false ≡ placeOr (hasPath path outer) false (held m .guids) e → asked ≡ setting (withOther (held m) e (newGuid (key (storeOf m .guidRows) e) path outer))
+    unfolding setGuid setGuidAt
+    set-other h =
+        let d = newGuid 0 [] 0 in
+        let known = guid-known (good .valid) guid e o .0 in
+        rw (o, ← h, alter-set (withPath path outer) (held m .guids) e d (listed good known), listed-key good known d)

@@ -8,7 +8,7 @@ use mathlib.Core.Option.{Option, none, some}
 use Prim.Native.Nat.{ℕ, _≤_}
 use native.Mathlib.Omega.{arith}
 use lib.Dec.{ltb}
-use Rattle.vrf_model.specs.Book.{Allowances, Content, Counters, passed}
+use Rattle.vrf_model.specs.Book.{Allowances, Content, Increments, passed}
 use Rattle.vrf_model.specs.Setting.{unlessPassed, keep}
 use Rattle.vrf_model.specs.Laws.Held.{passed-within}
 use Rattle.vrf_store.specs.Inner.Opening.{orZero}
@@ -60,7 +60,7 @@ module _ {c : Content} {guids groups fields text w : ℕ} {b : Allowances} (k : 
         text-fits = rw (k .text-is, same) at (within .text);
       }
 
-  module _ {A : Type 0} (a : A) (t : Counters) {m m′ : List ℕ} where
+  module _ {A : Type 0} (a : A) (t : Increments) {m m′ : List ℕ} where
     pub kept : w ≡ 0 → HoldsContent m m′ c t → Taken (keep a c t) a m m′
     unfolding keep unlessPassed
     kept z h = record { content = c; counted = t; step = rw (nothing-passed z); holds = h }

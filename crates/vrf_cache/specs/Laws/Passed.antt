@@ -2,24 +2,44 @@
 use mathlib.Core.Path.{_≡_, _∙_}
 use mathlib.Core.List.{List, [], _∷_, _++_}
 use mathlib.Core.Option.{none}
-use Prim.Native.Nat.{ℕ, zero, suc, _+_, _<_}
+use Prim.Native.Nat.{ℕ, zero, suc, _+_, _<_, _≤_}
 use native.Mathlib.Nat.{not-suc-le-zero, le-of-suc-le-suc}
 use native.Mathlib.Omega.{arith}
 use lib.ListN.{length, getD, set, length-append, length-set}
-use borrow.Author.Tests.{le-ltb}
-use Rattle.vrf_model.specs.Book.{Guid, Group, Content, sum, guidText, groupFields, groupText, heldFields, heldText, passed}
+use borrow.Author.Tests.{lt-ltb, le-ltb}
+use Rattle.vrf_model.specs.Book.{Guid, Group, Content, Allowances, sum, guidText, groupFields, groupText, heldFields, heldText, passed}
 use Rattle.vrf_model.specs.Setting.{withGuids, withGroups}
 use Rattle.vrf_model.specs.Laws.Held.{sum-last}
 use Rattle.vrf_store.specs.Store.{allowancesOf, headerOf}
 use Rattle.vrf_store.specs.Inner.WellFormed.{WellFormed}
+use Rattle.vrf_store.specs.Inner.Opening.{orZero}
 use Rattle.vrf_cache.specs.Inner.Passed.{passedBy}
+
+-- the lowest allowance that is passed, as `full::passed` answers it
+module _ (a : Allowances) (guids groups fields text : ℕ) where
+  pub passes-guids : a .guids < guids → 1 ≡ orZero (passedBy a guids groups fields text)
+  unfolding passedBy
+  passes-guids h = rw (lt-ltb _ _ h)
+
+  pub passes-groups : guids ≤ a .guids → a .groups < groups → 2 ≡ orZero (passedBy a guids groups fields text)
+  unfolding passedBy
+  passes-groups g h = rw (le-ltb _ _ g, lt-ltb _ _ h)
+
+  pub passes-fields : guids ≤ a .guids → groups ≤ a .groups → a .fields < fields → 3 ≡ orZero (passedBy a guids groups fields text)
+  unfolding passedBy
+  passes-fields g r h = rw (le-ltb _ _ g, le-ltb _ _ r, lt-ltb _ _ h)
+
+  pub passes-text : guids ≤ a .guids → groups ≤ a .groups → fields ≤ a .fields → a .text < text → 4 ≡ orZero (passedBy a guids groups fields text)
+  unfolding passedBy
+  passes-text g r f h = rw (le-ltb _ _ g, le-ltb _ _ r, le-ltb _ _ f, lt-ltb _ _ h)
+
+  pub passes-none : guids ≤ a .guids → groups ≤ a .groups → fields ≤ a .fields → text ≤ a .text → passedBy a guids groups fields text ≡ none
+  unfolding passedBy
+  passes-none g r f t = rw (le-ltb _ _ g, le-ltb _ _ r, le-ltb _ _ f, le-ltb _ _ t)
 
 -- a well-formed memory passes no allowance
 pub within : {m : List ℕ} → WellFormed m → passedBy (allowancesOf m) (headerOf m .guids) (headerOf m .groups) (headerOf m .fields) (headerOf m .held) ≡ none
-unfolding passedBy
-within good =
-    let h = good .valid .header in
-    rw (le-ltb _ _ (h .guids), le-ltb _ _ (h .groups), le-ltb _ _ (h .fields), le-ltb _ _ (h .held))
+within good = let h = good .valid .header in passes-none _ _ _ _ _ (h .guids) (h .groups) (h .fields) (h .held)
 
 -- the counts of a content
 pub record HeldCounts (c : Content) (guids groups fields text : ℕ) : Type 0 where

@@ -1,47 +1,35 @@
 -- `vrf_check::each_field_ok` satisfies its contract. The loop invariant: the rows passed so far are good.
 use mathlib.Core.Path.{_≡_}
-use mathlib.Core.Bool.{true}
-use Prim.Native.Nat.{_-_, _≤_}
+use mathlib.Core.Bool.{Bool, true}
+use Prim.Native.Nat.{ℕ, _-_, _≤_}
 use native.Mathlib.Omega.{arith}
 use denote.Ref.{now}
 use Rattle.vrf_store.specs.UpTo.{allBelow}
-use Rattle.vrf_store.specs.Inner.Check.{fieldRow}
-use Rattle.vrf_store.specs.Laws.Check.Steps.{all-first, all-last, all-next, all-stop}
+use Rattle.vrf_check.specs.Inner.Steps.{fieldRowOk}
+use Rattle.vrf_store.specs.Laws.Check.Steps.{fails, holds}
+use Rattle.vrf_check.specs.Laws.Tests.{all-first, all-last, all-next, all-stop}
 use Rattle.vrf_check.proofs.each_field_ok.Statement.{statement}
 use Rattle.vrf_check.proofs.each_field_ok.Tie as tie
 
 abbrev Inv-loop : tie.InvT-loop
-Inv-loop groups g rows heads b n e₀ e = (e ≤ n) × (allBelow (fieldRow groups g rows heads b n) e ≡ true)
+Inv-loop groups g rows heads b n e₀ e = (e ≤ n) × (allBelow (fieldRowOk groups g rows heads b n) e ≡ true)
 
 abbrev μ-loop : tie.MeasureT-loop
 μ-loop groups g rows heads b n e₀ e = n - e
 
+abbrev ok : tie.At-loop Inv-loop μ-loop → ℕ → Bool
+ok c = let x = c .before .before .before .before .args in fieldRowOk (now (x .groups)) (x .g) (now (x .rows)) (now (x .heads)) (x .b) (x .n)
+
 returns : tie.Need-returns Inv-loop μ-loop
 returns c =
-    let after-field-ok = c .before in
-    let at-loop-test = after-field-ok .before in
-    let at-loop = at-loop-test .before in
-    let start = at-loop .before .before .before .before in
-    let l = at-loop .loop in
-    let x = start .args in
-    all-stop (fieldRow (now (x .groups)) (x .g) (now (x .rows)) (now (x .heads)) (x .b) (x .n)) (l .e) (after-field-ok .field-ok .ensures) (x .n) (at-loop-test .loop-test .taken) (c .if1 .taken)
+    let l = c .before .before .before in
+    all-stop (ok l) (l .loop .e) _ (c .before .before .loop-test .taken) (fails (c .before .field-ok .ensures) (c .if1 .taken))
 
 loop-again : tie.Need-loop-again Inv-loop μ-loop
-loop-again c =
-    let after-field-ok = c .before in
-    let at-loop = after-field-ok .before .before in
-    let start = at-loop .before .before .before .before in
-    let l = at-loop .loop in
-    let x = start .args in
-    (omega arith, all-next (fieldRow (now (x .groups)) (x .g) (now (x .rows)) (now (x .heads)) (x .b) (x .n)) (l .e) (after-field-ok .field-ok .ensures) (c .if1 .left) (l .inv .1))
+loop-again c = let l = c .before .before .before in (omega arith, all-next (ok l) (l .loop .e) (holds (c .before .field-ok .ensures) (c .if1 .left)) (l .loop .inv .1))
 
 returns-2 : tie.Need-returns-2 Inv-loop μ-loop
-returns-2 c =
-    let at-loop = c .before in
-    let start = at-loop .before .before .before .before in
-    let l = at-loop .loop in
-    let x = start .args in
-    all-last (fieldRow (now (x .groups)) (x .g) (now (x .rows)) (now (x .heads)) (x .b) (x .n)) (l .e) (x .n) (l .inv .0) (c .loop-test .left) (l .inv .1)
+returns-2 c = let l = c .before .loop in all-last (ok (c .before)) (l .e) _ (l .inv .0) (c .loop-test .left) (l .inv .1)
 
 pub each-field-ok-spec : {M : Type 1} → statement M
 each-field-ok-spec =

@@ -3,16 +3,14 @@ use mathlib.Core.Path.{ap}
 use native.Mathlib.Omega.{arith}
 use lib.ListN.{length}
 use borrow.Author.Needs.{needs}
-use Rattle.vrf_store.specs.Inner.Check.{fieldsOk}
+use Rattle.vrf_check.specs.Inner.Steps.{fieldsOk}
 use Rattle.vrf_check.proofs.fields_ok.Statement.{statement}
 use Rattle.vrf_check.proofs.fields_ok.Tie as tie
 
 each-field-ok-requires : tie.Need-each-field-ok-requires
 each-field-ok-requires c κs =
-    let after-field-heads = c .before in
-    let after-field-rows = after-field-heads .before in
-    let after-group-rows = after-field-rows .before .before in
-    omega (arith, ap length (after-group-rows .group-rows .ensures), ap length (after-field-rows .field-rows .ensures), ap length (after-field-heads .field-heads .ensures))
+    let heads = c .before .before in
+    omega (arith, ap length (heads .before .before .before .group-rows .ensures), ap length (heads .before .field-rows .ensures), ap length (heads .field-heads .ensures))
 
 returns : tie.Need-returns
 unfolding fieldsOk
@@ -22,6 +20,5 @@ pub fields-ok-spec : {M : Type 1} → statement M
 fields-ok-spec =
     tie.close
     (tie.spec
-    (λ c κs. search needs) (λ c. search needs) (λ c. search needs) (λ c. search needs) (λ c κs. search needs)
-    (λ c κs. search needs) (λ c κs. search needs) (λ c κs. search needs) (λ c κs. search needs) each-field-ok-requires
-    returns)
+    (λ c κs. search needs) (λ c κs. search needs) (λ c κs. search needs) (λ c κs. search needs) (λ c κs. search needs)
+    (λ c κs. search needs) each-field-ok-requires returns)

@@ -4,8 +4,8 @@ use Prim.Native.Nat.{_/_, _%_}
 use lib.Dec.{ltb}
 use borrow.Author.Needs.{needs}
 use borrow.Author.Tests.{lt-ltb, le-ltb}
-use Rattle.vrf_store.specs.Inner.Check.{slotIn}
-use Rattle.vrf_store.specs.Laws.Check.Steps.{and-stop, and-on}
+use Rattle.vrf_check.specs.Inner.Steps.{slotIn}
+use Rattle.vrf_check.specs.Laws.Tests.{and-stop, and-on}
 use Rattle.vrf_check.proofs.slot_ok.Statement.{statement}
 use Rattle.vrf_check.proofs.slot_ok.Tie as tie
 

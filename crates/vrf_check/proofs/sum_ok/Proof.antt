@@ -4,7 +4,7 @@ use native.Mathlib.Omega.{arith}
 use lib.ListN.{length}
 use borrow.Author.Needs.{needs}
 use Rattle.vrf_store.specs.Check.{textSum}
-use Rattle.vrf_store.specs.Inner.Check.{sumOk}
+use Rattle.vrf_check.specs.Inner.Steps.{sumOk}
 use Rattle.vrf_check.proofs.sum_ok.Statement.{statement}
 use Rattle.vrf_check.proofs.sum_ok.Tie as tie
 

@@ -3,10 +3,8 @@ use mathlib.Core.List.{List}
 use Prim.Native.Nat.{ℕ, _≤_}
 use lib.ListN.{length}
 use Rattle.vrf_bitio.specs.declared.Cursor.{Cursor}
-use Rattle.vrf_bitio.specs.declared.Word.{Word}
-use Rattle.vrf_bitio.specs.declared.Word.the-variants.{Value, Refused as NoWord}
-use Rattle.vrf_model.specs.Parser.{Parser, return, fail, _>>=_}
-use Rattle.vrf_model.specs.Block.{BlockCounts, PathTable, zeroWord, countUpTo, blockGuids, blockGroups, blockEnd, block}
+use Rattle.vrf_model.specs.Parser.{Parser, return, fail, _>>=_, sumFrom}
+use Rattle.vrf_model.specs.Block.{BlockCounts, PathTable, noPaths, byTable, zeroWord, countUpTo, blockGuids, blockGroup, blockEnd, block}
 use Rattle.vrf_model.specs.Answers.{countsOf}
 use Rattle.vrf_model.specs.declared.Tables.{Tables}
 use Rattle.vrf_model.specs.declared.Tables.the-variants.{Read, Refused as NotRead}
@@ -14,14 +12,15 @@ use Rattle.vrf_store.specs.Inner.WellFormed.{WellFormed}
 use Rattle.vrf_reader.specs.Inner.Simulates.{Simulates}
 use Rattle.vrf_reader.specs.declared.Advanced.{Advanced}
 use Rattle.vrf_reader.specs.declared.Advanced.the-variants.{To, Refused as NotMoved}
-use Rattle.vrf_checkpoint.specs.Inner.Guids.{noTable}
+use Rattle.vrf_reader.specs.declared.ReadNumber.{ReadNumber}
+use Rattle.vrf_reader.specs.declared.ReadNumber.the-variants.{Of as Number, Refused as NoNumber}
 use Rattle.vrf_checkpoint.specs.declared.block.BlockHead.{BlockHead}
 use Rattle.vrf_checkpoint.specs.declared.block.BlockHead.the-variants.{Of, Refused as NoHead}
 
 -- an accepted count is at most `top`
-abbrev pub UpTo : ℕ → Word → Type 0
-UpTo top (Value n d) = n ≤ top
-UpTo top (NoWord r) = Unit {0}
+abbrev pub UpTo : ℕ → ReadNumber → Type 0
+UpTo top (Number n d) = n ≤ top
+UpTo top (NoNumber r) = Unit {0}
 
 -- ---- the parts of `block`, from a point in it to its end
 
@@ -35,17 +34,17 @@ endFrom w guids table groups fields =
       fields = fields;
       frame = frame;
       indexed = table .indexed;
-      literals = length (table .literals);
+      literals = table .literals;
       resolved = table .resolved;
     })
 
 -- the groups with their count, then the end
 abbrev pub groupsFrom : ℕ → ℕ → PathTable → Parser BlockCounts
-groupsFrom w guids table = countUpTo 2 100000 >>= λ groups. blockGroups groups 0 >>= λ fields. endFrom w guids table groups fields
+groupsFrom w guids table = countUpTo 2 100000 >>= λ groups. sumFrom groups 0 (λ _. blockGroup) >>= λ fields. endFrom w guids table groups fields
 
 -- the GUIDs, then the groups and the end
 abbrev pub guidsFrom : ℕ → ℕ → Parser BlockCounts
-guidsFrom w guids = blockGuids guids 0 noTable >>= λ table. groupsFrom w guids table
+guidsFrom w guids = blockGuids byTable guids 0 noPaths >>= λ table. groupsFrom w guids table
 
 -- the three zero words, then k
 abbrev pub zerosThen : Parser BlockCounts → Parser BlockCounts
@@ -62,8 +61,8 @@ ZerosRead s c (NotMoved r) = (k : Parser BlockCounts) → SimulatesRest s (zeros
 
 -- the head: W and the GUID count
 abbrev pub BlockHeadRefines : List ℕ → Cursor → BlockHead → Type 0
-BlockHeadRefines s c (Of w guids d) = SimulatesRest s block c (guidsFrom w guids) d × (guids ≤ 1000000)
-BlockHeadRefines s c (NoHead r) = SimulatesRest s block c (fail (r .number) (r .a) (r .b)) c
+BlockHeadRefines s c (Of w guids d) = SimulatesRest s (block byTable) c (guidsFrom w guids) d × (guids ≤ 1000000)
+BlockHeadRefines s c (NoHead r) = SimulatesRest s (block byTable) c (fail (r .number) (r .a) (r .b)) c
 
 -- the seven counts, or a refusal
 abbrev pub BlockReads : List ℕ → Parser BlockCounts → Cursor → List ℕ → List ℕ → Tables → Type 0

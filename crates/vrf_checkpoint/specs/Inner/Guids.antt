@@ -10,10 +10,9 @@ use Rattle.vrf_bitio.specs.Number.{byte}
 use Rattle.vrf_bitio.specs.declared.Cursor.{Cursor}
 use Rattle.vrf_text.specs.Text.{IsText, fstring}
 use Rattle.vrf_words.specs.Words.{word}
-use Rattle.vrf_model.specs.Book.{Guid}
 use Rattle.vrf_model.specs.Setting.{setGuid}
 use Rattle.vrf_model.specs.Parser.{Parser, return, fail, _>>=_, read, step}
-use Rattle.vrf_model.specs.Block.{PathTable, pathOfKind}
+use Rattle.vrf_model.specs.Block.{PathTable, byTable, pathOfKind}
 use Rattle.vrf_store.specs.Store.{allowancesOf, storeOf}
 use Rattle.vrf_store.specs.Inner.WellFormed.{WellFormed}
 use Rattle.vrf_reader.specs.Inner.Simulates.{Simulates, Refines, cursorOutcome}
@@ -32,12 +31,13 @@ pub record ReadAgain (s : List ℕ) (c : Cursor) (p : ℕ) (text : List ℕ) : T
   pub left : List ℕ
   pub read : fstring p (rest s (c .first) (c .count) p) ≡ ok text at left
 
--- the code's counts t and the stored positions represent the table: its literals are read again at these positions
-pub record Represents (s : List ℕ) (c : Cursor) (literals : List ℕ) (t : Paths) (table : PathTable) : Type 0 where
-  pub many : t .literals ≡ length (table .literals)
+-- the code's counts t and the stored positions represent the table: its paths are read again at these positions
+pub record Represents (s : List ℕ) (c : Cursor) (positions : List ℕ) (t : Paths) (table : PathTable) : Type 0 where
+  pub many : t .literals ≡ length (table .paths)
+  pub literals : t .literals ≡ table .literals
   pub indexed : t .indexed ≡ table .indexed
   pub resolved : t .resolved ≡ table .resolved
-  pub found : (i : ℕ) → i < length (table .literals) → ReadAgain s c (word literals i) (getD (table .literals) i [])
+  pub found : (i : ℕ) → i < length (table .paths) → ReadAgain s c (word positions i) (getD (table .paths) i [])
 
 -- after this number of entries no count is larger, and the literals are within allowance 5
 pub record AtMostEntries (m : List ℕ) (entries : ℕ) (t : Paths) : Type 0 where
@@ -63,7 +63,7 @@ atLiteral c m place = record { first = c .first; count = c .count; pos = word (s
 
 -- the kind byte, then the path of that kind
 abbrev pub pathAt : ℕ → PathTable → Parser (List ℕ × PathTable)
-pathAt entry table = read byte >>= λ kind. pathOfKind entry table kind
+pathAt entry table = read byte >>= λ kind. pathOfKind byTable entry table kind
 
 -- the path is read, and is the first n bytes of the scratch buffer
 pub record PathOf (s : List ℕ) (k : Parser (List ℕ × PathTable)) (c : Cursor) (m m′ scratch : List ℕ) (entry n : ℕ) (t : Paths) (d : Cursor) : Type 0 where
@@ -87,22 +87,18 @@ PathBy k s c m m′ scratch entry t r = (table : PathTable) → Represents s c (
 
 -- ---- one entry
 
--- a record with this GUID, outer and path
-abbrev pub named : ℕ → ℕ → List ℕ → Guid
-named guid outer path = record { guid = guid; path = path; outer = outer }
-
 -- the flags byte after the path, then the setting
-abbrev pub setting : Guid → Parser (Unit {0})
-setting g = read byte >>= λ flags. step (setGuid g)
+abbrev pub setting : ℕ → List ℕ → ℕ → Parser (Unit {0})
+setting guid path outer = read byte >>= λ flags. step (setGuid guid path outer)
 
 -- the end of an entry is read as defined, and the stored positions are unchanged
-pub record EntryEnd (s : List ℕ) (g : Guid) (c : Cursor) (m m′ : List ℕ) (r : Advanced) : Type 0 where
-  pub reads : Refines s (setting g) c m m′ (cursorOutcome r)
+pub record EntryEnd (s : List ℕ) (guid : ℕ) (path : List ℕ) (outer : ℕ) (c : Cursor) (m m′ : List ℕ) (r : Advanced) : Type 0 where
+  pub reads : Refines s (setting guid path outer) c m m′ (cursorOutcome r)
   pub literals : storeOf m′ .literals ≡ storeOf m .literals
 
 -- an entry after its GUID and outer
 abbrev pub guidFrom : ℕ → ℕ → ℕ → PathTable → Parser PathTable
-guidFrom guid outer entry table = pathAt entry table >>= λ p. setting (named guid outer (p .0)) >>= λ u. return (p .1)
+guidFrom guid outer entry table = pathAt entry table >>= λ p. setting guid (p .0) outer >>= λ u. return (p .1)
 
 -- after `entries` entries the counts represent the table
 pub record GuidTo (s : List ℕ) (k : Parser PathTable) (c : Cursor) (m m′ : List ℕ) (entries : ℕ) (t : Paths) (d : Cursor) : Type 0 where
@@ -119,9 +115,3 @@ GuidReads s k c m m′ entries (NoGuids r) = Simulates s k c m (fail (r .number)
 -- an entry is read so for every table that the counts represent
 abbrev pub GuidBy : (PathTable → Parser PathTable) → List ℕ → Cursor → List ℕ → List ℕ → ℕ → Paths → Guids → Type 0
 GuidBy k s c m m′ entry t r = (table : PathTable) → Represents s c (storeOf m .literals) t table → GuidReads s (k table) c m m′ (entry + 1) r
-
--- ---- all entries
-
--- the table before the first entry
-abbrev pub noTable : PathTable
-noTable = record { literals = []; indexed = 0; resolved = 0 }

@@ -8,8 +8,8 @@ use Rattle.vrf_bitio.specs.Number.{word32}
 use Rattle.vrf_bitio.specs.Answers.{readAt, Gave, Refuses}
 use Rattle.vrf_bitio.specs.declared.Cursor.{Cursor}
 use Rattle.vrf_bitio.specs.declared.Refusal.{Refusal}
-use Rattle.vrf_model.specs.Parser.{Parser, return, fail, _>>=_, read}
-use Rattle.vrf_model.specs.Block.{BlockCounts, PathTable, zeroWord, countUpTo, blockGuids, blockGroups, blockEnd, block}
+use Rattle.vrf_model.specs.Parser.{Parser, return, fail, _>>=_, read, sumFrom}
+use Rattle.vrf_model.specs.Block.{BlockCounts, PathTable, noPaths, byTable, zeroWord, countUpTo, blockGuids, blockGroup, blockEnd, block}
 use Rattle.vrf_model.specs.declared.Tables.{Tables}
 use Rattle.vrf_model.specs.declared.Tables.the-variants.{Read, Refused as NotRead}
 use Rattle.vrf_store.specs.Inner.WellFormed.{WellFormed}
@@ -17,7 +17,7 @@ use Rattle.vrf_reader.specs.Inner.Simulates.{Simulates, at, no, RefinesReading,
 use Rattle.vrf_reader.specs.Laws.Simulates.{alike, gave, refused, then, bind, bind-stop, reads}
 use Rattle.vrf_reader.specs.declared.Advanced.{Advanced}
 use Rattle.vrf_reader.specs.declared.Advanced.the-variants.{To, Refused as NotMoved}
-use Rattle.vrf_checkpoint.specs.Inner.Guids.{Represents, noTable}
+use Rattle.vrf_checkpoint.specs.Inner.Guids.{Represents}
 use Rattle.vrf_checkpoint.specs.Inner.Block.{zerosThen, guidsFrom, groupsFrom, endFrom, SimulatesRest, ZerosRead, BlockReads}
 use Rattle.vrf_checkpoint.specs.declared.guids.Paths.{Paths}
 
@@ -49,7 +49,7 @@ module _ {s : List ℕ} {c : Cursor} {q : Refusal} (e : Refuses (readAt s c word
   unfolding countUpTo
   count-refused which top = record { reads = λ m good. bind-stop _ q (refused word32 good e) }
 
-  pub head-refused : SimulatesRest s block c (fail (q .number) (q .a) (q .b)) c
+  pub head-refused : SimulatesRest s (block byTable) c (fail (q .number) (q .a) (q .b)) c
   unfolding block
   head-refused = record { simulates = λ m good. bind-stop _ q (refused word32 good e) }
 
@@ -71,18 +71,18 @@ module _ {s : List ℕ} {c d : Cursor} {w : ℕ} (g : Gave s c (readAt s c word3
   abbrev following : ℕ → Parser BlockCounts
   following w = countUpTo 1 1000000 >>= λ guids. guidsFrom w guids
 
-  first : SimulatesRest s block c (zerosThen (following w)) d
+  first : SimulatesRest s (block byTable) c (zerosThen (following w)) d
   unfolding block
   first = record { simulates = λ m good. bind _ (gave word32 good g) }
 
-  pub head-not-zero : (q : Refusal) → ((k : Parser BlockCounts) → SimulatesRest s (zerosThen k) d (fail (q .number) (q .a) (q .b)) d) → SimulatesRest s block c (fail (q .number) (q .a) (q .b)) c
+  pub head-not-zero : (q : Refusal) → ((k : Parser BlockCounts) → SimulatesRest s (zerosThen k) d (fail (q .number) (q .a) (q .b)) d) → SimulatesRest s (block byTable) c (fail (q .number) (q .a) (q .b)) c
   head-not-zero q h = record { simulates = λ m good. reads (first .simulates m good) m (no q) (h (following w) .simulates m good) }
 
   module _ {e : Cursor} (h : (k : Parser BlockCounts) → SimulatesRest s (zerosThen k) d k e) where
-    pub head-no-count : {q : Refusal} → RefinesReading s (countUpTo 1 1000000) e (no q) → SimulatesRest s block c (fail (q .number) (q .a) (q .b)) c
+    pub head-no-count : {q : Refusal} → RefinesReading s (countUpTo 1 1000000) e (no q) → SimulatesRest s (block byTable) c (fail (q .number) (q .a) (q .b)) c
     head-no-count {q} i = record { simulates = λ m good. reads (then (first .simulates m good) (h (following w) .simulates m good)) m (no q) (bind-stop _ q (i .reads m good)) }
 
-    pub head-read : {f : Cursor} {guids : ℕ} → RefinesReading s (countUpTo 1 1000000) e (at guids f) → SimulatesRest s block c (guidsFrom w guids) f
+    pub head-read : {f : Cursor} {guids : ℕ} → RefinesReading s (countUpTo 1 1000000) e (at guids f) → SimulatesRest s (block byTable) c (guidsFrom w guids) f
     head-read i = record { simulates = λ m good. then (first .simulates m good) (then (h (following w) .simulates m good) (bind _ (i .reads m good))) }
 
 -- ---- the end
@@ -107,10 +107,10 @@ module _ {s : List ℕ} (w guids : ℕ) (table : PathTable) {c : Cursor} {m : Li
   rest-no-count q h = bind-stop _ q (h .reads m good)
 
   module _ {groups : ℕ} {d : Cursor} (h : RefinesReading s (countUpTo 2 100000) c (at groups d)) {m′ : List ℕ} where
-    pub rest-no-groups : (q : Refusal) → Simulates s (blockGroups groups 0) d m (fail (q .number) (q .a) (q .b)) d m′ → Simulates s (groupsFrom w guids table) c m (fail (q .number) (q .a) (q .b)) c m′
+    pub rest-no-groups : (q : Refusal) → Simulates s (sumFrom groups 0 (λ _. blockGroup)) d m (fail (q .number) (q .a) (q .b)) d m′ → Simulates s (groupsFrom w guids table) c m (fail (q .number) (q .a) (q .b)) c m′
     rest-no-groups q g = reads (bind _ (h .reads m good)) m′ (no q) (bind-stop _ q g)
 
-    module _ (fields : ℕ) {e : Cursor} (g : Simulates s (blockGroups groups 0) d m (return fields) e m′) where
+    module _ (fields : ℕ) {e : Cursor} (g : Simulates s (sumFrom groups 0 (λ _. blockGroup)) d m (return fields) e m′) where
       counted : Simulates s (groupsFrom w guids table) c m (endFrom w guids table groups fields) e m′
       counted = then (bind _ (h .reads m good)) (bind _ g)
 
@@ -119,7 +119,7 @@ module _ {s : List ℕ} (w guids : ℕ) (table : PathTable) {c : Cursor} {m : Li
 
       pub rest-read : {frame : ℕ} {f : Cursor} → RefinesReading s (blockEnd w) e (at frame f) → {t : Paths} {l : List ℕ} → Represents s c l t table
           → BlockReads s (groupsFrom w guids table) c m m′ (Read (record { «guid_count» = guids; «group_count» = groups; «exported_fields» = fields; «frame_offset» = frame; «indexed_paths» = t .indexed; «literal_paths» = t .literals; «resolved_path_indices» = t .resolved }))
-      rest-read {f = f} i z = (f, rw (z .many, z .indexed, z .resolved) (then counted (bind _ (i .reads m′ (g .good)))))
+      rest-read {f = f} i z = (f, rw (z .literals, z .indexed, z .resolved) (then counted (bind _ (i .reads m′ (g .good)))))
 
 -- ---- the whole block
 
@@ -127,9 +127,9 @@ pub block-then : {s : List ℕ} {k k′ : Parser BlockCounts} {c d : Cursor} {m 
 block-then g m″ (Read t) h = (h .0, then g (h .1))
 block-then g m″ (NotRead q) h = reads g m″ (no q) h
 
-module _ {s : List ℕ} {c d : Cursor} (w n : ℕ) (h : SimulatesRest s block c (guidsFrom w n) d) {m m′ : List ℕ} (good : WellFormed m) where
-  pub block-no-guids : (q : Refusal) → Simulates s (blockGuids n 0 noTable) d m (fail (q .number) (q .a) (q .b)) d m′ → Simulates s block c m (fail (q .number) (q .a) (q .b)) c m′
+module _ {s : List ℕ} {c d : Cursor} (w n : ℕ) (h : SimulatesRest s (block byTable) c (guidsFrom w n) d) {m m′ : List ℕ} (good : WellFormed m) where
+  pub block-no-guids : (q : Refusal) → Simulates s (blockGuids byTable n 0 noPaths) d m (fail (q .number) (q .a) (q .b)) d m′ → Simulates s (block byTable) c m (fail (q .number) (q .a) (q .b)) c m′
   block-no-guids q g = reads (h .simulates m good) m′ (no q) (bind-stop _ q g)
 
-  pub block-guids : (table : PathTable) {e : Cursor} → Simulates s (blockGuids n 0 noTable) d m (return table) e m′ → Simulates s block c m (groupsFrom w n table) e m′
+  pub block-guids : (table : PathTable) {e : Cursor} → Simulates s (blockGuids byTable n 0 noPaths) d m (return table) e m′ → Simulates s (block byTable) c m (groupsFrom w n table) e m′
   block-guids table g = then (h .simulates m good) (bind _ g)

@@ -3,27 +3,26 @@ use mathlib.Core.Path.{_≡_, refl, sym, _∙_}
 use mathlib.Core.Bool.{Bool, true, false, cond, _||_}
 use mathlib.Core.List.{List}
 use mathlib.Core.Option.{Option, none, some}
-use Prim.Native.Nat.{ℕ, zero, suc, _+_, _-_, _*_, _≤_, _<_}
-use native.Mathlib.Omega.{arith}
+use Prim.Native.Nat.{ℕ, _≤_, _<_}
 use lib.Dec.{eqb}
 use lib.ListN.{take}
 use borrow.Author.Tests.{eq-eqb, ne-eqb, lt-ltb, le-ltb}
-use Rattle.vrf_bitio.specs.Number.{byte, packed}
+use Rattle.vrf_bitio.specs.Number.{byte}
 use Rattle.vrf_bitio.specs.Answers.{restOf, readAt, Gave, Refuses}
-use Rattle.vrf_bitio.specs.declared.Bits.{Bits}
-use Rattle.vrf_bitio.specs.declared.Bits.the-variants.{Value, Refused as NoBits}
 use Rattle.vrf_bitio.specs.declared.Cursor.{Cursor}
 use Rattle.vrf_bitio.specs.declared.Refusal.{Refusal}
-use Rattle.vrf_text.specs.Text.{fstring}
-use Rattle.vrf_model.specs.Book.{Content, Counters}
+use Rattle.vrf_text.specs.Text.{IsText, fstring}
+use Rattle.vrf_bitio.specs.Laws.Cases.{clash}
+use Rattle.vrf_model.specs.Book.{Content, Increments}
 use Rattle.vrf_model.specs.Lookup.{indexPlace, pathPlace}
-use Rattle.vrf_model.specs.Setting.{addGroup}
-use Rattle.vrf_model.specs.Parser.{Parser, return, fail, bindParsed, _>>=_, read}
-use Rattle.vrf_model.specs.Block.{isFound, addFirst, sameHandle, blockField, blockSlot, blockSlots, blockGroup, blockGroups}
-use Rattle.vrf_model.specs.declared.Added.{Added}
+use Rattle.vrf_model.specs.Setting.{newGroup, addGroupAt, addGroup}
+use Rattle.vrf_model.specs.Names.{number}
+use Rattle.vrf_model.specs.Parser.{Parser, return, fail, bindParsed, _>>=_, read, sumFrom}
+use Rattle.vrf_model.specs.Block.{isFound, addFirst, sameHandle, blockField, blockSlot, blockGroup}
 use Rattle.vrf_store.specs.Inner.WellFormed.{WellFormed}
 use Rattle.vrf_store.specs.Inner.Stepped.{held}
-use Rattle.vrf_cache.specs.Inner.Taken.{Taken, NotTaken, AddedBy}
+use Rattle.vrf_cache.specs.Inner.Taken.{Taken, NotTaken}
+use Rattle.vrf_cache.specs.Inner.Groups.{appending, GroupToAdd}
 use Rattle.vrf_reader.specs.Inner.Simulates.{Simulates, no}
 use Rattle.vrf_reader.specs.Inner.Texts.{TextRead}
 use Rattle.vrf_reader.specs.Inner.Fields.{fieldRead, fieldThen}
@@ -31,23 +30,25 @@ use Rattle.vrf_reader.specs.Laws.Simulates.{alike, stays, gave, refused, taken,
 use Rattle.vrf_reader.specs.Laws.Chained.{assoc, onward-same}
 use Rattle.vrf_reader.specs.Laws.Fields.{field-then, field-stops}
 use Rattle.vrf_checkpoint.specs.Inner.Groups.{CountReads, adding, declared}
+use Rattle.vrf_checkpoint.specs.declared.groups.Fields.{Fields}
+use Rattle.vrf_checkpoint.specs.declared.groups.Fields.the-variants.{Read, Refused as NotRead}
 
 -- a count, after a part of its reader was read
-count-then : {s : List ℕ} {k k′ : Parser ℕ} {c d : Cursor} {m m′ : List ℕ} → Simulates s k c m k′ d m′ → (m″ : List ℕ) (most : ℕ) (r : Bits) → CountReads s k′ d m′ m″ most r → CountReads s k c m m″ most r
-count-then g m″ most (Value n e) h = (then g (h .0), h .1)
-count-then g m″ most (NoBits q) h = reads g m″ (no q) h
+count-then : {s : List ℕ} {k k′ : Parser ℕ} {c d : Cursor} {m m′ : List ℕ} → Simulates s k c m k′ d m′ → (m″ : List ℕ) (most : ℕ) (r : Fields) → CountReads s k′ d m′ m″ most r → CountReads s k c m m″ most r
+count-then g m″ most (Read n e) h = (then g (h .0), h .1)
+count-then g m″ most (NotRead q) h = reads g m″ (no q) h
 
 -- ---- a filled slot
 
 module _ (index slot : ℕ) {s : List ℕ} {c : Cursor} {m : List ℕ} (good : WellFormed m) where
-  pub no-handle : (q : Refusal) → Refuses (readAt s c packed) q → Simulates s (blockField index slot) c m (fail (q .number) (q .a) (q .b)) c m
+  pub no-handle : (q : Refusal) → Refuses (readAt s c number) q → Simulates s (blockField index slot) c m (fail (q .number) (q .a) (q .b)) c m
   unfolding blockField
-  no-handle q e = bind-stop _ q (refused packed good e)
+  no-handle q e = bind-stop _ q (refused number good e)
 
-  module _ {handle : ℕ} {d : Cursor} (g : Gave s c (readAt s c packed) handle d) where
+  module _ {handle : ℕ} {d : Cursor} (g : Gave s c (readAt s c number) handle d) where
     to-handle : Simulates s (blockField index slot) c m (sameHandle slot handle >>= λ u. fieldThen index handle (return 1)) d m
     unfolding blockField
-    to-handle = bind _ (gave packed good g)
+    to-handle = bind _ (gave number good g)
 
     -- 35: the handle does not equal the slot
     pub other-handle : (handle ≡ slot → ⊥) → Simulates s (blockField index slot) c m (fail 35 slot handle) c m
@@ -79,35 +80,8 @@ module _ (index slot : ℕ) {s : List ℕ} {c : Cursor} {m : List ℕ} (good : W
     pub slot-empty : exported ≡ 0 → Simulates s (blockSlot index slot) c m (return 0) d m
     slot-empty z = rw z at to-slot
 
-    pub slot-filled : (exported ≡ 0 → ⊥) → (m′ : List ℕ) (r : Bits) → CountReads s (blockField index slot) d m m′ 1 r → CountReads s (blockSlot index slot) c m m′ 1 r
+    pub slot-filled : (exported ≡ 0 → ⊥) → (m′ : List ℕ) (r : Fields) → CountReads s (blockField index slot) d m m′ 1 r → CountReads s (blockSlot index slot) c m m′ 1 r
     slot-filled z m′ r h = count-then (rw (ne-eqb exported 0 z) at to-slot) m′ 1 r h
-
--- ---- the slots of a group
-
--- the loop invariant: the slots before this one are read, and each had at most one field
-pub record SlotsLeft (s : List ℕ) (index n fields : ℕ) (c₀ : Cursor) (m₀ : List ℕ) (slot : ℕ) (c : Cursor) (m : List ℕ) (total : ℕ) : Type 0 where
-  pub simulates : Simulates s (blockSlots n index 0 fields) c₀ m₀ (blockSlots (n - slot) index slot total) c m
-  pub most : total ≤ fields + slot
-  pub below : slot ≤ n
-
-module _ {s : List ℕ} (index n fields : ℕ) {c₀ : Cursor} {m₀ : List ℕ} where
-  pub no-slot-read : WellFormed m₀ → SlotsLeft s index n fields c₀ m₀ 0 c₀ m₀ fields
-  no-slot-read good = record { simulates = (let e : n - 0 ≡ n = omega arith in rw e (stays good)); most = omega arith; below = omega arith }
-
-  module _ {slot : ℕ} {c : Cursor} {m : List ℕ} {total : ℕ} (left : SlotsLeft s index n fields c₀ m₀ slot c m total) where
-    next-slot : slot < n → Simulates s (blockSlots n index 0 fields) c₀ m₀ (blockSlot index slot >>= λ f. blockSlots (n - (slot + 1)) index (slot + 1) (total + f)) c m
-    unfolding blockSlots
-    next-slot h = let e : n - slot ≡ suc (n - (slot + 1)) = omega arith in rw e at (left .simulates)
-
-    pub slot-read : slot < n → {more : ℕ} {d : Cursor} {m′ : List ℕ} → CountReads s (blockSlot index slot) c m m′ 1 (Value more d) → SlotsLeft s index n fields c₀ m₀ (slot + 1) d m′ (total + more)
-    slot-read h g = record { simulates = then (next-slot h) (bind _ (g .0)); most = omega (arith, left .most, g .1); below = omega arith }
-
-    pub slot-refused : slot < n → (q : Refusal) {m′ : List ℕ} → Simulates s (blockSlot index slot) c m (fail (q .number) (q .a) (q .b)) c m′ → Simulates s (blockSlots n index 0 fields) c₀ m₀ (fail (q .number) (q .a) (q .b)) c₀ m′
-    slot-refused h q {m′} g = reads (next-slot h) m′ (no q) (bind-stop _ q g)
-
-    pub slots-read : n ≤ slot → Simulates s (blockSlots n index 0 fields) c₀ m₀ (return total) c m
-    unfolding blockSlots
-    slots-read h = let e : n - slot ≡ zero = omega arith in rw e at (left .simulates)
 
 -- ---- a group that the book does not have
 
@@ -124,30 +98,45 @@ module _ (x y : Option ℕ) where
   unfolding isFound
   none-found e f = rw (← e, ← f)
 
+-- neither is found
+neither : (x y : Option ℕ) → (isFound x || isFound y) ≡ false → (x ≡ none) × (y ≡ none)
+unfolding isFound
+neither none none e = (refl, refl)
+neither none (some j) e = clash cc
+neither (some i) y e = clash cc
+
 module _ (path : List ℕ) (index slots : ℕ) (m : List ℕ) {b : Bool} (e : b ≡ (isFound (indexPlace index (held m .groups)) || isFound (pathPlace path (held m .groups)))) where
   -- 34: index or path already found
   pub already : b ≡ true → NotTaken (addFirst path index slots (held m)) (record { number = 34; a = index; b = 0 }) m m
   unfolding addFirst
   already f = record { step = rw (← e, f); same = refl }
 
-  pub first-added : b ≡ false → (m′ : List ℕ) (r : Added) → AddedBy (addGroup path index slots (held m)) m m′ r → AddedBy (addFirst path index slots (held m)) m m′ r
-  unfolding addFirst
-  first-added f m′ r a = rw (← e, f) a
+  module _ (f : b ≡ false) where
+    new : (indexPlace index (held m .groups) ≡ none) × (pathPlace path (held m .groups) ≡ none)
+    new = neither _ _ (sym e ∙ f)
+
+    pub first-asked : WellFormed m → IsText path → slots ≤ 65536 → GroupToAdd m path index slots
+    first-asked good isText few = record { good = good; isText = isText; new = new .0; handles = few }
+
+    -- a group that is new is appended
+    pub first-added : addFirst path index slots (held m) ≡ appending (held m) (newGroup path index slots)
+    unfolding addFirst addGroup addGroupAt isFound
+    first-added = rw (new .0, new .1)
 
 module _ (path : List ℕ) {s : List ℕ} {c : Cursor} {m : List ℕ} (good : WellFormed m) where
-  pub no-index : (q : Refusal) → Refuses (readAt s c packed) q → Simulates s (declared path) c m (fail (q .number) (q .a) (q .b)) c m
-  no-index q e = bind-stop _ q (refused packed good e)
+  pub no-index : (q : Refusal) → Refuses (readAt s c number) q → Simulates s (declared path) c m (fail (q .number) (q .a) (q .b)) c m
+  no-index q e = bind-stop _ q (refused number good e)
 
-  module _ {index : ℕ} {d : Cursor} (g : Gave s c (readAt s c packed) index d) where
-    to-count : Simulates s (declared path) c m (read packed >>= λ slots. adding path index slots >>= λ place. return (index, slots)) d m
-    to-count = bind _ (gave packed good g)
+  module _ {index : ℕ} {d : Cursor} (g : Gave s c (readAt s c number) index d) where
+    to-count : Simulates s (declared path) c m (read number >>= λ slots. adding path index slots >>= λ place. return (index, slots)) d m
+    to-count = bind _ (gave number good g)
 
-    pub no-count : (q : Refusal) → Refuses (readAt s d packed) q → Simulates s (declared path) c m (fail (q .number) (q .a) (q .b)) c m
-    no-count q e = reads to-count m (no q) (bind-stop _ q (refused packed good e))
+    pub no-count : (q : Refusal) → Refuses (readAt s d number) q → Simulates s (declared path) c m (fail (q .number) (q .a) (q .b)) c m
+    no-count q e = reads to-count m (no q) (bind-stop _ q (refused number good e))
 
-    module _ {slots : ℕ} {e : Cursor} (f : Gave s d (readAt s d packed) slots e) where
+    module _ {slots : ℕ} {e : Cursor} (f : Gave s d (readAt s d number) slots e) where
       to-adding : Simulates s (declared path) c m (adding path index slots >>= λ place. return (index, slots)) e m
-      to-adding = then to-count (bind _ (gave packed good f))
+      to-adding = then to-count (bind _ (gave number good f))
 
       -- 31 (3): slots above 65,536
       pub too-many : 65536 < slots → Simulates s (declared path) c m (fail 31 3 slots) c m
@@ -162,68 +151,40 @@ module _ (path : List ℕ) {s : List ℕ} {c : Cursor} {m : List ℕ} (good : We
 
 -- ---- a group with its slots
 
-module _ (fields : ℕ) where
-  abbrev slotsOf : ℕ × ℕ → Parser ℕ
-  slotsOf p = blockSlots (p .1) (p .0) 0 fields
+abbrev slotsOf : ℕ × ℕ → Parser ℕ
+slotsOf p = sumFrom (p .1) 0 (blockSlot (p .0))
 
-  -- a group of a block after its path, as the definition reads it
-  abbrev afterPath : List ℕ → Parser ℕ
-  afterPath path = read packed >>= λ index. read packed >>= λ slots. adding path index slots >>= λ place. blockSlots slots index 0 fields
+-- a group of a block after its path, as the definition reads it
+abbrev afterPath : List ℕ → Parser ℕ
+afterPath path = read number >>= λ index. read number >>= λ slots. adding path index slots >>= λ place. sumFrom slots 0 (blockSlot index)
 
-  -- the group, as the code reads it, gives what the definition gives
-  declared-same : (path : List ℕ) (pos : ℕ) (l : List ℕ) (c : Content) (t : Counters) → (declared path >>= slotsOf) pos l c t ≡ afterPath path pos l c t
-  unfolding _>>=_ bindParsed return
-  declared-same path pos l c t =
-      assoc (λ index. read packed >>= λ slots. adding path index slots >>= λ place. return (index, slots)) slotsOf (read packed) pos l c t
-      ∙ onward-same (λ index. (read packed >>= λ slots. adding path index slots >>= λ place. return (index, slots)) >>= slotsOf) (λ index. read packed >>= λ slots. adding path index slots >>= λ place. blockSlots slots index 0 fields) with-index (read packed) pos l c t
-    where
-      with-index : (index pos : ℕ) (l : List ℕ) (c : Content) (t : Counters) → ((read packed >>= λ slots. adding path index slots >>= λ place. return (index, slots)) >>= slotsOf) pos l c t ≡ (read packed >>= λ slots. adding path index slots >>= λ place. blockSlots slots index 0 fields) pos l c t
-      with-index index pos l c t =
-          assoc (λ slots. adding path index slots >>= λ place. return (index, slots)) slotsOf (read packed) pos l c t
-          ∙ onward-same (λ slots. (adding path index slots >>= λ place. return (index, slots)) >>= slotsOf) (λ slots. adding path index slots >>= λ place. blockSlots slots index 0 fields) (λ slots. assoc (λ place. return (index, slots)) slotsOf (adding path index slots)) (read packed) pos l c t
+-- the group, as the code reads it, gives what the definition gives
+declared-same : (path : List ℕ) (pos : ℕ) (l : List ℕ) (c : Content) (t : Increments) → (declared path >>= slotsOf) pos l c t ≡ afterPath path pos l c t
+unfolding _>>=_ bindParsed return
+declared-same path pos l c t =
+    assoc (λ index. read number >>= λ slots. adding path index slots >>= λ place. return (index, slots)) slotsOf (read number) pos l c t
+    ∙ onward-same (λ index. (read number >>= λ slots. adding path index slots >>= λ place. return (index, slots)) >>= slotsOf) (λ index. read number >>= λ slots. adding path index slots >>= λ place. sumFrom slots 0 (blockSlot index)) with-index (read number) pos l c t
+  where
+    with-index : (index pos : ℕ) (l : List ℕ) (c : Content) (t : Increments) → ((read number >>= λ slots. adding path index slots >>= λ place. return (index, slots)) >>= slotsOf) pos l c t ≡ (read number >>= λ slots. adding path index slots >>= λ place. sumFrom slots 0 (blockSlot index)) pos l c t
+    with-index index pos l c t =
+        assoc (λ slots. adding path index slots >>= λ place. return (index, slots)) slotsOf (read number) pos l c t
+        ∙ onward-same (λ slots. (adding path index slots >>= λ place. return (index, slots)) >>= slotsOf) (λ slots. adding path index slots >>= λ place. sumFrom slots 0 (blockSlot index)) (λ slots. assoc (λ place. return (index, slots)) slotsOf (adding path index slots)) (read number) pos l c t
 
-  module _ {s : List ℕ} {c : Cursor} {m : List ℕ} (good : WellFormed m) where
-    pub no-path : (q : Refusal) → Refuses (readAt s c fstring) q → Simulates s (blockGroup fields) c m (fail (q .number) (q .a) (q .b)) c m
+module _ {s : List ℕ} {c : Cursor} {m : List ℕ} (good : WellFormed m) where
+  pub no-path : (q : Refusal) → Refuses (readAt s c fstring) q → Simulates s blockGroup c m (fail (q .number) (q .a) (q .b)) c m
+  unfolding blockGroup
+  no-path q e = bind-stop _ q (refused fstring good e)
+
+  module _ {scratch : List ℕ} {n : ℕ} {d : Cursor} (x : TextRead s c (readAt s c fstring) scratch n d) where
+    to-following : Simulates s blockGroup c m (afterPath (take n scratch)) d m
     unfolding blockGroup
-    no-path q e = bind-stop _ q (refused fstring good e)
+    to-following = bind _ (gave fstring good (rw (← x .here) at (x .gave)))
 
-    module _ {scratch : List ℕ} {n : ℕ} {d : Cursor} (x : TextRead s c (readAt s c fstring) scratch n d) where
-      to-following : Simulates s (blockGroup fields) c m (afterPath (take n scratch)) d m
-      unfolding blockGroup
-      to-following = bind _ (gave fstring good (rw (← x .here) at (x .gave)))
+    to-declared : Simulates s blockGroup c m (declared (take n scratch) >>= slotsOf) d m
+    to-declared = then to-following (alike good (λ t. sym (declared-same (take n scratch) (d .pos) (restOf s d) (held m) t)))
 
-      to-declared : Simulates s (blockGroup fields) c m (declared (take n scratch) >>= slotsOf) d m
-      to-declared = then to-following (alike good (λ t. sym (declared-same (take n scratch) (d .pos) (restOf s d) (held m) t)))
+    pub group-refused : (q : Refusal) {m′ : List ℕ} → Simulates s (declared (take n scratch)) d m (fail (q .number) (q .a) (q .b)) d m′ → Simulates s blockGroup c m (fail (q .number) (q .a) (q .b)) c m′
+    group-refused q {m′} g = reads to-declared m′ (no q) (bind-stop _ q g)
 
-      pub group-refused : (q : Refusal) {m′ : List ℕ} → Simulates s (declared (take n scratch)) d m (fail (q .number) (q .a) (q .b)) d m′ → Simulates s (blockGroup fields) c m (fail (q .number) (q .a) (q .b)) c m′
-      group-refused q {m′} g = reads to-declared m′ (no q) (bind-stop _ q g)
-
-      pub group-then : (index slots : ℕ) {e : Cursor} {m′ : List ℕ} → Simulates s (declared (take n scratch)) d m (return (index, slots)) e m′ → (m″ : List ℕ) (r : Bits) → CountReads s (blockSlots slots index 0 fields) e m′ m″ (fields + 65536) r → CountReads s (blockGroup fields) c m m″ (fields + 65536) r
-      group-then index slots g m″ r h = count-then (then to-declared (bind _ g)) m″ (fields + 65536) r h
-
--- ---- the groups
-
--- the loop invariant: i of n groups are read, and each had at most 65,536 fields
-pub record GroupsLeft (s : List ℕ) (n : ℕ) (c₀ : Cursor) (m₀ : List ℕ) (i : ℕ) (c : Cursor) (m : List ℕ) (fields : ℕ) : Type 0 where
-  pub simulates : Simulates s (blockGroups n 0) c₀ m₀ (blockGroups (n - i) fields) c m
-  pub most : fields ≤ 65536 * i
-  pub below : i ≤ n
-
-module _ {s : List ℕ} (n : ℕ) {c₀ : Cursor} {m₀ : List ℕ} where
-  pub no-group-read : WellFormed m₀ → GroupsLeft s n c₀ m₀ 0 c₀ m₀ 0
-  no-group-read good = record { simulates = (let e : n - 0 ≡ n = omega arith in rw e (stays good)); most = omega arith; below = omega arith }
-
-  module _ {i : ℕ} {c : Cursor} {m : List ℕ} {fields : ℕ} (left : GroupsLeft s n c₀ m₀ i c m fields) where
-    next-group : i < n → Simulates s (blockGroups n 0) c₀ m₀ (blockGroup fields >>= λ fields′. blockGroups (n - (i + 1)) fields′) c m
-    unfolding blockGroups
-    next-group h = let e : n - i ≡ suc (n - (i + 1)) = omega arith in rw e at (left .simulates)
-
-    pub group-read : i < n → {total : ℕ} {d : Cursor} {m′ : List ℕ} → CountReads s (blockGroup fields) c m m′ (fields + 65536) (Value total d) → GroupsLeft s n c₀ m₀ (i + 1) d m′ total
-    group-read h g = record { simulates = then (next-group h) (bind _ (g .0)); most = omega (arith, left .most, g .1); below = omega arith }
-
-    pub one-refused : i < n → (q : Refusal) {m′ : List ℕ} → Simulates s (blockGroup fields) c m (fail (q .number) (q .a) (q .b)) c m′ → Simulates s (blockGroups n 0) c₀ m₀ (fail (q .number) (q .a) (q .b)) c₀ m′
-    one-refused h q {m′} g = reads (next-group h) m′ (no q) (bind-stop _ q g)
-
-    pub groups-read : n ≤ i → Simulates s (blockGroups n 0) c₀ m₀ (return fields) c m
-    unfolding blockGroups
-    groups-read h = let e : n - i ≡ zero = omega arith in rw e at (left .simulates)
+    pub group-then : (index slots : ℕ) {e : Cursor} {m′ : List ℕ} → Simulates s (declared (take n scratch)) d m (return (index, slots)) e m′ → (m″ : List ℕ) (r : Fields) → CountReads s (sumFrom slots 0 (blockSlot index)) e m′ m″ 65536 r → CountReads s blockGroup c m m″ 65536 r
+    group-then index slots g m″ r h = count-then (then to-declared (bind _ g)) m″ 65536 r h

@@ -16,7 +16,7 @@ use Rattle.vrf_model.specs.Calls.{get-group-by-index, get-group-by-path,
 use Rattle.vrf_model.specs.Calls.{resolve-cnc-for-instance-name, find-class-net-cache-key, group-path, group-slots, field-name, guid-path, whole, Answer, refusal-of, acted, field-placed}
 use Rattle.vrf_model.specs.Calls.{at-place, found, ran, block-counts, number, text, runBook, play}
 use Rattle.vrf_model.specs.Examples.Computing.{computing}
-use Rattle.vrf_model.specs.Examples.Document01.{_⇒_, calls, Answered, opened, after}
+use Rattle.vrf_model.specs.Examples.Document01.{_⇒_, groups, guids, calls, Answered, opened, after}
 
 -- ---- the book calls
 
@@ -25,25 +25,25 @@ abbrev adding : List (Call × Answer)
 adding =
     add-export-group (ascii "/a") 1 2 ⇒ at-place 0 ∷
     add-export-group (ascii "/b") 2 1 ⇒ at-place 1 ∷
-    group-slots 1 ⇒ number 1 ∷
+    groups (group-slots 1) ⇒ number 1 ∷
     set-field-on-group 1 0 77 (ascii "N") ⇒ field-placed true ∷
     -- path and index found at different groups
     add-export-group (ascii "/a") 2 0 ⇒ refusal-of 23 2 0 ∷
     -- path found: the group takes the index; its slots and fields stay
     add-export-group (ascii "/a") 3 1 ⇒ at-place 0 ∷
-    get-group-by-index 1 ⇒ found none ∷
-    get-group-by-index 3 ⇒ found (some 0) ∷
-    group-slots 0 ⇒ number 2 ∷
-    get-field 0 0 ⇒ found (some 77) ∷
+    groups (get-group-by-index 1) ⇒ found none ∷
+    groups (get-group-by-index 3) ⇒ found (some 0) ∷
+    groups (group-slots 0) ⇒ number 2 ∷
+    groups (get-field 0 0) ⇒ found (some 77) ∷
     add-export-group (ascii "/a") 3 4 ⇒ at-place 0 ∷
-    group-slots 0 ⇒ number 4 ∷
+    groups (group-slots 0) ⇒ number 4 ∷
     -- only the index found: the group is replaced, fields gone
     add-export-group (ascii "/c") 3 1 ⇒ at-place 0 ∷
-    group-path 0 ⇒ text (ascii "/c") ∷
-    group-slots 0 ⇒ number 1 ∷
-    get-field 0 0 ⇒ found none ∷
-    get-group-by-path (ascii "/a") ⇒ found none ∷
-    get-group-by-path (ascii "/b") ⇒ found (some 1) ∷ []
+    groups (group-path 0) ⇒ text (ascii "/c") ∷
+    groups (group-slots 0) ⇒ number 1 ∷
+    groups (get-field 0 0) ⇒ found none ∷
+    groups (get-group-by-path (ascii "/a")) ⇒ found none ∷
+    groups (get-group-by-path (ascii "/b")) ⇒ found (some 1) ∷ []
 
 -- set_field_on_group: an unknown index, a handle past the slots
 abbrev placing : List (Call × Answer)
@@ -52,9 +52,9 @@ placing =
     set-field-on-group 2 0 5 (ascii "N") ⇒ field-placed false ∷
     set-field-on-group 1 2 5 (ascii "N") ⇒ field-placed false ∷
     set-field-on-group 1 1 5 (ascii "N") ⇒ field-placed true ∷
-    get-field 0 1 ⇒ found (some 5) ∷
-    field-name 0 1 ⇒ text (ascii "N") ∷
-    get-field 0 0 ⇒ found none ∷ []
+    groups (get-field 0 1) ⇒ found (some 5) ∷
+    groups (field-name 0 1) ⇒ text (ascii "N") ∷
+    groups (get-field 0 0) ⇒ found none ∷ []
 
 -- set_net_guid_path: in order of first setting; outer 0 is none
 abbrev naming : List (Call × Answer)
@@ -62,13 +62,13 @@ naming =
     set-net-guid-path 5 (ascii "P") 7 ⇒ acted ∷
     set-net-guid-path 7 (ascii "Q") 0 ⇒ acted ∷
     set-net-guid-path 5 (ascii "R") 7 ⇒ acted ∷
-    get-path-by-guid 5 ⇒ found (some 0) ∷
-    guid-path 0 ⇒ text (ascii "R") ∷
-    get-outer-guid 5 ⇒ found (some 7) ∷
-    get-outer-path 5 ⇒ found (some 1) ∷
-    get-outer-guid 7 ⇒ found none ∷
-    get-path-by-guid 6 ⇒ found none ∷
-    guid-path 2 ⇒ text [] ∷ []
+    guids (get-path-by-guid 5) ⇒ found (some 0) ∷
+    guids (guid-path 0) ⇒ text (ascii "R") ∷
+    guids (get-outer-guid 5) ⇒ found (some 7) ∷
+    guids (get-outer-path 5) ⇒ found (some 1) ∷
+    guids (get-outer-guid 7) ⇒ found none ∷
+    guids (get-path-by-guid 6) ⇒ found none ∷
+    guids (guid-path 2) ⇒ text [] ∷ []
 
 -- the counters: an identical setting steps nothing; `clear` steps both generations and keeps the other three
 abbrev stepping : List (Call × Answer)
@@ -85,7 +85,7 @@ stepping =
     add-export-group (ascii "/b") 1 1 ⇒ at-place 0 ∷
     add-export-group (ascii "/b") 1 1 ⇒ at-place 0 ∷
     clear-book ⇒ acted ∷
-    group-path 0 ⇒ text [] ∷ []
+    groups (group-path 0) ⇒ text [] ∷ []
 
 -- keeping: 42 if a count would pass its allowance, and not before; space from dropped text counts again
 abbrev tight : Book
@@ -113,18 +113,18 @@ keeping =
 abbrev claiming : List (Call × Answer)
 claiming =
     add-export-group (ascii "/X") 1 0 ⇒ at-place 0 ∷
-    unique-leaf-match (ascii "X") ⇒ found none ∷
+    groups (unique-leaf-match (ascii "X")) ⇒ found none ∷
     add-export-group (ascii "/a.X") 2 0 ⇒ at-place 1 ∷
-    unique-leaf-match (ascii "X") ⇒ found (some 1) ∷
+    groups (unique-leaf-match (ascii "X")) ⇒ found (some 1) ∷
     add-export-group (ascii "/b.X") 3 0 ⇒ at-place 2 ∷
     add-export-group (ascii "/c.XComponent") 4 0 ⇒ at-place 3 ∷
-    unique-leaf-match (ascii "X") ⇒ found none ∷
-    unique-leaf-match (ascii "XComponent") ⇒ found (some 3) ∷
+    groups (unique-leaf-match (ascii "X")) ⇒ found none ∷
+    groups (unique-leaf-match (ascii "XComponent")) ⇒ found (some 3) ∷
     -- the second group with the leaf is replaced: the first has the leaf alone
     add-export-group (ascii "/b.Y_C") 3 0 ⇒ at-place 2 ∷
-    unique-leaf-match (ascii "X") ⇒ found (some 1) ∷
-    unique-leaf-match (ascii "Y") ⇒ found (some 2) ∷
-    unique-leaf-match (ascii "a.X") ⇒ found none ∷ []
+    groups (unique-leaf-match (ascii "X")) ⇒ found (some 1) ∷
+    groups (unique-leaf-match (ascii "Y")) ⇒ found (some 2) ∷
+    groups (unique-leaf-match (ascii "a.X")) ⇒ found none ∷ []
 
 -- no shorter stem after an ambiguous claim
 abbrev resolving : List (Call × Answer)
@@ -132,9 +132,9 @@ resolving =
     add-export-group (ascii "/a.Foo_1_ClassNetCache") 1 0 ⇒ at-place 0 ∷
     add-export-group (ascii "/b.Foo_1_ClassNetCache") 2 0 ⇒ at-place 1 ∷
     add-export-group (ascii "/c.Foo_ClassNetCache") 3 0 ⇒ at-place 2 ∷
-    resolve-cnc-for-instance-name (ascii "Foo_1") ⇒ found none ∷
-    resolve-cnc-for-instance-name (ascii "Foo_2") ⇒ found (some 2) ∷
-    find-class-net-cache-key (ascii "/c.Foo") ⇒ found (some 2) ∷ []
+    groups (resolve-cnc-for-instance-name (ascii "Foo_1")) ⇒ found none ∷
+    groups (resolve-cnc-for-instance-name (ascii "Foo_2")) ⇒ found (some 2) ∷
+    groups (find-class-net-cache-key (ascii "/c.Foo")) ⇒ found (some 2) ∷ []
 
 -- the tag's place is its group's, if the slot is filled
 abbrev tagging : List (Call × Answer)
@@ -142,8 +142,8 @@ tagging =
     add-export-group (ascii "/a") 1 0 ⇒ at-place 0 ∷
     add-export-group (ascii "NetworkGameplayTagNodeIndex") 2 2 ⇒ at-place 1 ∷
     set-field-on-group 2 1 5 (ascii "N") ⇒ field-placed true ∷
-    get-gameplay-tag-name 1 ⇒ found (some 1) ∷
-    get-gameplay-tag-name 0 ⇒ found none ∷ []
+    groups (get-gameplay-tag-name 1) ⇒ found (some 1) ∷
+    groups (get-gameplay-tag-name 0) ⇒ found none ∷ []
 
 -- ---- export runs, byte by byte
 
@@ -165,16 +165,16 @@ two-exports index flag more = small 2 ∷ small 1 ∷ small 1 ∷ [] ++ sent "/a
 abbrev exporting : List (Call × Answer)
 exporting =
     read-net-field-exports (whole (two-exports 2 1 (sent "/b" ++ small 3 ∷ 0 ∷ []))) ⇒ ran 2 (8 * 39) ∷
-    field-name 0 0 ⇒ text (ascii "N_3") ∷
-    get-field 0 0 ⇒ found (some 7) ∷
-    group-path 1 ⇒ text (ascii "/b") ∷
-    group-slots 1 ⇒ number 3 ∷ []
+    groups (field-name 0 0) ⇒ text (ascii "N_3") ∷
+    groups (get-field 0 0) ⇒ found (some 7) ∷
+    groups (group-path 1) ⇒ text (ascii "/b") ∷
+    groups (group-slots 1) ⇒ number 3 ∷ []
 
 -- a refused run leaves all it took before the refused step
 abbrev exporting-stops : List (Call × Answer)
 exporting-stops =
     read-net-field-exports (whole (two-exports 2 0 (0 ∷ []))) ⇒ refusal-of 20 2 0 ∷
-    group-path 0 ⇒ text (ascii "/a") ∷
+    groups (group-path 0) ⇒ text (ascii "/a") ∷
     read-net-field-exports (whole (two-exports 1 2 (0 ∷ []))) ⇒ refusal-of 21 1 2 ∷
     read-net-field-exports (whole (two-exports 1 0 [])) ⇒ refusal-of 10 (8 * 30) 8 ∷
     read-net-field-exports (whole (two-exports 1 1 (sent "/a" ++ 3 ∷ 1 ∷ 8 ∷ []))) ⇒ refusal-of 22 65537 0 ∷ []
@@ -183,7 +183,7 @@ exporting-stops =
 abbrev exporting-many : List (Call × Answer)
 exporting-many =
     read-net-field-exports (whole (small 1 ∷ small 1 ∷ small 1 ∷ [] ++ sent "/a" ++ 1 ∷ 1 ∷ 8 ∷ 0 ∷ [])) ⇒ ran 1 (8 * 14) ∷
-    group-slots 0 ⇒ number 65536 ∷ []
+    groups (group-slots 0) ⇒ number 65536 ∷ []
 
 -- GUID 5 with a path and a checksum; its outer, GUID 7, is recorded first
 abbrev one-object : ℕ → List ℕ → List ℕ
@@ -192,10 +192,10 @@ one-object size more = small 1 ∷ [] ++ word size ++ small 5 ∷ 0xFD ∷ small
 abbrev exporting-guids : List (Call × Answer)
 exporting-guids =
     read-export-guids (whole (one-object 21 [])) ⇒ ran 1 (8 * 26) ∷
-    guid-path 0 ⇒ text (ascii "Q") ∷
-    guid-path 1 ⇒ text (ascii "P") ∷
-    get-outer-guid 5 ⇒ found (some 7) ∷
-    get-outer-guid 7 ⇒ found none ∷
+    guids (guid-path 0) ⇒ text (ascii "Q") ∷
+    guids (guid-path 1) ⇒ text (ascii "P") ∷
+    guids (get-outer-guid 5) ⇒ found (some 7) ∷
+    guids (get-outer-guid 7) ⇒ found none ∷
     read-export-guids (whole (one-object 22 (0 ∷ []))) ⇒ refusal-of 25 1 0 ∷
     read-export-guids (whole (one-object 2 [])) ⇒ refusal-of 10 (8 * 2) 8 ∷
     read-export-guids (whole (small 1 ∷ 0 ∷ 0 ∷ 0 ∷ 0x80 ∷ [])) ⇒ refusal-of 24 0x80000000 0 ∷
@@ -217,19 +217,19 @@ two-guids w place = head w ++ word 2 ++ small 2 ∷ small 0 ∷ 1 ∷ [] ++ sent
 abbrev reading-guids : List (Call × Answer)
 reading-guids =
     read-checkpoint-tables (whole (two-guids 31 0)) ⇒ block-counts (record { guids = 2; groups = 0; fields = 0; frame = 39; indexed = 1; literals = 1; resolved = 1 }) ∷
-    guid-path 1 ⇒ text (ascii "A") ∷
-    get-outer-guid 3 ⇒ found (some 2) ∷
+    guids (guid-path 1) ⇒ text (ascii "A") ∷
+    guids (get-outer-guid 3) ⇒ found (some 2) ∷
     clear-book ⇒ acted ∷
     read-checkpoint-tables (whole (two-guids 31 1)) ⇒ refusal-of 33 1 1 ∷
-    guid-path 0 ⇒ text (ascii "A") ∷
-    guid-path 1 ⇒ text [] ∷
+    guids (guid-path 0) ⇒ text (ascii "A") ∷
+    guids (guid-path 1) ⇒ text [] ∷
     read-checkpoint-tables (whole (two-guids 32 0)) ⇒ refusal-of 36 39 40 ∷ []
 
 -- two literals where one is allowed
 abbrev reading-literals : List (Call × Answer)
 reading-literals =
     read-checkpoint-tables (whole (head 20 ++ word 2 ++ small 2 ∷ small 0 ∷ 1 ∷ [] ++ sent "A" ++ 0 ∷ small 2 ∷ small 0 ∷ 1 ∷ [] ++ sent "A")) ⇒ refusal-of 42 5 0 ∷
-    guid-path 0 ⇒ text (ascii "A") ∷ []
+    guids (guid-path 0) ⇒ text (ascii "A") ∷ []
 
 -- GUID 2 with outer 3, and a group `/a` with an empty slot and a field
 abbrev one-field : ℕ → List ℕ
@@ -244,14 +244,14 @@ one-field-held =
 abbrev reading-fields : List (Call × Answer)
 reading-fields =
     read-checkpoint-tables (whole (one-field 1)) ⇒ block-counts (record { guids = 1; groups = 1; fields = 1; frame = 61; indexed = 0; literals = 1; resolved = 0 }) ∷
-    get-outer-guid 2 ⇒ found (some 3) ∷
-    get-field 0 0 ⇒ found none ∷
-    get-field 0 1 ⇒ found (some 7) ∷
-    field-name 0 1 ⇒ text (ascii "N") ∷
+    guids (get-outer-guid 2) ⇒ found (some 3) ∷
+    groups (get-field 0 0) ⇒ found none ∷
+    groups (get-field 0 1) ⇒ found (some 7) ∷
+    groups (field-name 0 1) ⇒ text (ascii "N") ∷
     read-checkpoint-tables (whole (one-field 1)) ⇒ refusal-of 34 1 0 ∷
     clear-book ⇒ acted ∷
     read-checkpoint-tables (whole (one-field 2)) ⇒ refusal-of 35 1 2 ∷
-    group-slots 0 ⇒ number 2 ∷ []
+    groups (group-slots 0) ⇒ number 2 ∷ []
 
 -- a word set, counts above their tops, a kind that is neither 0 nor 1
 abbrev reading-refused : List (Call × Answer)
@@ -275,8 +275,8 @@ clashing =
 abbrev reading-clash : List (Call × Answer)
 reading-clash =
     read-checkpoint-tables (whole (encodeBook (after clashing))) ⇒ refusal-of 34 7 0 ∷
-    group-path 1 ⇒ text (ascii "/b") ∷
-    group-path 2 ⇒ text [] ∷ []
+    groups (group-path 1) ⇒ text (ascii "/b") ∷
+    groups (group-path 2) ⇒ text [] ∷ []
 
 -- `tally` on W=16 and five zero words
 abbrev reading-nothing : List (Call × Answer)
@@ -296,7 +296,7 @@ abbrev further : List (Call × Answer)
 further =
     set-field-on-group 1 0 5 (ascii "N") ⇒ field-placed true ∷
     add-export-group (ascii "/b") 2 0 ⇒ at-place 1 ∷
-    field-name 0 0 ⇒ text (ascii "N") ∷ []
+    groups (field-name 0 0) ⇒ text (ascii "N") ∷ []
 
 -- with fewer literals than GUIDs allowed, the late reader is refused, though writing is not
 abbrev sparse : Book

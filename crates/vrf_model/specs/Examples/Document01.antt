@@ -14,7 +14,7 @@ use Rattle.vrf_model.specs.Setting.{refuses, addGroup}
 use Rattle.vrf_model.specs.Parser.{fail}
 use Rattle.vrf_model.specs.Runs.{objectWithOuter, objectAt}
 use Rattle.vrf_model.specs.Writer.{encodeBook, written, notWritten, write}
-use Rattle.vrf_model.specs.Calls.{Call, add-export-group, set-field-on-group, set-net-guid-path, get-group-by-path, get-field, group-path, group-slots, Answer, acted, field-placed, at-place}
+use Rattle.vrf_model.specs.Calls.{GroupLookup, GuidLookup, of-groups, of-guids, lookup, Call, add-export-group, set-field-on-group, set-net-guid-path, get-group-by-path, get-field, group-path, group-slots, Answer, acted, field-placed, at-place}
 use Rattle.vrf_model.specs.Calls.{found, number, text, addDirectly, play, answers}
 use Rattle.vrf_model.specs.Examples.Computing.{computing}
 
@@ -22,6 +22,12 @@ use Rattle.vrf_model.specs.Examples.Computing.{computing}
 infix 70 _⇒_
 abbrev pub _⇒_ : Call → Answer → Call × Answer
 call ⇒ answer = (call, answer)
+
+abbrev pub groups : GroupLookup → Call
+groups l = lookup (of-groups l)
+
+abbrev pub guids : GuidLookup → Call
+guids l = lookup (of-guids l)
 
 abbrev pub calls : List (Call × Answer) → List Call
 calls l = map (λ x. x .0) l
@@ -41,13 +47,13 @@ G1-calls =
     add-export-group (ascii "/x/y") 1 0 ⇒ at-place 0 ∷
     add-export-group (ascii "/x/_Core/y") 2 3 ⇒ at-place 1 ∷
     set-field-on-group 2 1 7 (ascii "N") ⇒ field-placed true ∷
-    get-group-by-path (ascii "/x/y") ⇒ found (some 1) ∷
+    groups (get-group-by-path (ascii "/x/y")) ⇒ found (some 1) ∷
     add-export-group (ascii "/x/y") 2 2 ⇒ at-place 1 ∷
-    group-path 0 ⇒ text (ascii "/x/y") ∷
-    group-path 1 ⇒ text (ascii "/x/y") ∷
+    groups (group-path 0) ⇒ text (ascii "/x/y") ∷
+    groups (group-path 1) ⇒ text (ascii "/x/y") ∷
     -- merged: the slots and the field in them stay
-    group-slots 1 ⇒ number 3 ∷
-    get-field 1 1 ⇒ found (some 7) ∷ []
+    groups (group-slots 1) ⇒ number 3 ∷
+    groups (get-field 1 1) ⇒ found (some 7) ∷ []
 
 abbrev G2-calls : List (Call × Answer)
 G2-calls =
@@ -55,10 +61,10 @@ G2-calls =
     set-field-on-group 5 1 7 (ascii "N") ⇒ field-placed true ∷
     add-export-group (ascii "/x/y") 6 0 ⇒ at-place 1 ∷
     add-export-group (ascii "/x/_Core/y") 5 2 ⇒ at-place 0 ∷
-    group-path 0 ⇒ text (ascii "/x/_Core/y") ∷
+    groups (group-path 0) ⇒ text (ascii "/x/_Core/y") ∷
     -- replaced: the slots of the new group, and no field
-    group-slots 0 ⇒ number 2 ∷
-    get-field 0 1 ⇒ found none ∷ []
+    groups (group-slots 0) ⇒ number 2 ∷
+    groups (get-field 0 1) ⇒ found none ∷ []
 
 abbrev B1-calls : List (Call × Answer)
 B1-calls = set-net-guid-path 2 (ascii "A") 0 ⇒ acted ∷ []

@@ -10,13 +10,13 @@ use lib.ListN.{replicate}
 use Rattle.vrf_bitio.specs.Ascii.{ascii}
 use Rattle.vrf_bitio.specs.Number.{encodePacked, encodeWord32}
 use Rattle.vrf_text.specs.Text.{encodeText}
-use Rattle.vrf_model.specs.Book.{Book, none-counted, freshBook}
+use Rattle.vrf_model.specs.Book.{Book, zeroCounters, freshBook}
 use Rattle.vrf_model.specs.Writer.{written, notWritten, write}
 use Rattle.vrf_model.specs.Calls.{whole, Call, clear-book, add-export-group, set-field-on-group, set-net-guid-path, read-net-field-exports, read-export-guids, load-object}
 use Rattle.vrf_model.specs.Calls.{read-checkpoint-tables, get-group-by-path, get-gameplay-tag-name, get-field, unique-leaf-match, resolve-cnc-for-instance-name, find-class-net-cache-key}
 use Rattle.vrf_model.specs.Calls.{field-name, guid-path, Answer, refusal-of, acted, field-placed, at-place, found, ran, block-counts, text, play}
 use Rattle.vrf_model.specs.Examples.Computing.{computing}
-use Rattle.vrf_model.specs.Examples.Document01.{_⇒_, Answered, opened, after}
+use Rattle.vrf_model.specs.Examples.Document01.{_⇒_, groups, guids, Answered, opened, after}
 
 -- a book opened with five allowances
 abbrev allowing : ℕ → ℕ → ℕ → ℕ → ℕ → Book
@@ -27,13 +27,13 @@ allowing guids groups fields bytes literals = freshBook (record { guids = guids;
 -- default alias: only a path with none of `/ . :` gets `Default__` before it
 pub default-alias-of-a-bare-path : Answered (
     add-export-group (ascii "q.b") 1 0 ⇒ at-place 0 ∷
-    get-group-by-path (ascii "Default__q.b") ⇒ found none ∷
+    groups (get-group-by-path (ascii "Default__q.b")) ⇒ found none ∷
     add-export-group (ascii "q:b") 2 0 ⇒ at-place 1 ∷
-    get-group-by-path (ascii "Default__q:b") ⇒ found none ∷
+    groups (get-group-by-path (ascii "Default__q:b")) ⇒ found none ∷
     add-export-group (ascii "q/b") 3 0 ⇒ at-place 2 ∷
-    get-group-by-path (ascii "Default__q/b") ⇒ found none ∷
+    groups (get-group-by-path (ascii "Default__q/b")) ⇒ found none ∷
     add-export-group (ascii "qb") 4 0 ⇒ at-place 3 ∷
-    get-group-by-path (ascii "Default__qb") ⇒ found (some 3) ∷ [])
+    groups (get-group-by-path (ascii "Default__qb")) ⇒ found (some 3) ∷ [])
     opened
 unfolding computing ascii opened
 default-alias-of-a-bare-path = refl
@@ -41,13 +41,13 @@ default-alias-of-a-bare-path = refl
 -- default alias: a leading `Default__` is removed once, in exactly these letters, with both underscores
 pub default-prefix-left-out : Answered (
     add-export-group (ascii "Default__Default__A") 1 0 ⇒ at-place 0 ∷
-    get-group-by-path (ascii "A") ⇒ found none ∷
-    get-group-by-path (ascii "Default__A") ⇒ found (some 0) ∷
+    groups (get-group-by-path (ascii "A")) ⇒ found none ∷
+    groups (get-group-by-path (ascii "Default__A")) ⇒ found (some 0) ∷
     add-export-group (ascii "default__B") 2 0 ⇒ at-place 1 ∷
-    get-group-by-path (ascii "B") ⇒ found none ∷
+    groups (get-group-by-path (ascii "B")) ⇒ found none ∷
     add-export-group (ascii "Default_C") 3 0 ⇒ at-place 2 ∷
-    get-group-by-path (ascii "C") ⇒ found none ∷
-    get-group-by-path [] ⇒ found none ∷ [])
+    groups (get-group-by-path (ascii "C")) ⇒ found none ∷
+    groups (get-group-by-path []) ⇒ found none ∷ [])
     opened
 unfolding computing ascii opened
 default-prefix-left-out = refl
@@ -55,8 +55,8 @@ default-prefix-left-out = refl
 -- core alias: the first `/_Core/` becomes `/`, and no later one does
 pub first-core-segment : Answered (
     add-export-group (ascii "/_Core/a/_Core/b") 1 0 ⇒ at-place 0 ∷
-    get-group-by-path (ascii "/a/b") ⇒ found none ∷
-    get-group-by-path (ascii "/a/_Core/b") ⇒ found (some 0) ∷ [])
+    groups (get-group-by-path (ascii "/a/b")) ⇒ found none ∷
+    groups (get-group-by-path (ascii "/a/_Core/b")) ⇒ found (some 0) ∷ [])
     opened
 unfolding computing ascii opened
 first-core-segment = refl
@@ -64,12 +64,12 @@ first-core-segment = refl
 -- core alias: `/_Core/` has both slashes; a path without it that starts with `/Game/Characters/` gets `_Core/` after that
 pub core-segment-inserted : Answered (
     add-export-group (ascii "/Game/Characters/a/_CoreB") 1 0 ⇒ at-place 0 ∷
-    get-group-by-path (ascii "/Game/Characters/_Core/a/_CoreB") ⇒ found (some 0) ∷
+    groups (get-group-by-path (ascii "/Game/Characters/_Core/a/_CoreB")) ⇒ found (some 0) ∷
     add-export-group (ascii "/Game/Characters/") 2 0 ⇒ at-place 1 ∷
-    get-group-by-path (ascii "/Game/Characters/_Core/") ⇒ found (some 1) ∷
+    groups (get-group-by-path (ascii "/Game/Characters/_Core/")) ⇒ found (some 1) ∷
     add-export-group (ascii "x/Game/Characters/y") 3 0 ⇒ at-place 2 ∷
-    get-group-by-path (ascii "/Game/Characters/_Core//y") ⇒ found none ∷
-    get-group-by-path (ascii "x/Game/Characters/_Core/y") ⇒ found none ∷ [])
+    groups (get-group-by-path (ascii "/Game/Characters/_Core//y")) ⇒ found none ∷
+    groups (get-group-by-path (ascii "x/Game/Characters/_Core/y")) ⇒ found none ∷ [])
     opened
 unfolding computing ascii opened
 core-segment-inserted = refl
@@ -77,9 +77,9 @@ core-segment-inserted = refl
 -- keys: a path can have both a default alias and a core alias
 pub both-aliases : Answered (
     add-export-group (ascii "Default__/x/_Core/y") 1 0 ⇒ at-place 0 ∷
-    get-group-by-path (ascii "/x/_Core/y") ⇒ found (some 0) ∷
-    get-group-by-path (ascii "Default__/x/y") ⇒ found (some 0) ∷
-    get-group-by-path (ascii "/x/y") ⇒ found none ∷ [])
+    groups (get-group-by-path (ascii "/x/_Core/y")) ⇒ found (some 0) ∷
+    groups (get-group-by-path (ascii "Default__/x/y")) ⇒ found (some 0) ∷
+    groups (get-group-by-path (ascii "/x/y")) ⇒ found none ∷ [])
     opened
 unfolding computing ascii opened
 both-aliases = refl
@@ -89,12 +89,12 @@ both-aliases = refl
 -- a leaf is the text after the last dot, not after another separator; letters are compared exactly
 pub leaf-after-the-last-dot : Answered (
     add-export-group (ascii "/a.b:c") 1 0 ⇒ at-place 0 ∷
-    unique-leaf-match (ascii "c") ⇒ found none ∷
+    groups (unique-leaf-match (ascii "c")) ⇒ found none ∷
     add-export-group (ascii "/a.d/e") 2 0 ⇒ at-place 1 ∷
-    unique-leaf-match (ascii "e") ⇒ found none ∷
+    groups (unique-leaf-match (ascii "e")) ⇒ found none ∷
     add-export-group (ascii "/a.b.Foo") 3 0 ⇒ at-place 2 ∷
-    unique-leaf-match (ascii "foo") ⇒ found none ∷
-    unique-leaf-match (ascii "Foo") ⇒ found (some 2) ∷ [])
+    groups (unique-leaf-match (ascii "foo")) ⇒ found none ∷
+    groups (unique-leaf-match (ascii "Foo")) ⇒ found (some 2) ∷ [])
     opened
 unfolding computing ascii opened
 leaf-after-the-last-dot = refl
@@ -104,7 +104,7 @@ pub ambiguous-with-equal-paths : Answered (
     add-export-group (ascii "/x/y.L") 1 0 ⇒ at-place 0 ∷
     add-export-group (ascii "/x/_Core/y.L") 2 0 ⇒ at-place 1 ∷
     add-export-group (ascii "/x/y.L") 2 0 ⇒ at-place 1 ∷
-    unique-leaf-match (ascii "L") ⇒ found none ∷ [])
+    groups (unique-leaf-match (ascii "L")) ⇒ found none ∷ [])
     opened
 unfolding computing ascii opened
 ambiguous-with-equal-paths = refl
@@ -112,11 +112,11 @@ ambiguous-with-equal-paths = refl
 -- `unique_leaf_match` tries name, name+`Component`, name+`_C`
 pub name-leaves-in-order : Answered (
     add-export-group (ascii "/a.Foo_C") 1 0 ⇒ at-place 0 ∷
-    unique-leaf-match (ascii "Foo") ⇒ found (some 0) ∷
+    groups (unique-leaf-match (ascii "Foo")) ⇒ found (some 0) ∷
     add-export-group (ascii "/a.FooComponent") 2 0 ⇒ at-place 1 ∷
-    unique-leaf-match (ascii "Foo") ⇒ found (some 1) ∷
+    groups (unique-leaf-match (ascii "Foo")) ⇒ found (some 1) ∷
     add-export-group (ascii "/a.Foo") 3 0 ⇒ at-place 2 ∷
-    unique-leaf-match (ascii "Foo") ⇒ found (some 2) ∷ [])
+    groups (unique-leaf-match (ascii "Foo")) ⇒ found (some 2) ∷ [])
     opened
 unfolding computing ascii opened
 name-leaves-in-order = refl
@@ -124,9 +124,9 @@ name-leaves-in-order = refl
 -- `unique_leaf_match`: a name with `/ . :` gets none, though a group has it as its leaf
 pub leaf-name-with-a-separator : Answered (
     add-export-group (ascii "/d.a:b") 1 0 ⇒ at-place 0 ∷
-    unique-leaf-match (ascii "a:b") ⇒ found none ∷
+    groups (unique-leaf-match (ascii "a:b")) ⇒ found none ∷
     add-export-group (ascii "/a.b/c") 2 0 ⇒ at-place 1 ∷
-    unique-leaf-match (ascii "b/c") ⇒ found none ∷ [])
+    groups (unique-leaf-match (ascii "b/c")) ⇒ found none ∷ [])
     opened
 unfolding computing ascii opened
 leaf-name-with-a-separator = refl
@@ -134,12 +134,12 @@ leaf-name-with-a-separator = refl
 -- resolve.rs: an instance name with `/ . :` gets none, though a group has the leaf of the name or of a shorter stem
 pub instance-name-with-a-separator : Answered (
     add-export-group (ascii "/d.a:b_ClassNetCache") 1 0 ⇒ at-place 0 ∷
-    resolve-cnc-for-instance-name (ascii "a:b") ⇒ found none ∷
+    groups (resolve-cnc-for-instance-name (ascii "a:b")) ⇒ found none ∷
     add-export-group (ascii "/a.d/c_ClassNetCache") 2 0 ⇒ at-place 1 ∷
-    resolve-cnc-for-instance-name (ascii "d/c") ⇒ found none ∷
+    groups (resolve-cnc-for-instance-name (ascii "d/c")) ⇒ found none ∷
     add-export-group (ascii "/d.Foo_ClassNetCache") 3 0 ⇒ at-place 2 ∷
-    resolve-cnc-for-instance-name (ascii "Foo_a.b") ⇒ found none ∷
-    resolve-cnc-for-instance-name (ascii "Foo_a") ⇒ found (some 2) ∷ [])
+    groups (resolve-cnc-for-instance-name (ascii "Foo_a.b")) ⇒ found none ∷
+    groups (resolve-cnc-for-instance-name (ascii "Foo_a")) ⇒ found (some 2) ∷ [])
     opened
 unfolding computing ascii opened
 instance-name-with-a-separator = refl
@@ -147,11 +147,11 @@ instance-name-with-a-separator = refl
 -- resolve.rs: a stem is tried with `_ClassNetCache`, with `Component_ClassNetCache` and then with `_C_ClassNetCache`
 pub stem-leaves-in-order : Answered (
     add-export-group (ascii "/a.Foo_C_ClassNetCache") 1 0 ⇒ at-place 0 ∷
-    resolve-cnc-for-instance-name (ascii "Foo") ⇒ found (some 0) ∷
+    groups (resolve-cnc-for-instance-name (ascii "Foo")) ⇒ found (some 0) ∷
     add-export-group (ascii "/a.FooComponent_ClassNetCache") 2 0 ⇒ at-place 1 ∷
-    resolve-cnc-for-instance-name (ascii "Foo") ⇒ found (some 1) ∷
+    groups (resolve-cnc-for-instance-name (ascii "Foo")) ⇒ found (some 1) ∷
     add-export-group (ascii "/a.Foo_ClassNetCache") 3 0 ⇒ at-place 2 ∷
-    resolve-cnc-for-instance-name (ascii "Foo") ⇒ found (some 2) ∷ [])
+    groups (resolve-cnc-for-instance-name (ascii "Foo")) ⇒ found (some 2) ∷ [])
     opened
 unfolding computing ascii opened
 stem-leaves-in-order = refl
@@ -160,7 +160,7 @@ stem-leaves-in-order = refl
 pub cuts-before-digits : Answered (
     add-export-group (ascii "/a.A_ClassNetCache") 1 0 ⇒ at-place 0 ∷
     add-export-group (ascii "/a.A_B_ClassNetCache") 2 0 ⇒ at-place 1 ∷
-    resolve-cnc-for-instance-name (ascii "A_B1") ⇒ found (some 0) ∷ [])
+    groups (resolve-cnc-for-instance-name (ascii "A_B1")) ⇒ found (some 0) ∷ [])
     opened
 unfolding computing ascii opened
 cuts-before-digits = refl
@@ -168,9 +168,9 @@ cuts-before-digits = refl
 -- resolve.rs: trailing digits are ASCII digits, with 9 but not `²` (C2 B2); the capital before them is an ASCII capital, with Z
 pub digits-and-capital : Answered (
     add-export-group (ascii "/a.foo_ClassNetCache") 1 0 ⇒ at-place 0 ∷
-    resolve-cnc-for-instance-name (ascii "foo9") ⇒ found (some 0) ∷
-    resolve-cnc-for-instance-name (ascii "fooZ1") ⇒ found (some 0) ∷
-    resolve-cnc-for-instance-name (ascii "foo" ++ 0xC2 ∷ 0xB2 ∷ []) ⇒ found none ∷ [])
+    groups (resolve-cnc-for-instance-name (ascii "foo9")) ⇒ found (some 0) ∷
+    groups (resolve-cnc-for-instance-name (ascii "fooZ1")) ⇒ found (some 0) ∷
+    groups (resolve-cnc-for-instance-name (ascii "foo" ++ 0xC2 ∷ 0xB2 ∷ [])) ⇒ found none ∷ [])
     opened
 unfolding computing ascii opened
 digits-and-capital = refl
@@ -179,17 +179,17 @@ digits-and-capital = refl
 -- added from the last key to the first, and each new one is found
 pub class-net-cache-keys-in-order : Answered (
     add-export-group (ascii "Default__/x/y_ClassNetCache") 1 0 ⇒ at-place 0 ∷
-    find-class-net-cache-key (ascii "Default__/x/_Core/y") ⇒ found (some 0) ∷
+    groups (find-class-net-cache-key (ascii "Default__/x/_Core/y")) ⇒ found (some 0) ∷
     add-export-group (ascii "Default__/x/y") 2 0 ⇒ at-place 1 ∷
-    find-class-net-cache-key (ascii "Default__/x/_Core/y") ⇒ found (some 1) ∷
+    groups (find-class-net-cache-key (ascii "Default__/x/_Core/y")) ⇒ found (some 1) ∷
     add-export-group (ascii "/x/_Core/y_ClassNetCache") 3 0 ⇒ at-place 2 ∷
-    find-class-net-cache-key (ascii "Default__/x/_Core/y") ⇒ found (some 2) ∷
+    groups (find-class-net-cache-key (ascii "Default__/x/_Core/y")) ⇒ found (some 2) ∷
     add-export-group (ascii "/x/_Core/y") 4 0 ⇒ at-place 3 ∷
-    find-class-net-cache-key (ascii "Default__/x/_Core/y") ⇒ found (some 3) ∷
+    groups (find-class-net-cache-key (ascii "Default__/x/_Core/y")) ⇒ found (some 3) ∷
     add-export-group (ascii "Default__/x/_Core/y_ClassNetCache") 5 0 ⇒ at-place 4 ∷
-    find-class-net-cache-key (ascii "Default__/x/_Core/y") ⇒ found (some 4) ∷
+    groups (find-class-net-cache-key (ascii "Default__/x/_Core/y")) ⇒ found (some 4) ∷
     add-export-group (ascii "Default__/x/_Core/y") 6 0 ⇒ at-place 5 ∷
-    find-class-net-cache-key (ascii "Default__/x/_Core/y") ⇒ found (some 5) ∷ [])
+    groups (find-class-net-cache-key (ascii "Default__/x/_Core/y")) ⇒ found (some 5) ∷ [])
     opened
 unfolding computing ascii opened
 class-net-cache-keys-in-order = refl
@@ -198,9 +198,9 @@ class-net-cache-keys-in-order = refl
 pub slot-past-the-group : Answered (
     add-export-group (ascii "NetworkGameplayTagNodeIndex") 1 1 ⇒ at-place 0 ∷
     set-field-on-group 1 0 7 (ascii "N") ⇒ field-placed true ∷
-    get-gameplay-tag-name 65536 ⇒ found none ∷
-    get-field 0 65536 ⇒ found none ∷
-    field-name 0 65536 ⇒ text [] ∷ [])
+    groups (get-gameplay-tag-name 65536) ⇒ found none ∷
+    groups (get-field 0 65536) ⇒ found none ∷
+    groups (field-name 0 65536) ⇒ text [] ∷ [])
     opened
 unfolding computing ascii opened
 slot-past-the-group = refl
@@ -235,8 +235,8 @@ adding-text-before-23 = refl
 
 -- `get_group_by_path`: 41 comes before the lookup, which would find that key; 4,096 bytes are not too many
 pub path-text-before-its-group : Answered (
-    get-group-by-path overlong ⇒ refusal-of 41 4105 0 ∷
-    get-group-by-path (replicate 4096 65) ⇒ found (some 0) ∷ [])
+    groups (get-group-by-path overlong) ⇒ refusal-of 41 4105 0 ∷
+    groups (get-group-by-path (replicate 4096 65)) ⇒ found (some 0) ∷ [])
     holding
 unfolding computing ascii opened
 path-text-before-its-group = refl
@@ -252,7 +252,7 @@ unfolding computing ascii opened
 field-text = (refl, refl, refl)
 
 -- `set_field_on_group`: a refused name counts no drop
-pub field-text-drops-nothing : play (set-field-on-group 1 0 5 (0xFF ∷ []) ∷ []) opened .counters ≡ none-counted
+pub field-text-drops-nothing : play (set-field-on-group 1 0 5 (0xFF ∷ []) ∷ []) opened .counters ≡ zeroCounters
 unfolding computing ascii opened
 field-text-drops-nothing = refl
 
@@ -267,35 +267,35 @@ unfolding computing ascii opened
 guid-text-before-42 = (refl, refl, refl)
 
 -- `get_group_by_path`: 40, then 41
-pub path-text : Refuses-texts get-group-by-path opened
+pub path-text : Refuses-texts (λ path. groups (get-group-by-path path)) opened
 unfolding computing ascii opened
 path-text = (refl, refl, refl)
 
 -- `unique_leaf_match`: 40, then 41
-pub leaf-text : Refuses-texts unique-leaf-match opened
+pub leaf-text : Refuses-texts (λ path. groups (unique-leaf-match path)) opened
 unfolding computing ascii opened
 leaf-text = (refl, refl, refl)
 
 -- `resolve_cnc_for_instance_name`: 40, then 41
-pub instance-text : Refuses-texts resolve-cnc-for-instance-name opened
+pub instance-text : Refuses-texts (λ path. groups (resolve-cnc-for-instance-name path)) opened
 unfolding computing ascii opened
 instance-text = (refl, refl, refl)
 
 -- `find_class_net_cache_key`: 40, then 41
-pub class-net-cache-text : Refuses-texts find-class-net-cache-key opened
+pub class-net-cache-text : Refuses-texts (λ path. groups (find-class-net-cache-key path)) opened
 unfolding computing ascii opened
 class-net-cache-text = (refl, refl, refl)
 
 -- `unique_leaf_match`: 40 comes before the test for `/ . :`
 pub leaf-text-before-separators : Answered (
-    unique-leaf-match (47 ∷ 0xFF ∷ []) ⇒ refusal-of 40 0 0 ∷ [])
+    groups (unique-leaf-match (47 ∷ 0xFF ∷ [])) ⇒ refusal-of 40 0 0 ∷ [])
     opened
 unfolding computing ascii opened
 leaf-text-before-separators = refl
 
 -- `resolve_cnc_for_instance_name`: 40 comes before the test for `/ . :`
 pub instance-text-before-separators : Answered (
-    resolve-cnc-for-instance-name (47 ∷ 0xFF ∷ []) ⇒ refusal-of 40 0 0 ∷ [])
+    groups (resolve-cnc-for-instance-name (47 ∷ 0xFF ∷ [])) ⇒ refusal-of 40 0 0 ∷ [])
     opened
 unfolding computing ascii opened
 instance-text-before-separators = refl
@@ -347,8 +347,8 @@ exported hasField handle kind index = encodePacked 1 ++ encodePacked 0 ++ hasFie
 pub any-field-byte : Answered (
     add-export-group (ascii "/a") 1 2 ⇒ at-place 0 ∷
     read-net-field-exports (whole (encodePacked 2 ++ exported 2 0 1 12 ++ exported 255 1 1 12)) ⇒ ran 2 168 ∷
-    get-field 0 0 ⇒ found (some 7) ∷
-    get-field 0 1 ⇒ found (some 7) ∷ [])
+    groups (get-field 0 0) ⇒ found (some 7) ∷
+    groups (get-field 0 1) ⇒ found (some 7) ∷ [])
     opened
 unfolding computing ascii opened
 any-field-byte = refl
@@ -357,8 +357,8 @@ any-field-byte = refl
 pub any-name-kind : Answered (
     add-export-group (ascii "/a") 1 2 ⇒ at-place 0 ∷
     read-net-field-exports (whole (encodePacked 2 ++ exported 1 0 2 12 ++ exported 1 1 255 13)) ⇒ ran 2 168 ∷
-    field-name 0 0 ⇒ text (ascii "12") ∷
-    field-name 0 1 ⇒ text (ascii "13") ∷ [])
+    groups (field-name 0 0) ⇒ text (ascii "12") ∷
+    groups (field-name 0 1) ⇒ text (ascii "13") ∷ [])
     opened
 unfolding computing ascii opened
 any-name-kind = refl
@@ -442,9 +442,9 @@ place-among-literals = refl
 -- 33: a place counts literals, not GUID records: two literals of one GUID have two places
 pub place-not-among-records : Answered (
     read-checkpoint-tables (whole (head 46 4 ++ literal 2 "A" ++ literal 2 "B" ++ placed 3 1 ++ placed 4 0 ++ encodeWord32 0)) ⇒ block-counts (record { guids = 4; groups = 0; fields = 0; frame = 54; indexed = 2; literals = 2; resolved = 2 }) ∷
-    guid-path 0 ⇒ text (ascii "B") ∷
-    guid-path 1 ⇒ text (ascii "B") ∷
-    guid-path 2 ⇒ text (ascii "A") ∷ [])
+    guids (guid-path 0) ⇒ text (ascii "B") ∷
+    guids (guid-path 1) ⇒ text (ascii "B") ∷
+    guids (guid-path 2) ⇒ text (ascii "A") ∷ [])
     opened
 unfolding computing ascii opened
 place-not-among-records = refl
@@ -477,8 +477,8 @@ literal-text-first = refl
 -- a slot byte is 0 for empty; a field follows any other
 pub any-slot-byte : Answered (
     read-checkpoint-tables (whole (head 41 0 ++ encodeWord32 1 ++ encodeText (ascii "/a") ++ encodePacked 1 ++ encodePacked 2 ++ 2 ∷ 0 ∷ encodeWord32 7 ++ 1 ∷ 24 ∷ 255 ∷ 2 ∷ encodeWord32 8 ++ 1 ∷ 26 ∷ [])) ⇒ block-counts (record { guids = 0; groups = 1; fields = 2; frame = 49; indexed = 0; literals = 0; resolved = 0 }) ∷
-    get-field 0 0 ⇒ found (some 7) ∷
-    get-field 0 1 ⇒ found (some 8) ∷ [])
+    groups (get-field 0 0) ⇒ found (some 7) ∷
+    groups (get-field 0 1) ⇒ found (some 8) ∷ [])
     opened
 unfolding computing ascii opened
 any-slot-byte = refl

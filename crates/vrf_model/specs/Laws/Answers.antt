@@ -1,7 +1,7 @@
 -- Two answers of the code that mean the same answer of document 01 are equal. Used in `vrf_schema` (Laws/Determined.antt).
 use mathlib.Core.Path.{_≡_, refl, ap}
 use Rattle.vrf_bitio.specs.Laws.Determined.{same-details}
-use Rattle.vrf_text.specs.Laws.Cases.{clash}
+use Rattle.vrf_bitio.specs.Laws.Cases.{clash}
 use Rattle.vrf_model.specs.Block.{BlockCounts}
 use Rattle.vrf_model.specs.Answers.{actedOf, addedOf, placedOf, foundOf, ranOf, countsOf, tablesOf, numberOf, wroteOf}
 use Rattle.vrf_model.specs.declared.Acted.{Acted}

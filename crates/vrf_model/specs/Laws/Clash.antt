@@ -10,7 +10,7 @@ use native.Mathlib.Nat.{le-of-suc-le-suc, not-suc-le-zero}
 use native.Mathlib.Omega.{arith}
 use lib.ListN.{length, take, length-take}
 use lib.Seq.{append-snoc}
-use Rattle.vrf_text.specs.Laws.Cases.{by-order, clash}
+use Rattle.vrf_bitio.specs.Laws.Cases.{by-order, clash}
 use Rattle.vrf_path.specs.Keys.{hasKey}
 use Rattle.vrf_model.specs.Book.{Group}
 use Rattle.vrf_model.specs.Lookup.{nextPlace, placeOr, pathAt}

@@ -1,4 +1,5 @@
--- Laws about what is held: sums over lists, and that `passed` finds no allowance exactly if the content is within its allowances.
+-- Laws about what is held: sums over lists; `passed` finds no allowance exactly if the content is within its allowances, and such content is
+-- kept.
 use mathlib.Core.Path.{_≡_, refl}
 use mathlib.Core.Bool.{Bool, true, false, cond}
 use mathlib.Core.List.{List, [], _∷_, _++_}
@@ -9,7 +10,8 @@ use native.Mathlib.Omega.{arith}
 use lib.Dec.{ltb}
 use lib.ListN.{replicate, length-append}
 use borrow.Author.Tests.{le-ltb, ltb-false}
-use Rattle.vrf_model.specs.Book.{Guid, Group, Allowances, Content, sum, heldFields, heldText, passed}
+use Rattle.vrf_model.specs.Book.{Guid, Group, Allowances, Content, Increments, sum, heldFields, heldText, passed}
+use Rattle.vrf_model.specs.Setting.{done, unlessPassed, keep}
 use Rattle.vrf_model.specs.Lawful.{WithinAllowances}
 
 -- ---- sums
@@ -51,6 +53,10 @@ passed-within c e =
 pub within-passed : (c : Content) → WithinAllowances c → passed c ≡ none
 unfolding passed
 within-passed c w = rw (le-ltb _ _ (w .guids), le-ltb _ _ (w .groups), le-ltb _ _ (w .fields), le-ltb _ _ (w .text))
+
+pub keep-within : {A : Type 0} (x : A) (c : Content) (t : Increments) → WithinAllowances c → keep x c t ≡ done x c t
+unfolding keep unlessPassed
+keep-within x c t w = rw (within-passed c w)
 
 -- the content with the allowances a and these lists
 abbrev pub listed : Allowances → List Guid → List Group → Content

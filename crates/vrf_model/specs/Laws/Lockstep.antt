@@ -5,7 +5,7 @@ use mathlib.Core.List.{List, [], _∷_}
 use Prim.Native.Nat.{ℕ, _+_, _-_, _*_, _/_, _%_, _^_, _<_}
 use native.Mathlib.Nat.{mod-lt, div-add-mod', add-mul-mod-self-right}
 use native.Mathlib.Omega.{arith}
-use Rattle.vrf_model.specs.Book.{Content, Counters, Book, stepped}
+use Rattle.vrf_model.specs.Book.{Content, Counters, Increments, Book, stepped}
 use Rattle.vrf_model.specs.Calls.{Call, Answer, run, runBook, play, answers}
 use Rattle.vrf_model.specs.LateJoin.{ahead, apart}
 
@@ -19,7 +19,7 @@ pub record Fit (t : Counters) : Type 0 where
   pub replaced : t .replaced < 2 ^ 64
   pub renamed : t .renamed < 2 ^ 64
 
-pub stepped-fit : (a t : Counters) → Fit (stepped a t)
+pub stepped-fit : (a : Counters) (t : Increments) → Fit (stepped a t)
 unfolding stepped
 stepped-fit a t = omega arith
 
@@ -41,7 +41,7 @@ ahead-kept x y t h =
     ∙ add-mul-mod-self-right (x + (2 ^ 64 - y)) r (2 ^ 64)
 
 -- adding t to both leaves them as far apart as before
-stepped-apart : (a b t : Counters) → Fit b → apart (stepped a t) (stepped b t) ≡ apart a b
+stepped-apart : (a b : Counters) (t : Increments) → Fit b → apart (stepped a t) (stepped b t) ≡ apart a b
 unfolding apart stepped
 stepped-apart a b t f = rw (ahead-kept _ _ _ (f .schema), ahead-kept _ _ _ (f .guid), ahead-kept _ _ _ (f .dropped), ahead-kept _ _ _ (f .replaced), ahead-kept _ _ _ (f .renamed))
 
@@ -57,7 +57,7 @@ lockstep-on : (calls : List Call) (c : Content) (a b : Counters) → Fit b → L
 unfolding play answers runBook
 lockstep-on [] c a b f = record { answered = refl; content = refl; counters = refl }
 lockstep-on (k ∷ ks) c a b f =
-    let t : Counters = run k c .counted in
+    let t : Increments = run k c .counted in
     let r = lockstep-on ks (run k c .content) (stepped a t) (stepped b t) (stepped-fit b t) in
     record {
       answered = ap (λ (l : List Answer). run k c .answer ∷ l) (r .answered);

@@ -1,23 +1,20 @@
--- A block determines the lists that it was written from (OneBlock.antt), for any two lawful books and for any two lists of calls. The proof
--- reads both blocks under the largest allowances.
+-- A block determines the lists that it was written from (OneBlock.antt), for any two lawful books. The proof reads both blocks under the
+-- largest allowances. Used in `vrf_schema` (Laws/OneBlock.antt).
 use mathlib.Core.Path.{_≡_, refl, sym, ap, _∙_}
 use mathlib.Core.List.{List, [], _++_, append-nil}
 use Prim.Native.Nat.{ℕ, _*_, _≤_}
 use native.Mathlib.Omega.{arith}
 use lib.ListN.{length}
-use Rattle.vrf_model.specs.Book.{Allowances, Content, Counters, none-counted, fresh, freshBook, heldFields, heldText}
+use Rattle.vrf_model.specs.Book.{Allowances, Content, noIncrement, fresh, heldFields, heldText}
 use Rattle.vrf_model.specs.Parser.{parsed}
-use Rattle.vrf_model.specs.Block.{block}
+use Rattle.vrf_model.specs.Block.{byTable, block}
 use Rattle.vrf_model.specs.Writer.{encodeTables, encodeBook, written, write}
-use Rattle.vrf_model.specs.Calls.{Call, play}
 use Rattle.vrf_model.specs.Clash.{NoClash}
-use Rattle.vrf_model.specs.Lawful.{Each, Allowed, Lawful, Sized}
+use Rattle.vrf_model.specs.Lawful.{Lawful}
 use Rattle.vrf_model.specs.LateJoin.{countsOfBlock}
 use Rattle.vrf_model.specs.OneBlock.{SameLists, OneBlock}
 use Rattle.vrf_model.specs.Laws.Held.{listed}
-use Rattle.vrf_model.specs.Laws.Lawful.Setting.{fresh-lawful}
-use Rattle.vrf_model.specs.Laws.Lawful.Calls.{play-lawful}
-use Rattle.vrf_model.specs.Laws.ReadBack.Block.{all-within, read-back}
+use Rattle.vrf_model.specs.Laws.ReadBack.Block.{incrementsOfBlock, all-within, read-back}
 use Rattle.vrf_model.specs.Laws.Writer.{write-accepts}
 
 -- ---- read under the largest allowances, a block gives its lists and leaves the bytes after it
@@ -48,7 +45,7 @@ fitting-lawful c law =
     }
 
 reads-fitting : {a : Allowances} (c : Content) → Lawful a c → NoClash (c .groups) → length (encodeBook c) ≤ 268435456
-    → (tail : List ℕ) → (t : Counters) × (block 0 (encodeBook c ++ tail) (fresh largest) none-counted ≡ parsed (countsOfBlock (fitting c)) (8 * length (encodeBook c)) tail (fitting c) t)
+    → (tail : List ℕ) → block byTable 0 (encodeBook c ++ tail) (fresh largest) noIncrement ≡ parsed (countsOfBlock (fitting c)) (8 * length (encodeBook c)) tail (fitting c) (incrementsOfBlock (fitting c))
 unfolding fitting largest encodeBook encodeTables
 reads-fitting c law clear size tail = read-back (fitting c) (fitting-lawful c law) clear size (omega arith) tail
 
@@ -63,7 +60,7 @@ module _ {a b : Allowances} (c d : Content) (law : Lawful a c) (law′ : Lawful 
       let one = reads-fitting c law (p .clear) (p .size) tail in
       let two = reads-fitting d law′ (q .clear) (q .size) [] in
       let bytes : encodeBook c ++ tail ≡ encodeBook d ++ [] = sym (append-nil (encodeBook d) ∙ e) in
-      let same = sym (one .1) ∙ ap (λ (l : List ℕ). block 0 l (fresh largest) none-counted) bytes ∙ two .1 in
+      let same = sym one ∙ ap (λ (l : List ℕ). block byTable 0 l (fresh largest) noIncrement) bytes ∙ two in
       let lists : fitting c ≡ fitting d = cc in
       (cc, record { guids = ap (λ (x : Content). x .guids) lists; groups = ap (λ (x : Content). x .groups) lists })
 
@@ -73,11 +70,3 @@ module _ {a b : Allowances} (c d : Content) (law : Lawful a c) (law′ : Lawful 
     same = (λ e. beginning [] (sym e ∙ sym (append-nil (encodeBook c))) .1, λ s. rw (s .guids, s .groups));
     no-beginning = λ tail e. beginning tail e .0;
   }
-
--- for the books that any two lists of calls make
-pub one-book-one-block : (a b : Allowances) → Allowed a → Allowed b → (calls others : List Call) → Each Sized calls → Each Sized others → (capacity capacity′ : ℕ) {m n : ℕ}
-    → write capacity (play calls (freshBook a) .content) ≡ written m → write capacity′ (play others (freshBook b) .content) ≡ written n
-    → OneBlock (play calls (freshBook a) .content) (play others (freshBook b) .content)
-unfolding freshBook
-one-book-one-block a b tops tops′ calls others sized sized′ capacity capacity′ accepted accepted′ =
-    determined _ _ (play-lawful sized (freshBook a) (fresh-lawful tops)) (play-lawful sized′ (freshBook b) (fresh-lawful tops′)) capacity capacity′ accepted accepted′

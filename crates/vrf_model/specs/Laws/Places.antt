@@ -9,11 +9,12 @@ use native.Mathlib.Omega.{arith}
 use lib.Dec.{eqb}
 use lib.ListN.{length, getD, set, take, length-append}
 use lib.Seq.{getD-append-seam}
-use borrow.Author.Tests.{ne-eqb, eqb-true, eqb-false}
+use borrow.Author.Tests.{ne-eqb, eqb-false}
 use Rattle.vrf_model.specs.Lookup.{restOrHead, lastPlace, placeOr}
+use Rattle.vrf_model.specs.Setting.{alter}
 use Rattle.vrf_model.specs.Claims.{LastAt}
 use Rattle.vrf_model.specs.Lawful.{Each, nil, cons, Distinct}
-use Rattle.vrf_model.specs.Laws.Each.{each-middle, each-set, each-at}
+use Rattle.vrf_model.specs.Laws.Each.{each-middle, each-at}
 
 -- ---- the last place
 
@@ -47,11 +48,6 @@ module _ {A : Type 0} (p : A → Bool) where
   pub lastPlace-some : (l : List A) {i : ℕ} → lastPlace p l ≡ some i → LastAt p l i
   lastPlace-some l e = subst (Last l) e (last l)
 
-  none-lastPlace : {l : List A} → Each (λ a. p a ≡ false) l → lastPlace p l ≡ none
-  unfolding lastPlace restOrHead
-  none-lastPlace nil = refl
-  none-lastPlace (cons h t) = rw (h, none-lastPlace t)
-
   -- one more element at the end, which passes or not
   module _ (a : A) where
     pub lastPlace-hit : (l : List A) → p a ≡ true → lastPlace p (l ++ (a ∷ [])) ≡ some (length l)
@@ -84,6 +80,27 @@ placeOr-take f b (a ∷ l) (suc j) (suc i) h = placeOr-take f b l j i (le-of-suc
 pub placeOr-last : {A B : Type 0} (f : A → B) (b : B) (l : List A) (a : A) → placeOr f b (l ++ (a ∷ [])) (length l) ≡ f a
 placeOr-last f b l a = placeOr-at f b (l ++ (a ∷ [])) (length l) a (rw length-append (omega arith)) ∙ ap f (getD-append-seam l a [] a)
 
+-- ---- one element changed
+
+module _ {A : Type 0} (f : A → A) where
+  -- a place that is there: the element there is replaced
+  pub alter-set : (l : List A) (i : ℕ) (d : A) → i < length l → alter f l i ≡ set l i (f (getD l i d))
+  unfolding alter
+  alter-set [] i d h = refl
+  alter-set (a ∷ l) zero d h = refl
+  alter-set (a ∷ l) (suc i) d h = ap (λ (m : List A). a ∷ m) (alter-set l i d (le-of-suc-le-suc h))
+
+  pub alter-last : (l : List A) (a : A) → alter f (l ++ (a ∷ [])) (length l) ≡ l ++ (f a ∷ [])
+  unfolding alter
+  alter-last [] a = refl
+  alter-last (x ∷ l) a = ap (λ (m : List A). x ∷ m) (alter-last l a)
+
+  pub length-alter : (l : List A) (i : ℕ) → length (alter f l i) ≡ length l
+  unfolding alter
+  length-alter [] i = refl
+  length-alter (a ∷ l) zero = refl
+  length-alter (a ∷ l) (suc i) = ap suc (length-alter l i)
+
 -- ---- distinct numbers
 
 eqb-turned : (m n : ℕ) → eqb m n ≡ false → eqb n m ≡ false
@@ -105,22 +122,3 @@ module _ {A : Type 0} (f : A → ℕ) where
   unfolding lastPlace
   distinct-append a h nil = (refl, tt)
   distinct-append a h (cons {a = x} {l = l} k t) = (lastPlace-miss _ a l (eqb-turned (f x) (f a) k) ∙ h .0, distinct-append a (h .1) t)
-
-  -- one element replaced by an element with a new number
-  pub distinct-set-new : {l : List A} (i : ℕ) (a : A) → Distinct f l → Without (f a) l → Distinct f (set l i a)
-  distinct-set-new i a h nil = tt
-  distinct-set-new zero a h (cons k t) = (none-lastPlace _ t, h .1)
-  distinct-set-new (suc i) a h (cons {a = x} {l = l} k t) = (none-lastPlace _ (each-set (lastPlace-none _ l (h .0)) (eqb-turned (f x) (f a) k) i), distinct-set-new i a (h .1) t)
-
-  -- one element replaced by an element with the same number
-  pub distinct-set-same : (l : List A) (i : ℕ) (a d : A) → i < length l → f (getD l i d) ≡ f a → Distinct f l → Distinct f (set l i a)
-  distinct-set-same [] i a d m e h = tt
-  distinct-set-same (x ∷ l) zero a d m e h = (rw e at (h .0), h .1)
-  distinct-set-same (x ∷ l) (suc i) a d m e h =
-      let others = lastPlace-none _ l (h .0) in
-      let n = le-of-suc-le-suc m in
-      (none-lastPlace _ (each-set others (rw e at (each-at others i d n)) i), distinct-set-same l i a d n e (h .1))
-
-  -- the element in whose place a number was found, replaced by another with that number
-  pub distinct-set-found : (l : List A) (a : A) {i : ℕ} → lastPlace (λ b. eqb (f b) (f a)) l ≡ some i → Distinct f l → Distinct f (set l i a)
-  distinct-set-found l a {i} e h = let at = lastPlace-some _ l e in distinct-set-same l i a a (at .below) (eqb-true _ _ (at .passes a)) h

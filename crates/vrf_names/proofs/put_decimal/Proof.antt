@@ -2,29 +2,19 @@
 use mathlib.Core.Path.{sym, _∙_}
 use native.Mathlib.Omega.{arith}
 use borrow.Author.Needs.{needs}
-use denote.Ref.{now}
 use Rattle.vrf_names.specs.Names.{decimal}
 use Rattle.vrf_names.specs.Laws.Names.{put-fits, put-nothing}
 use Rattle.vrf_names.proofs.put_decimal.Statement.{statement}
 use Rattle.vrf_names.proofs.put_decimal.Tie as tie
 
 returns : tie.Need-returns
-returns c =
-    let start = c .before .before .before .args in
-    sym (put-nothing (now (start .out)) (decimal (start .n)) (start .at) (omega arith))
+returns c = sym (put-nothing _ (decimal _) _ (omega arith))
 
 returns-2 : tie.Need-returns-2
-returns-2 c =
-    let start = c .before .before .before .before .args in
-    sym (put-nothing (now (start .out)) (decimal (start .n)) (start .at) (omega arith))
+returns-2 c = sym (put-nothing _ (decimal _) _ (omega arith))
 
 returns-3 : tie.Need-returns-3
-returns-3 c =
-    let after-put-digits = c .before .before in
-    let back = after-put-digits .before .before .before .before in
-    let at-start = back .before .before in
-    let start = at-start .args in
-    after-put-digits .put-digits .ensures ∙ sym (put-fits (now (start .out)) (decimal (start .n)) (start .at) (omega arith))
+returns-3 c = c .before .before .put-digits .ensures ∙ sym (put-fits _ (decimal _) _ (omega arith))
 
 pub put-decimal-spec : {M : Type 1} → statement M
 put-decimal-spec =

@@ -32,7 +32,7 @@ loop-again c =
       rw length-set (l .inv .0),
       rw length-set (omega arith),
       omega (arith, decimal-some (l .rest / 10)),
-      l .inv .3 ∙ digit-next (l .out) (c .before .before .before .before .args .at) (l .rest) (l .end) (l .inv .2) (l .inv .1) (c .loop-test .taken),
+      l .inv .3 ∙ digit-next (l .out) _ (l .rest) (l .end) (l .inv .2) (l .inv .1) (c .loop-test .taken),
     )
 
 same-length : tie.Need-same-length Inv-loop μ-loop
@@ -41,38 +41,11 @@ same-length c = rw length-set (c .before .loop .inv .0)
 returns : tie.Need-returns Inv-loop μ-loop
 returns c =
     let l = c .before .loop in
-    sym (l .inv .3 ∙ digit-last (l .out) (c .before .before .before .before .args .at) (l .rest) (l .end) (l .inv .2) (l .inv .1) (c .loop-test .left))
-
-decimal-len-requires : tie.Need-decimal-len-requires Inv-loop μ-loop
-decimal-len-requires c κs = tt
-
-add-end : tie.Need-add-end Inv-loop μ-loop
-add-end c = omega arith
-
-cast-out : tie.Need-cast-out Inv-loop μ-loop
-cast-out c = omega arith
-
-add-out : tie.Need-add-out Inv-loop μ-loop
-add-out c = omega arith
-
-slice-write-out : tie.Need-slice-write-out Inv-loop μ-loop
-slice-write-out c = omega arith
-
-loop-less : tie.Need-loop-less Inv-loop μ-loop
-loop-less c = omega arith
-
-cast-out-2 : tie.Need-cast-out-2 Inv-loop μ-loop
-cast-out-2 c = omega arith
-
-add-out-2 : tie.Need-add-out-2 Inv-loop μ-loop
-add-out-2 c = omega arith
-
-slice-write-out-2 : tie.Need-slice-write-out-2 Inv-loop μ-loop
-slice-write-out-2 c = omega arith
+    sym (l .inv .3 ∙ digit-last (l .out) _ (l .rest) (l .end) (l .inv .2) (l .inv .1) (c .loop-test .left))
 
 pub put-digits-spec : {M : Type 1} → statement M
 put-digits-spec =
     tie.close
     (tie.spec
-    Inv-loop μ-loop decimal-len-requires add-end sub-end loop-holds cast-out add-out slice-write-out sub-end-2 loop-less
-    loop-again cast-out-2 add-out-2 slice-write-out-2 same-length returns)
+    Inv-loop μ-loop (λ c κs. tt) (λ c. omega arith) sub-end loop-holds (λ c. omega arith) (λ c. omega arith) (λ c. omega arith) sub-end-2 (λ c. omega arith)
+    loop-again (λ c. omega arith) (λ c. omega arith) (λ c. omega arith) same-length returns)

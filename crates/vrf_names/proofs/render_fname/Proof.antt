@@ -20,8 +20,7 @@ returns c =
 returns-2 : tie.Need-returns-2
 returns-2 c =
     let after-append-number2 = c .before .before in
-    let start = after-append-number2 .before .before .before .before in
-    rw (toZ-ofZ (start .fits .number)) at (after-append-number2 .append-number2 .ensures)
+    rw (toZ-ofZ (after-append-number2 .before .before .before .before .fits .number)) at (after-append-number2 .append-number2 .ensures)
 
 pub render-fname-spec : {M : Type 1} → statement M
 render-fname-spec =

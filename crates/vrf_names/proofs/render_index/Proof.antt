@@ -10,18 +10,15 @@ use Rattle.vrf_names.proofs.render_index.Tie as tie
 
 returns : tie.Need-returns
 returns c =
-    let counted = c .before .before in
-    let start = counted .before .before in
-    let out = now (start .args .out) in
-    answer-short (length out) (decimal (start .args .n)) out (counted .decimal-len .ensures .0) (omega arith) (omega arith) (c .short .ensures)
+    let out = now (c .before .before .before .before .args .out) in
+    answer-short (length out) (decimal _) out (c .before .before .decimal-len .ensures .0) (omega arith) (omega arith) (c .short .ensures)
 
 returns-2 : tie.Need-returns-2
 returns-2 c =
     let after-put-digits = c .before .before in
     let counted = after-put-digits .before .before .before in
-    let start = counted .before .before in
-    let out = now (start .args .out) in
-    answer-fits (length out) (decimal (start .args .n)) out (counted .decimal-len .ensures .0) (omega arith) (omega arith) (after-put-digits .put-digits .ensures)
+    let out = now (counted .before .before .args .out) in
+    answer-fits (length out) (decimal _) out (counted .decimal-len .ensures .0) (omega arith) (omega arith) (after-put-digits .put-digits .ensures)
 
 pub render-index-spec : {M : Type 1} → statement M
 render-index-spec =

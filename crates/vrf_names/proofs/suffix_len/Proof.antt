@@ -4,16 +4,10 @@ use borrow.Author.Needs.{needs}
 use Rattle.vrf_names.proofs.suffix_len.Statement.{statement}
 use Rattle.vrf_names.proofs.suffix_len.Tie as tie
 
-returns-2 : tie.Need-returns-2
-returns-2 c = rw (c .before .before .s .given .1) (omega arith, omega arith)
-
-returns-3 : tie.Need-returns-3
-returns-3 c = rw (c .before .before .s2 .given .1) (omega arith, omega arith)
-
 pub suffix-len-spec : {M : Type 1} → statement M
 suffix-len-spec =
     tie.close
     (tie.spec
     (λ c. search needs) (λ c. search needs) (λ c. search needs) (λ c κs. search needs) (λ c. search needs)
-    (λ c. search needs) (λ c. search needs) (λ c κs. search needs) (λ c. search needs) (λ c. search needs) returns-2
-    returns-3)
+    (λ c. search needs) (λ c. search needs) (λ c κs. search needs) (λ c. search needs) (λ c. search needs) (λ c. rw (c .before .before .s .given .1) (omega arith, omega arith))
+    (λ c. rw (c .before .before .s2 .given .1) (omega arith, omega arith)))

@@ -1,58 +1,35 @@
 -- `vrf_names::suffix_of` satisfies its contract.
+use mathlib.Core.Path.{_≡_, sym, ap, _∙_}
+use Prim.Native.Nat.{suc, _-_, _<_}
+use native.Mathlib.Omega.{arith}
+use lib.IntN.{pos}
+use borrow.Author.Needs.{needs}
+use Rattle.vrf_bitio.specs.Laws.Signed.{is-zero, below-zero, above-zero}
 use Rattle.vrf_names.specs.Names.{suffix}
-use Rattle.vrf_names.proofs.Signed.{is-zero, is-positive, is-negative, less-fits, less-casts, plain, more-fits, negated-fits, negated-casts, magnitude-fits, minus}
 use Rattle.vrf_names.proofs.suffix_of.Statement.{statement}
 use Rattle.vrf_names.proofs.suffix_of.Tie as tie
 
 returns : tie.Need-returns
 unfolding suffix
-returns c = rw (is-zero (c .before .args .number) (c .before .fits .number) (c .if1 .taken))
-
-sub-t3 : tie.Need-sub-t3
-sub-t3 c =
-    let start = c .before .before in
-    less-fits (start .args .number) (start .fits .number) ((is-positive (start .args .number) (start .fits .number) (c .if2 .taken)) .0) ((is-positive (start .args .number) (start .fits .number) (c .if2 .taken)) .1)
-
-cast-t4 : tie.Need-cast-t4
-cast-t4 c =
-    let start = c .before .before in
-    less-casts (start .args .number) (start .fits .number) ((is-positive (start .args .number) (start .fits .number) (c .if2 .taken)) .0) ((is-positive (start .args .number) (start .fits .number) (c .if2 .taken)) .1)
+returns c =
+    let m = below-zero _ (c .before .before .fits .number) (c .magnitude .ensures) (c .before .if1 .taken) in
+    let one : suc (c .magnitude .result - 1) ≡ c .magnitude .result = omega arith in
+    rw (m .1, one)
 
 returns-2 : tie.Need-returns-2
-returns-2 c =
-    let start = c .before .before in
-    plain (start .args .number) (start .fits .number) ((is-positive (start .args .number) (start .fits .number) (c .if2 .taken)) .0) ((is-positive (start .args .number) (start .fits .number) (c .if2 .taken)) .1)
+unfolding suffix
+returns-2 c = rw (is-zero _ (c .before .before .fits .number) (c .if2 .taken))
 
-add-t5 : tie.Need-add-t5
-add-t5 c =
-    let at-if1 = c .before in
-    let start = at-if1 .before in
-    more-fits (start .args .number) (start .fits .number) ((is-negative (start .args .number) (start .fits .number) (at-if1 .if1 .left) (c .if2 .left)) .0) ((is-negative (start .args .number) (start .fits .number) (at-if1 .if1 .left) (c .if2 .left)) .1)
-
-sub-t6 : tie.Need-sub-t6
-sub-t6 c =
-    let at-if1 = c .before in
-    let start = at-if1 .before in
-    negated-fits (start .args .number) (start .fits .number) ((is-negative (start .args .number) (start .fits .number) (at-if1 .if1 .left) (c .if2 .left)) .0) ((is-negative (start .args .number) (start .fits .number) (at-if1 .if1 .left) (c .if2 .left)) .1)
-
-cast-t7 : tie.Need-cast-t7
-cast-t7 c =
-    let at-if1 = c .before in
-    let start = at-if1 .before in
-    negated-casts (start .args .number) (start .fits .number) ((is-negative (start .args .number) (start .fits .number) (at-if1 .if1 .left) (c .if2 .left)) .0) ((is-negative (start .args .number) (start .fits .number) (at-if1 .if1 .left) (c .if2 .left)) .1)
-
-add-t8 : tie.Need-add-t8
-add-t8 c =
-    let at-if1 = c .before in
-    let start = at-if1 .before in
-    magnitude-fits (start .args .number) (start .fits .number) ((is-negative (start .args .number) (start .fits .number) (at-if1 .if1 .left) (c .if2 .left)) .0) ((is-negative (start .args .number) (start .fits .number) (at-if1 .if1 .left) (c .if2 .left)) .1)
+positive : (c : tie.After-magnitude2) → let start = c .before .before .before in (0 < c .magnitude2 .result) × (start .args .number ≡ pos (c .magnitude2 .result))
+positive c =
+    let start = c .before .before .before in
+    above-zero (start .args .number) (start .fits .number) (c .magnitude2 .ensures) (c .before .before .if1 .left) (c .before .if2 .left)
 
 returns-3 : tie.Need-returns-3
+unfolding suffix
 returns-3 c =
-    let at-if1 = c .before in
-    let start = at-if1 .before in
-    minus (start .args .number) (start .fits .number) ((is-negative (start .args .number) (start .fits .number) (at-if1 .if1 .left) (c .if2 .left)) .0) ((is-negative (start .args .number) (start .fits .number) (at-if1 .if1 .left) (c .if2 .left)) .1)
+    let one : c .magnitude2 .result ≡ suc (c .magnitude2 .result - 1) = omega (arith, positive c .0) in
+    sym (ap suffix (positive c .1 ∙ ap pos one))
 
 pub suffix-of-spec : {M : Type 1} → statement M
-suffix-of-spec =
-    tie.close (tie.spec returns sub-t3 cast-t4 returns-2 add-t5 sub-t6 cast-t7 add-t8 returns-3)
+suffix-of-spec = tie.close (tie.spec (λ c κs. search needs) returns returns-2 (λ c κs. search needs) (λ c. omega (arith, positive c .0)) returns-3)

@@ -1,15 +1,14 @@
 -- Laws of decimal numbers, one digit at a time, and of their lengths; then what fits a buffer. Used by this crate's proofs and by
 -- vrf_reader and vrf_tally.
-use mathlib.Core.Path.{_≡_, refl, ap}
-use mathlib.Core.Bool.{Bool, true, false, cond}
+use mathlib.Core.Path.{_≡_, ap}
 use mathlib.Core.List.{List, [], _∷_, _++_}
 use Prim.Native.Char.{code}
 use Prim.Native.Nat.{ℕ, zero, suc, _+_, _*_, _/_, _%_, _^_, _<_, _≤_}
 use native.Mathlib.Nat.{pow-succ'}
 use native.Mathlib.Omega.{arith}
-use lib.Dec.{ltb}
 use lib.ListN.{length, length-append}
-use borrow.Author.Tests.{lt-ltb, le-ltb, ltb-true, ltb-false}
+use borrow.Author.Tests.{lt-ltb, le-ltb}
+use Rattle.vrf_bitio.specs.Laws.Cases.{by-order}
 use Rattle.vrf_bitio.specs.Pasted.{pasted}
 use Rattle.vrf_names.specs.Names.{digits, decimal, named, refused, renderedInto}
 use Rattle.vrf_names.specs.Answers.{putInto}
@@ -19,12 +18,8 @@ digits-enough : (a b n : ℕ) → n < a → n < b → digits a n ≡ digits b n
 unfolding digits
 digits-enough zero b n ha hb = absurd (omega arith)
 digits-enough (suc a) zero n ha hb = absurd (omega arith)
-digits-enough (suc a) (suc b) n ha hb = by (ltb n 10) refl (digits-enough a b (n / 10))
-  where
-    by : (x : Bool) → ltb n 10 ≡ x → (n / 10 < a → n / 10 < b → digits a (n / 10) ≡ digits b (n / 10))
-        → cond x ((code "0" + n) ∷ []) (digits a (n / 10) ++ ((code "0" + n % 10) ∷ [])) ≡ cond x ((code "0" + n) ∷ []) (digits b (n / 10) ++ ((code "0" + n % 10) ∷ []))
-    by true e rest = refl
-    by false e rest = let h : 10 ≤ n = ltb-false n 10 e in rw (rest (omega arith) (omega arith))
+digits-enough (suc a) (suc b) n ha hb =
+    by-order 10 n (λ many. rw (le-ltb n 10 many, digits-enough a b (n / 10) (omega arith) (omega arith))) (λ one. rw (lt-ltb n 10 one))
 
 module _ (n : ℕ) where
   pub decimal-one : n < 10 → decimal n ≡ (code "0" + n) ∷ []
@@ -39,20 +34,14 @@ module _ (n : ℕ) where
   more-length h = rw (decimal-more h, length-append)
 
 pub decimal-some : (n : ℕ) → 0 < length (decimal n)
-decimal-some n = by (ltb n 10) refl
-  where
-    by : (x : Bool) → ltb n 10 ≡ x → 0 < length (decimal n)
-    by true e = rw (decimal-one n (ltb-true n 10 e)) (omega arith)
-    by false e = rw (more-length n (ltb-false n 10 e)) (omega arith)
+decimal-some n = by-order 10 n (λ many. rw (more-length n many) (omega arith)) (λ one. rw (decimal-one n one) (omega arith))
 
 -- a number below 10 ^ (k + 1) has at most k + 1 digits
 pub decimal-length : (k n : ℕ) → n < 10 ^ suc k → length (decimal n) ≤ suc k
 decimal-length zero n h = rw (decimal-one n h) (omega arith)
-decimal-length (suc k) n h = by (ltb n 10) refl (decimal-length k (n / 10))
-  where
-    by : (x : Bool) → ltb n 10 ≡ x → (n / 10 < 10 ^ suc k → length (decimal (n / 10)) ≤ suc k) → length (decimal n) ≤ suc (suc k)
-    by true e rest = rw (decimal-one n (ltb-true n 10 e)) (omega arith)
-    by false e rest = let p : n < 10 * 10 ^ suc k = rw (pow-succ' 10 (suc k)) at h in rw (more-length n (ltb-false n 10 e)) (omega (arith, rest (omega arith)))
+decimal-length (suc k) n h =
+    let p : n < 10 * 10 ^ suc k = rw (pow-succ' 10 (suc k)) at h in
+    by-order 10 n (λ many. rw (more-length n many) (omega (arith, decimal-length k (n / 10) (omega arith)))) (λ one. rw (decimal-one n one) (omega arith))
 
 -- a text that fits a buffer from a place on, and one that does not
 module _ (before t : List ℕ) (at : ℕ) where

@@ -9,31 +9,25 @@ use Rattle.vrf_path.proofs.capital_stem.Statement.{statement}
 use Rattle.vrf_path.proofs.capital_stem.Tie as tie
 
 returns : tie.Need-returns
-returns c = record { stems = capital-short (now (c .before .before .args .name)) (c .before .before .args .n) (c .if1 .taken); within = omega arith; rule = tt }
+returns c = record { stems = capital-short _ _ (c .if1 .taken); within = omega arith; rule = tt }
 
 returns-2 : tie.Need-returns-2
-returns-2 c =
-    let start = c .before .before .before in
-    record { stems = capital-past (now (start .args .name)) (start .args .n) (c .if2 .taken); within = omega arith; rule = tt }
+returns-2 c = record { stems = capital-past _ _ (c .if2 .taken); within = omega arith; rule = tt }
 
 returns-3 : tie.Need-returns-3
 returns-3 c =
-    let after-is-capital = c .before in
-    let back = after-is-capital .before .before .before .before in
-    let at-start = back .before in
-    let start = at-start .args in
-    let name = now (start .name) in
-    let capital = sym (after-is-capital .is-capital .ensures) ∙ c .if3 .taken in
-    record { stems = capital-at name (start .n - 1) (omega arith) (omega arith) ∙ rw capital; within = omega arith; rule = rule-capital name _ capital }
+    let back = c .before .before .before .before in
+    let a = back .before .before .args in
+    let name = now (a .name) in
+    let capital = sym (c .before .is-capital .ensures) ∙ c .if3 .taken in
+    record { stems = capital-at name (a .n - 1) (omega arith) (omega arith) ∙ rw capital; within = omega arith; rule = rule-capital name _ capital }
 
 returns-4 : tie.Need-returns-4
 returns-4 c =
-    let after-is-capital = c .before in
-    let back = after-is-capital .before .before .before .before in
-    let at-start = back .before in
-    let start = at-start .args in
-    let other = sym (after-is-capital .is-capital .ensures) ∙ c .if3 .left in
-    record { stems = capital-at (now (start .name)) (start .n - 1) (omega arith) (omega arith) ∙ rw other; within = omega arith; rule = tt }
+    let back = c .before .before .before .before in
+    let a = back .before .before .args in
+    let other = sym (c .before .is-capital .ensures) ∙ c .if3 .left in
+    record { stems = capital-at _ (a .n - 1) (omega arith) (omega arith) ∙ rw other; within = omega arith; rule = tt }
 
 pub capital-stem-spec : {M : Type 1} → statement M
 capital-stem-spec =

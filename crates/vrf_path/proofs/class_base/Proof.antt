@@ -14,23 +14,18 @@ returns : tie.Need-returns
 unfolding component
 returns c =
     let at-match = c .before .before in
-    let after-last-byte = at-match .before in
-    let start = after-last-byte .before .before in
-    (c .cut-at .ensures .0 ∙ class-by-t (now (start .args .t)) (sym (after-last-byte .last-byte .ensures) ∙ at-match .match .keys1), c .cut-at .ensures .1)
+    (c .cut-at .ensures .0 ∙ class-by-t _ (sym (at-match .before .last-byte .ensures) ∙ at-match .match .keys1), c .cut-at .ensures .1)
 
 returns-2 : tie.Need-returns-2
 unfolding underscoreC
 returns-2 c =
     let at-match = c .before .before in
-    let after-last-byte = at-match .before in
-    let start = after-last-byte .before .before in
-    (c .cut-at2 .ensures .0 ∙ class-by-C (now (start .args .t)) (sym (after-last-byte .last-byte .ensures) ∙ at-match .match .keys2), c .cut-at2 .ensures .1)
+    (c .cut-at2 .ensures .0 ∙ class-by-C _ (sym (at-match .before .last-byte .ensures) ∙ at-match .match .keys2), c .cut-at2 .ensures .1)
 
 returns-3 : tie.Need-returns-3
 returns-3 c =
     let t = now (c .before .before .before .args .t) in
-    let last = c .before .last-byte .ensures in
-    (take-all (length t) t (omega arith) ∙ class-by-others t (λ e. c .match .rest .0 .1 (last ∙ e)) (λ e. c .match .rest .1 (last ∙ e)), omega arith)
+    (take-all (length t) t (omega arith) ∙ class-by-others t (λ e. c .match .rest .0 .1 (c .before .last-byte .ensures ∙ e)) (λ e. c .match .rest .1 (c .before .last-byte .ensures ∙ e)), omega arith)
 
 pub class-base-spec : {M : Type 1} → statement M
 class-base-spec =

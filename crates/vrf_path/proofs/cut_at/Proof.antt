@@ -11,23 +11,15 @@ use Rattle.vrf_path.proofs.cut_at.Statement.{statement}
 use Rattle.vrf_path.proofs.cut_at.Tie as tie
 
 sub-result : tie.Need-sub-result
-sub-result c =
-    let after-ends-with = c .before in
-    let start = after-ends-with .before .before .before in
-    let x = start .args in
-    ends-length (now (x .p)) (now (x .t)) (sym (after-ends-with .ends-with .ensures) ∙ c .if1 .taken)
+sub-result c = ends-length _ _ (sym (c .before .ends-with .ensures) ∙ c .if1 .taken)
 
 returns : tie.Need-returns
-returns c =
-    let after-ends-with = c .before in
-    let start = after-ends-with .before .before .before in
-    let x = start .args in
-    (cut-there (now (x .p)) (now (x .t)) (sym (after-ends-with .ends-with .ensures) ∙ c .if1 .taken), omega arith)
+returns c = (cut-there _ _ (sym (c .before .ends-with .ensures) ∙ c .if1 .taken), omega arith)
 
 returns-2 : tie.Need-returns-2
 returns-2 c =
-    let x = c .before .before .before .before .args in
-    (take-all (length (now (x .t))) (now (x .t)) (omega arith) ∙ cut-not (now (x .p)) (now (x .t)) (sym (c .before .ends-with .ensures) ∙ c .if1 .left), omega arith)
+    let a = c .before .before .before .before .args in
+    (take-all (length (now (a .t))) (now (a .t)) (omega arith) ∙ cut-not (now (a .p)) (now (a .t)) (sym (c .before .ends-with .ensures) ∙ c .if1 .left), omega arith)
 
 pub cut-at-spec : {M : Type 1} → statement M
 cut-at-spec = tie.close (tie.spec (λ c κs. search needs) sub-result returns returns-2)

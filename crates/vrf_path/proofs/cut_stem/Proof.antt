@@ -1,7 +1,6 @@
 -- `vrf_path::cut_stem` satisfies its contract.
 use mathlib.Core.Path.{sym, ap, _∙_}
 use borrow.Author.Needs.{needs}
-use denote.Ref.{now}
 use Rattle.vrf_path.specs.Inner.Text.{place}
 use Rattle.vrf_path.proofs.Stems.{cut, cut-none, cut-first, renamed}
 use Rattle.vrf_path.proofs.cut_stem.Statement.{statement}
@@ -9,25 +8,16 @@ use Rattle.vrf_path.proofs.cut_stem.Tie as tie
 
 returns : tie.Need-returns
 returns c =
-    let at-i = c .before .before in
-    let after-rfind = at-i .before .before in
-    let start = after-rfind .before .before in
-    cut (now (start .args .name)) (start .args .n) (sym (after-rfind .rfind .ensures) ∙ ap place (at-i .i .given .1)) (start .pre) (c .if1 .taken)
+    let after-rfind = c .before .before .before .before in
+    cut _ _ (sym (after-rfind .rfind .ensures) ∙ ap place (c .before .before .i .given .1)) (after-rfind .before .before .pre) (c .if1 .taken)
 
 returns-2 : tie.Need-returns-2
-returns-2 c =
-    let at-enum-told = c .before in
-    let after-rfind = at-enum-told .before .before in
-    let start = after-rfind .before .before in
-    renamed (cut-none (now (start .args .name)) (start .args .n) (sym (after-rfind .rfind .ensures) ∙ ap place (at-enum-told .enum-told .given .1))) (c .digit-stem .ensures)
+returns-2 c = renamed (cut-none _ _ (sym (c .before .before .before .rfind .ensures) ∙ ap place (c .before .enum-told .given .1))) (c .digit-stem .ensures)
 
 returns-3 : tie.Need-returns-3
 returns-3 c =
-    let at-if1 = c .before in
-    let at-i = at-if1 .before .before in
-    let after-rfind = at-i .before .before in
-    let start = after-rfind .before .before in
-    renamed (cut-first (now (start .args .name)) (start .args .n) (sym (after-rfind .rfind .ensures) ∙ ap place (at-i .i .given .1)) (at-if1 .if1 .left)) (c .digit-stem2 .ensures)
+    let at-i = c .before .before .before in
+    renamed (cut-first _ _ (sym (at-i .before .before .rfind .ensures) ∙ ap place (at-i .i .given .1)) (c .before .if1 .left)) (c .digit-stem2 .ensures)
 
 pub cut-stem-spec : {M : Type 1} → statement M
 cut-stem-spec =

@@ -1,7 +1,6 @@
 -- `vrf_path::default_object_alias` satisfies its contract.
 use mathlib.Core.Path.{sym, _∙_}
 use borrow.Author.Needs.{needs}
-use denote.Ref.{now}
 use Rattle.vrf_path.specs.Keys.{defaultPrefix}
 use Rattle.vrf_path.specs.Laws.Keys.{default-stripped, default-none, default-prefixed}
 use Rattle.vrf_path.proofs.default_object_alias.Statement.{statement}
@@ -9,28 +8,19 @@ use Rattle.vrf_path.proofs.default_object_alias.Tie as tie
 
 returns : tie.Need-returns
 unfolding defaultPrefix
-returns c =
-    let after-starts-with = c .before in
-    let start = after-starts-with .before .before .before in
-    default-stripped (now (start .args .path)) (sym (after-starts-with .starts-with .ensures) ∙ c .if1 .taken)
+returns c = default-stripped _ (sym (c .before .starts-with .ensures) ∙ c .if1 .taken)
 
 returns-2 : tie.Need-returns-2
 unfolding defaultPrefix
 returns-2 c =
-    let after-has-path-separator = c .before in
-    let at-if1 = after-has-path-separator .before in
-    let after-starts-with = at-if1 .before in
-    let start = after-starts-with .before .before .before in
-    default-none (now (start .args .path)) (sym (after-starts-with .starts-with .ensures) ∙ at-if1 .if1 .left) (sym (after-has-path-separator .has-path-separator .ensures) ∙ c .if2 .taken)
+    let at-if1 = c .before .before in
+    default-none _ (sym (at-if1 .before .starts-with .ensures) ∙ at-if1 .if1 .left) (sym (c .before .has-path-separator .ensures) ∙ c .if2 .taken)
 
 returns-3 : tie.Need-returns-3
 unfolding defaultPrefix
 returns-3 c =
-    let after-has-path-separator = c .before in
-    let at-if1 = after-has-path-separator .before in
-    let after-starts-with = at-if1 .before in
-    let start = after-starts-with .before .before .before in
-    default-prefixed (now (start .args .path)) (sym (after-starts-with .starts-with .ensures) ∙ at-if1 .if1 .left) (sym (after-has-path-separator .has-path-separator .ensures) ∙ c .if2 .left)
+    let at-if1 = c .before .before in
+    default-prefixed _ (sym (at-if1 .before .starts-with .ensures) ∙ at-if1 .if1 .left) (sym (c .before .has-path-separator .ensures) ∙ c .if2 .left)
 
 pub default-object-alias-spec : {M : Type 1} → statement M
 default-object-alias-spec =

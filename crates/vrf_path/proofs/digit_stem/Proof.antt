@@ -10,9 +10,8 @@ use Rattle.vrf_path.proofs.digit_stem.Tie as tie
 
 returns : tie.Need-returns
 returns c =
-    let counted = c .before in
-    let name = now (counted .before .before .args .name) in
-    record { stems = ap (digitStems name) (sym (counted .digits-from .ensures .0)) ∙ digit-empty name _ (c .if1 .taken); within = omega arith; rule = tt }
+    let name = now (c .before .before .before .args .name) in
+    record { stems = ap (digitStems name) (sym (c .before .digits-from .ensures .0)) ∙ digit-empty name _ (c .if1 .taken); within = omega arith; rule = tt }
 
 returns-2 : tie.Need-returns-2
 returns-2 c =
@@ -27,9 +26,8 @@ returns-2 c =
 
 returns-3 : tie.Need-returns-3
 returns-3 c =
-    let counted = c .before .before in
-    let name = now (counted .before .before .args .name) in
-    record { stems = ap (digitStems name) (sym (counted .digits-from .ensures .0)) ∙ digit-none name _ (omega arith) (c .if2 .left); within = omega arith; rule = tt }
+    let name = now (c .before .before .before .before .args .name) in
+    record { stems = ap (digitStems name) (sym (c .before .before .digits-from .ensures .0)) ∙ digit-none name _ (omega arith) (c .if2 .left); within = omega arith; rule = tt }
 
 pub digit-stem-spec : {M : Type 1} → statement M
 digit-stem-spec = tie.close (tie.spec (λ c κs. search needs) returns returns-2 returns-3)

@@ -4,7 +4,6 @@ use Prim.Native.Nat.{_≤_, _-_}
 use native.Mathlib.Omega.{arith}
 use lib.ListN.{length}
 use borrow.Author.Tests.{not-true, not-false}
-use denote.Ref.{now}
 use Rattle.vrf_path.specs.Stems.{digitsFrom}
 use Rattle.vrf_path.specs.Laws.Stems.{digits-end, digits-earlier, digits-all}
 use Rattle.vrf_path.proofs.digits_from.Statement.{statement}
@@ -18,24 +17,16 @@ abbrev μ-loop : tie.MeasureT-loop
 
 returns : tie.Need-returns Inv-loop μ-loop
 returns c =
-    let after-is-digit = c .before in
-    let at-loop = after-is-digit .before .before .before in
-    let start = at-loop .before .before in
-    let l = at-loop .loop in
-    (sym (l .inv .1 ∙ digits-end (now (start .args .name)) (l .i - 1) (omega arith) (sym (after-is-digit .is-digit .ensures) ∙ not-true (after-is-digit .is-digit .result) (c .if1 .taken))), omega arith)
+    let l = c .before .before .before .before .loop in
+    (sym (l .inv .1 ∙ digits-end _ (l .i - 1) (omega arith) (sym (c .before .is-digit .ensures) ∙ not-true (c .before .is-digit .result) (c .if1 .taken))), omega arith)
 
 loop-again : tie.Need-loop-again Inv-loop μ-loop
 loop-again c =
-    let after-is-digit = c .before in
-    let at-loop = after-is-digit .before .before .before in
-    let start = at-loop .before .before in
-    let l = at-loop .loop in
-    (omega arith, l .inv .1 ∙ digits-earlier (now (start .args .name)) (l .i - 1) (omega arith) (sym (after-is-digit .is-digit .ensures) ∙ not-false (after-is-digit .is-digit .result) (c .if1 .left)))
+    let l = c .before .before .before .before .loop in
+    (omega arith, l .inv .1 ∙ digits-earlier _ (l .i - 1) (omega arith) (sym (c .before .is-digit .ensures) ∙ not-false (c .before .is-digit .result) (c .if1 .left)))
 
 returns-2 : tie.Need-returns-2 Inv-loop μ-loop
-returns-2 c =
-    let l = c .before .loop in
-    (sym (l .inv .1 ∙ digits-all (now (c .before .before .before .args .name)) (l .i) (c .loop-test .left)), omega arith)
+returns-2 c = (sym (c .before .loop .inv .1 ∙ digits-all _ (c .before .loop .i) (c .loop-test .left)), omega arith)
 
 pub digits-from-spec : {M : Type 1} → statement M
 digits-from-spec =

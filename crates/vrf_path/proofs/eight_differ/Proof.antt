@@ -1,16 +1,11 @@
 -- `vrf_path::eight_differ` satisfies its contract.
 use borrow.Author.Needs.{needs}
-use denote.Ref.{now}
 use Rattle.vrf_path.proofs.Texts.{eight-outcome}
 use Rattle.vrf_path.proofs.eight_differ.Statement.{statement}
 use Rattle.vrf_path.proofs.eight_differ.Tie as tie
 
 returns : tie.Need-returns
-returns c =
-    let after-eight = c .before in
-    let start = after-eight .before .before .before in
-    let x = start .args in
-    rw (after-eight .eight .ensures, c .eight2 .ensures) (eight-outcome (now (x .a)) (now (x .b)) (x .i))
+returns c = rw (c .before .eight .ensures, c .eight2 .ensures) (eight-outcome _ _ _)
 
 pub eight-differ-spec : {M : Type 1} → statement M
 eight-differ-spec = tie.close (tie.spec (λ c κs. search needs) (λ c κs. search needs) returns)

@@ -9,8 +9,8 @@ use Rattle.vrf_path.proofs.eight_separators.Tie as tie
 
 returns : tie.Need-returns
 returns c =
-    let x = c .before .before .before .args in
-    let ends : x .i + 4 + 4 ≡ x .i + 8 = omega arith in
+    let a = c .before .before .before .args in
+    let ends : a .i + 4 + 4 ≡ a .i + 8 = omega arith in
     or-joined (c .before .four-separators .result) (c .four-separators2 .result) _ (c .before .four-separators .ensures) (rw ends at (c .four-separators2 .ensures))
 
 pub eight-separators-spec : {M : Type 1} → statement M

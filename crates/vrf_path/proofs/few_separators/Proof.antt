@@ -17,43 +17,23 @@ abbrev μ-loop : tie.MeasureT-loop
 
 returns : tie.Need-returns Inv-loop μ-loop
 returns c =
-    let after-is-separator = c .before in
-    let at-loop = after-is-separator .before .before .before in
-    let start = at-loop .before .before in
-    let l = at-loop .loop in
-    sym (l .inv .1 ∙ rw (sym (after-is-separator .is-separator .ensures) ∙ c .if1 .taken) at (separator-next (now (start .args .text)) (l .i) (omega arith)))
+    let at-loop = c .before .before .before .before in
+    sym (at-loop .loop .inv .1 ∙ rw (sym (c .before .is-separator .ensures) ∙ c .if1 .taken) at (separator-next (now (at-loop .before .before .args .text)) (at-loop .loop .i) (omega arith)))
 
 loop-again : tie.Need-loop-again Inv-loop μ-loop
 loop-again c =
-    let after-is-separator = c .before in
-    let at-loop = after-is-separator .before .before .before in
-    let start = at-loop .before .before in
-    let l = at-loop .loop in
-    (omega arith, l .inv .1 ∙ rw (sym (after-is-separator .is-separator .ensures) ∙ c .if1 .left) at (separator-next (now (start .args .text)) (l .i) (omega arith)))
+    let at-loop = c .before .before .before .before in
+    (omega arith, at-loop .loop .inv .1 ∙ rw (sym (c .before .is-separator .ensures) ∙ c .if1 .left) at (separator-next (now (at-loop .before .before .args .text)) (at-loop .loop .i) (omega arith)))
 
 returns-2 : tie.Need-returns-2 Inv-loop μ-loop
-returns-2 c =
-    let l = c .before .loop in
-    sym (l .inv .1 ∙ separator-nowhere (now (c .before .before .before .args .text)) (l .i) (c .loop-test .left))
+returns-2 c = sym (c .before .loop .inv .1 ∙ separator-nowhere _ (c .before .loop .i) (c .loop-test .left))
 
 loop-holds : tie.Need-loop-holds Inv-loop μ-loop
 loop-holds c = (omega arith, refl)
-
-shared-slice-read-is-separator : tie.Need-shared-slice-read-is-separator Inv-loop μ-loop
-shared-slice-read-is-separator c = omega arith
-
-is-separator-requires : tie.Need-is-separator-requires Inv-loop μ-loop
-is-separator-requires c κs = tt
-
-add-i : tie.Need-add-i Inv-loop μ-loop
-add-i c = omega arith
-
-loop-less : tie.Need-loop-less Inv-loop μ-loop
-loop-less c = omega arith
 
 pub few-separators-spec : {M : Type 1} → statement M
 few-separators-spec =
     tie.close
     (tie.spec
-    Inv-loop μ-loop loop-holds shared-slice-read-is-separator is-separator-requires returns add-i loop-less loop-again
+    Inv-loop μ-loop loop-holds (λ c. omega arith) (λ c κs. tt) returns (λ c. omega arith) (λ c. omega arith) loop-again
     returns-2)

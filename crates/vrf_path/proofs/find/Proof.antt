@@ -21,13 +21,9 @@ abbrev μ-loop : tie.MeasureT-loop
 
 returns : tie.Need-returns Inv-loop μ-loop
 returns c =
-    let after-starts-with = c .before in
-    let back = after-starts-with .before .before .before .before in
-    let at-loop = back .before in
-    let start = at-loop .before .before .before .before in
-    let l = at-loop .loop in
-    let x = start .args in
-    sym (l .inv .2 ∙ first-here (now (x .p)) (now (x .text)) (l .i) (omega arith) (starts-at (now (x .p)) (now (x .text)) (l .i) (after-starts-with .starts-with .ensures) (c .if2 .taken)))
+    let back = c .before .before .before .before in
+    let l = back .before .before .loop in
+    sym (l .inv .2 ∙ first-here _ _ (l .i) (omega arith) (starts-at _ _ (l .i) (c .before .starts-with .ensures) (c .if2 .taken)))
 
 loop-again : tie.Need-loop-again Inv-loop μ-loop
 loop-again c =
@@ -42,12 +38,7 @@ loop-again c =
     (l .inv .0, omega arith, l .inv .2 ∙ first-later (now (x .p)) (now (x .text)) (l .i) (omega arith) not-here)
 
 returns-2 : tie.Need-returns-2 Inv-loop μ-loop
-returns-2 c =
-    let at-loop = c .before in
-    let start = at-loop .before .before .before .before in
-    let l = at-loop .loop in
-    let x = start .args in
-    sym (l .inv .2 ∙ first-nowhere (now (x .p)) (now (x .text)) (l .i) (c .loop-test .left))
+returns-2 c = sym (c .before .loop .inv .2 ∙ first-nowhere _ _ (c .before .loop .i) (c .loop-test .left))
 
 pub find-spec : {M : Type 1} → statement M
 find-spec =

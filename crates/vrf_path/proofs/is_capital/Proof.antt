@@ -7,11 +7,11 @@ use Rattle.vrf_path.proofs.is_capital.Tie as tie
 
 returns : tie.Need-returns
 unfolding isCapital
-returns c = rw (lt-leb (code "A") (c .before .args .b) (c .if1 .taken))
+returns c = rw (lt-leb (code "A") _ (c .if1 .taken))
 
 returns-2 : tie.Need-returns-2
 unfolding isCapital
-returns-2 c = rw (le-leb (code "A") (c .before .args .b) (c .if1 .left))
+returns-2 c = rw (le-leb (code "A") _ (c .if1 .left))
 
 pub is-capital-spec : {M : Type 1} → statement M
 is-capital-spec = tie.close (tie.spec returns returns-2)

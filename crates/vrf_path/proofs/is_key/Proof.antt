@@ -13,17 +13,15 @@ use Rattle.vrf_path.proofs.is_key.Tie as tie
 returns : tie.Need-returns
 unfolding keyIs
 returns c =
-    let after-is-absent = c .before in
-    let start = after-is-absent .before .before .before in
-    sym (ap (λ (o : Option (List ℕ)). keyIs o (now (start .args .text))) (spelled-absent (now (start .args .path)) (start .args .key) (sym (after-is-absent .is-absent .ensures) ∙ c .if1 .taken)))
+    let a = c .before .before .before .before .args in
+    sym (ap (λ (o : Option (List ℕ)). keyIs o (now (a .text))) (spelled-absent (now (a .path)) (a .key) (sym (c .before .is-absent .ensures) ∙ c .if1 .taken)))
 
 returns-2 : tie.Need-returns-2
 unfolding keyIs
 returns-2 c =
     let at-if1 = c .before in
-    let after-is-absent = at-if1 .before in
-    let start = after-is-absent .before .before .before in
-    c .same-key .ensures ∙ sym (ap (λ (o : Option (List ℕ)). keyIs o (now (start .args .text))) (spelled-bytes (now (start .args .path)) (start .args .key) (sym (after-is-absent .is-absent .ensures) ∙ at-if1 .if1 .left)))
+    let a = at-if1 .before .before .before .before .args in
+    c .same-key .ensures ∙ sym (ap (λ (o : Option (List ℕ)). keyIs o (now (a .text))) (spelled-bytes (now (a .path)) (a .key) (sym (at-if1 .before .is-absent .ensures) ∙ at-if1 .if1 .left)))
 
 pub is-key-spec : {M : Type 1} → statement M
 is-key-spec = tie.close (tie.spec (λ c κs. search needs) returns (λ c κs. search needs) returns-2)

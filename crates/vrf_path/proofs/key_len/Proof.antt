@@ -1,37 +1,23 @@
 -- `vrf_path::key_len` satisfies its contract.
 use borrow.Author.Needs.{needs}
-use denote.Ref.{now}
 use Rattle.vrf_path.proofs.Keys.{len-stripped, len-prefixed, len-cut-past, len-cut, len-inserted}
 use Rattle.vrf_path.proofs.key_len.Statement.{statement}
 use Rattle.vrf_path.proofs.key_len.Tie as tie
 
 returns : tie.Need-returns
-returns c =
-    let at-key = c .before .before in
-    let start = at-key .before .before .before in
-    len-cut-past (now (start .args .path)) (at-key .key .given .1) (c .if1 .taken)
+returns c = len-cut-past _ (c .before .before .key .given .1) (c .if1 .taken)
 
 returns-3 : tie.Need-returns-3
-returns-3 c =
-    let at-enum-told2 = c .before in
-    let start = at-enum-told2 .before .before .before in
-    len-stripped (now (start .args .path)) (at-enum-told2 .enum-told2 .given .1) (c .left .ensures)
+returns-3 c = len-stripped _ (c .before .enum-told2 .given .1) (c .left .ensures)
 
 returns-4 : tie.Need-returns-4
-returns-4 c = len-prefixed (now (c .before .before .before .args .path)) (c .enum-told3 .given .1)
+returns-4 c = len-prefixed _ (c .enum-told3 .given .1)
 
 returns-5 : tie.Need-returns-5
-returns-5 c =
-    let at-if1 = c .before in
-    let at-key = at-if1 .before .before in
-    let start = at-key .before .before .before in
-    len-cut (now (start .args .path)) (at-key .key .given .1) (at-if1 .if1 .left) (c .left2 .ensures)
+returns-5 c = len-cut _ (c .before .before .before .key .given .1) (c .before .if1 .left) (c .left2 .ensures)
 
 returns-6 : tie.Need-returns-6
-returns-6 c =
-    let at-enum-told4 = c .before in
-    let start = at-enum-told4 .before .before .before in
-    len-inserted (now (start .args .path)) (at-enum-told4 .enum-told4 .given .1) (c .left3 .ensures)
+returns-6 c = len-inserted _ (c .before .enum-told4 .given .1) (c .left3 .ensures)
 
 returns-2 : tie.Need-returns-2
 returns-2 c = rw (c .enum-told .given .1)

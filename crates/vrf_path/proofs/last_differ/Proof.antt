@@ -14,23 +14,15 @@ use Rattle.vrf_path.proofs.last_differ.Tie as tie
 
 returns : tie.Need-returns
 returns c =
-    let after-left3 = c .before in
-    let after-eight-differ3 = after-left3 .before in
-    let after-left2 = after-eight-differ3 .before in
-    let after-eight-differ2 = after-left2 .before in
-    let after-left = after-eight-differ2 .before in
-    let after-eight-differ = after-left .before in
-    let at-shared-slice-known2 = after-eight-differ .before in
-    let at-shared-slice-known = at-shared-slice-known2 .before in
-    let start = at-shared-slice-known .before in
-    let x = start .args in
-    let a = now (x .a) in
-    let b = now (x .b) in
-    let before = agree-before a b (λ i. at-shared-slice-known .shared-slice-known .given i .fits) (λ i. at-shared-slice-known2 .shared-slice-known2 .given i .fits) in
+    let after-left2 = c .before .before .before in
+    let after-eight-differ = after-left2 .before .before .before in
+    let a = now (after-eight-differ .before .before .before .args .a) in
+    let b = now (after-eight-differ .before .before .before .args .b) in
+    let before = agree-before a b (λ i. after-eight-differ .before .before .shared-slice-known .given i .fits) (λ i. after-eight-differ .before .shared-slice-known2 .given i .fits) in
     let end : same (drop (length a) a) (drop (length a) b) ≡ true = same-ended a b (length a) (omega arith) (omega arith) in
-    differ-four a b (after-eight-differ .eight-differ .result) (after-eight-differ2 .eight-differ2 .result) (after-eight-differ3 .eight-differ3 .result) (c .eight-differ4 .result)
-    (after-eight-differ .eight-differ .ensures) (rw (after-left .left .ensures) at (after-eight-differ2 .eight-differ2 .ensures))
-    (rw (after-left2 .left2 .ensures) at (after-eight-differ3 .eight-differ3 .ensures)) (rw (after-left3 .left3 .ensures) at (c .eight-differ4 .ensures))
+    differ-four a b (after-eight-differ .eight-differ .result) (after-left2 .before .eight-differ2 .result) (c .before .before .eight-differ3 .result) (c .eight-differ4 .result)
+    (after-eight-differ .eight-differ .ensures) (rw (after-left2 .before .before .left .ensures) at (after-left2 .before .eight-differ2 .ensures))
+    (rw (after-left2 .left2 .ensures) at (c .before .before .eight-differ3 .ensures)) (rw (c .before .left3 .ensures) at (c .eight-differ4 .ensures))
     (λ e8 e16 e24 e32.
     before (length a - 24) (length a - 32) (omega arith) (omega arith) (omega arith) e32
     (before (length a - 16) (length a - 24) (omega arith) (omega arith) (omega arith) e24

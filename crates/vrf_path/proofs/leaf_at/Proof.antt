@@ -13,30 +13,22 @@ use Rattle.vrf_path.proofs.leaf_at.Tie as tie
 
 add-if1 : tie.Need-add-if1
 add-if1 c =
-    let at-i = c .before in
-    let after-rfind = at-i .before .before in
-    let start = after-rfind .before .before in
-    omega (arith, last-within (code ".") (now (start .args .path)) (length (now (start .args .path))) (sym (after-rfind .rfind .ensures) ∙ ap place (at-i .i .given .1)))
+    let after-rfind = c .before .before .before in
+    let a = after-rfind .before .before .args in
+    omega (arith, last-within (code ".") (now (a .path)) (length (now (a .path))) (sym (after-rfind .rfind .ensures) ∙ ap place (c .before .i .given .1)))
 
 returns : tie.Need-returns
 returns c =
     let at-i = c .before .before in
-    let after-rfind = at-i .before .before in
-    let start = after-rfind .before .before in
-    (leaf-following (now (start .args .path)) (sym (after-rfind .rfind .ensures) ∙ ap place (at-i .i .given .1)) (c .if1 .taken), c .if1 .taken)
+    (leaf-following _ (sym (at-i .before .before .rfind .ensures) ∙ ap place (at-i .i .given .1)) (c .if1 .taken), c .if1 .taken)
 
 returns-2 : tie.Need-returns-2
-returns-2 c =
-    let after-rfind = c .before .before in
-    let start = after-rfind .before .before in
-    leaf-no-dot (now (start .args .path)) (sym (after-rfind .rfind .ensures) ∙ ap place (c .enum-told .given .1))
+returns-2 c = leaf-no-dot _ (sym (c .before .before .rfind .ensures) ∙ ap place (c .enum-told .given .1))
 
 returns-3 : tie.Need-returns-3
 returns-3 c =
     let at-i = c .before .before in
-    let after-rfind = at-i .before .before in
-    let start = after-rfind .before .before in
-    leaf-empty (now (start .args .path)) (sym (after-rfind .rfind .ensures) ∙ ap place (at-i .i .given .1)) (c .if1 .left)
+    leaf-empty _ (sym (at-i .before .before .rfind .ensures) ∙ ap place (at-i .i .given .1)) (c .if1 .left)
 
 pub leaf-at-spec : {M : Type 1} → statement M
 leaf-at-spec =

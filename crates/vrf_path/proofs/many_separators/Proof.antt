@@ -17,26 +17,19 @@ abbrev μ-loop : tie.MeasureT-loop
 
 returns : tie.Need-returns Inv-loop μ-loop
 returns c =
-    let after-eight-separators2 = c .before in
-    let after-eight-separators = after-eight-separators2 .before in
-    let at-loop = after-eight-separators .before .before in
-    let l = at-loop .loop in
-    sym (l .inv .2 ∙ rw (c .if1 .taken) at (or-joined (after-eight-separators .eight-separators .result) (after-eight-separators2 .eight-separators2 .result) _ (after-eight-separators .eight-separators .ensures) (after-eight-separators2 .eight-separators2 .ensures)))
+    let after-eight-separators = c .before .before in
+    sym (after-eight-separators .before .before .loop .inv .2 ∙ rw (c .if1 .taken) at (or-joined (after-eight-separators .eight-separators .result) (c .before .eight-separators2 .result) _ (after-eight-separators .eight-separators .ensures) (c .before .eight-separators2 .ensures)))
 
 loop-again : tie.Need-loop-again Inv-loop μ-loop
 loop-again c =
-    let after-eight-separators2 = c .before in
-    let after-eight-separators = after-eight-separators2 .before in
-    let at-loop = after-eight-separators .before .before in
-    let l = at-loop .loop in
-    let turn : l .i + 8 + 8 ≡ l .i + 16 = omega arith in
-    (omega arith, omega arith, l .inv .2 ∙ rw (c .if1 .left, turn) at (or-joined (after-eight-separators .eight-separators .result) (after-eight-separators2 .eight-separators2 .result) _ (after-eight-separators .eight-separators .ensures) (after-eight-separators2 .eight-separators2 .ensures)))
+    let after-eight-separators = c .before .before in
+    let turn : after-eight-separators .before .before .loop .i + 8 + 8 ≡ after-eight-separators .before .before .loop .i + 16 = omega arith in
+    (omega arith, omega arith, after-eight-separators .before .before .loop .inv .2 ∙ rw (c .if1 .left, turn) at (or-joined (after-eight-separators .eight-separators .result) (c .before .eight-separators2 .result) _ (after-eight-separators .eight-separators .ensures) (c .before .eight-separators2 .ensures)))
 
 returns-2 : tie.Need-returns-2 Inv-loop μ-loop
 returns-2 c =
     let t = now (c .before .before .before .before .args .text) in
-    let l = c .before .before .loop in
-    sym (separators-end t 0 (length t - 16) (l .i) (omega arith) (omega arith) (l .inv .2) (c .last-separators .result) (c .last-separators .ensures))
+    sym (separators-end t 0 (length t - 16) (c .before .before .loop .i) (omega arith) (omega arith) (c .before .before .loop .inv .2) (c .last-separators .result) (c .last-separators .ensures))
 
 pub many-separators-spec : {M : Type 1} → statement M
 many-separators-spec =

@@ -2,35 +2,22 @@
 use mathlib.Core.Path.{ap, _∙_}
 use native.Mathlib.Omega.{arith}
 use borrow.Author.Needs.{needs}
-use denote.Ref.{now}
 use Rattle.vrf_path.specs.Answers.{stemsAfter}
 use Rattle.vrf_path.proofs.Stems.{from-end, renamed}
 use Rattle.vrf_path.proofs.next_stem.Statement.{statement}
 use Rattle.vrf_path.proofs.next_stem.Tie as tie
 
 returns : tie.Need-returns
-returns c =
-    let at-if1 = c .before in
-    let at-enum-told = at-if1 .before in
-    let start = at-enum-told .before .before .before in
-    renamed (ap (stemsAfter (now (start .args .name)) (start .args .len)) (at-enum-told .enum-told .given .1) ∙ from-end (now (start .args .name)) (start .args .len) (at-if1 .if1 .taken)) (c .cut-stem .ensures)
+returns c = renamed (ap (stemsAfter _ _) (c .before .before .enum-told .given .1) ∙ from-end _ _ (c .before .if1 .taken)) (c .cut-stem .ensures)
 
 returns-2 : tie.Need-returns-2
-returns-2 c =
-    let at-enum-told = c .before .before in
-    let start = at-enum-told .before .before .before in
-    renamed (ap (stemsAfter (now (start .args .name)) (start .args .len)) (at-enum-told .enum-told .given .1)) (c .cut-stem2 .ensures)
+returns-2 c = renamed (ap (stemsAfter _ _) (c .before .before .enum-told .given .1)) (c .cut-stem2 .ensures)
 
 returns-3 : tie.Need-returns-3
-returns-3 c =
-    let at-enum-told2 = c .before in
-    let start = at-enum-told2 .before .before .before in
-    renamed (ap (stemsAfter (now (start .args .name)) (start .args .len)) (at-enum-told2 .enum-told2 .given .1)) (c .capital-stem .ensures)
+returns-3 c = renamed (ap (stemsAfter _ _) (c .before .enum-told2 .given .1)) (c .capital-stem .ensures)
 
 returns-4 : tie.Need-returns-4
-returns-4 c =
-    let start = c .before .before .before in
-    record { stems = ap (stemsAfter (now (start .args .name)) (start .args .len)) (c .enum-told3 .given .1); within = omega arith; rule = tt }
+returns-4 c = record { stems = ap (stemsAfter _ _) (c .enum-told3 .given .1); within = omega arith; rule = tt }
 
 pub next-stem-spec : {M : Type 1} → statement M
 next-stem-spec =

@@ -1,15 +1,12 @@
 -- `vrf_path::same` satisfies its contract: texts of different lengths differ, and the two loops compare the others.
 use mathlib.Core.Path.{sym}
 use borrow.Author.Needs.{needs}
-use denote.Ref.{now}
 use Rattle.vrf_path.specs.Laws.Text.{same-lengths}
 use Rattle.vrf_path.proofs.same.Statement.{statement}
 use Rattle.vrf_path.proofs.same.Tie as tie
 
 returns : tie.Need-returns
-returns c =
-    let start = c .before .before .before in
-    sym (same-lengths (now (start .args .a)) (now (start .args .b)) (c .if1 .taken))
+returns c = sym (same-lengths _ _ (c .if1 .taken))
 
 pub same-spec : {M : Type 1} → statement M
 same-spec =

@@ -3,7 +3,6 @@ use mathlib.Core.Path.{_≡_, refl, sym, _∙_}
 use Prim.Native.Nat.{_≤_, _-_}
 use native.Mathlib.Omega.{arith}
 use lib.ListN.{length, drop}
-use denote.Ref.{now}
 use Rattle.vrf_path.specs.Text.{same}
 use Rattle.vrf_path.specs.Laws.Text.{same-differ, same-agree, same-ended}
 use Rattle.vrf_path.proofs.same_bytes.Statement.{statement}
@@ -17,25 +16,16 @@ abbrev μ-loop : tie.MeasureT-loop
 
 returns : tie.Need-returns Inv-loop μ-loop
 returns c =
-    let at-loop = c .before .before .before .before in
-    let start = at-loop .before in
-    let x = start .args in
-    let l = at-loop .loop in
-    sym (l .inv .2 ∙ same-differ (now (x .a)) (now (x .b)) (l .i) (omega arith) (omega arith) (c .if1 .taken))
+    let l = c .before .before .before .before .loop in
+    sym (l .inv .2 ∙ same-differ _ _ (l .i) (omega arith) (omega arith) (c .if1 .taken))
 
 loop-again : tie.Need-loop-again Inv-loop μ-loop
 loop-again c =
-    let at-loop = c .before .before .before .before in
-    let start = at-loop .before in
-    let x = start .args in
-    let l = at-loop .loop in
-    (omega arith, omega arith, l .inv .2 ∙ same-agree (now (x .a)) (now (x .b)) (l .i) (omega arith) (omega arith) (c .if1 .left))
+    let l = c .before .before .before .before .loop in
+    (omega arith, omega arith, l .inv .2 ∙ same-agree _ _ (l .i) (omega arith) (omega arith) (c .if1 .left))
 
 returns-2 : tie.Need-returns-2 Inv-loop μ-loop
-returns-2 c =
-    let x = c .before .before .args in
-    let l = c .before .loop in
-    sym (l .inv .2 ∙ same-ended (now (x .a)) (now (x .b)) (l .i) (omega arith) (omega arith))
+returns-2 c = sym (c .before .loop .inv .2 ∙ same-ended _ _ (c .before .loop .i) (omega arith) (omega arith))
 
 pub same-bytes-spec : {M : Type 1} → statement M
 same-bytes-spec =

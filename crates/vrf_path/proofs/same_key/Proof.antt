@@ -3,7 +3,6 @@ use mathlib.Core.Path.{_≡_, refl, sym, _∙_}
 use Prim.Native.Nat.{_≤_, _-_}
 use native.Mathlib.Omega.{arith}
 use lib.ListN.{length, drop}
-use denote.Ref.{now}
 use Rattle.vrf_path.specs.Text.{same}
 use Rattle.vrf_path.specs.Answers.{keyBytes}
 use Rattle.vrf_path.specs.Laws.Text.{same-lengths, same-differ, same-agree, same-ended}
@@ -18,41 +17,31 @@ abbrev μ-loop : tie.MeasureT-loop
 
 returns : tie.Need-returns Inv-loop μ-loop
 returns c =
-    let after-key-len = c .before in
-    let start = after-key-len .before .before .before in
-    sym (same-lengths (keyBytes (now (start .args .path)) (start .args .key)) (now (start .args .text)) (λ e. c .if1 .taken (after-key-len .key-len .ensures ∙ e)))
+    let a = c .before .before .before .before .args in
+    sym (same-lengths (keyBytes _ (a .key)) _ (λ e. c .if1 .taken (c .before .key-len .ensures ∙ e)))
 
 loop-holds : tie.Need-loop-holds Inv-loop μ-loop
 loop-holds c = (omega arith, sym (c .before .key-len .ensures) ∙ c .if1 .left, refl)
 
 returns-2 : tie.Need-returns-2 Inv-loop μ-loop
 returns-2 c =
-    let after-key-byte = c .before .before in
-    let at-loop = after-key-byte .before .before in
+    let at-loop = c .before .before .before .before in
     let back = at-loop .before .before .before .before in
-    let start = back .before in
-    let l = at-loop .loop in
-    let x = start .args in
-    sym (l .inv .2 ∙ same-differ (keyBytes (now (x .path)) (x .key)) (now (x .text)) (l .i) (omega arith) (omega arith) (λ e. c .if2 .taken (after-key-byte .key-byte .ensures ∙ e)))
+    let a = back .before .args in
+    sym (at-loop .loop .inv .2 ∙ same-differ (keyBytes _ (a .key)) _ (at-loop .loop .i) (omega arith) (omega arith) (λ e. c .if2 .taken (c .before .before .key-byte .ensures ∙ e)))
 
 loop-again : tie.Need-loop-again Inv-loop μ-loop
 loop-again c =
-    let after-key-byte = c .before .before in
-    let at-loop = after-key-byte .before .before in
+    let at-loop = c .before .before .before .before in
     let back = at-loop .before .before .before .before in
-    let start = back .before in
-    let l = at-loop .loop in
-    let x = start .args in
-    (omega arith, l .inv .1, l .inv .2 ∙ same-agree (keyBytes (now (x .path)) (x .key)) (now (x .text)) (l .i) (omega arith) (omega arith) (sym (after-key-byte .key-byte .ensures) ∙ c .if2 .left))
+    let a = back .before .args in
+    (omega arith, at-loop .loop .inv .1, at-loop .loop .inv .2 ∙ same-agree (keyBytes _ (a .key)) _ (at-loop .loop .i) (omega arith) (omega arith) (sym (c .before .before .key-byte .ensures) ∙ c .if2 .left))
 
 returns-3 : tie.Need-returns-3 Inv-loop μ-loop
 returns-3 c =
-    let at-loop = c .before in
-    let back = at-loop .before .before .before .before in
-    let start = back .before in
-    let l = at-loop .loop in
-    let x = start .args in
-    sym (l .inv .2 ∙ same-ended (keyBytes (now (x .path)) (x .key)) (now (x .text)) (l .i) (omega arith) (omega arith))
+    let back = c .before .before .before .before in
+    let a = back .before .before .args in
+    sym (c .before .loop .inv .2 ∙ same-ended (keyBytes _ (a .key)) _ (c .before .loop .i) (omega arith) (omega arith))
 
 pub same-key-spec : {M : Type 1} → statement M
 same-key-spec =

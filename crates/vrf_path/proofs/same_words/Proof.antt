@@ -15,32 +15,18 @@ Inv-loop a b n i₀ i = (n ≡ length a) × (length a ≡ length b) × (i < n) �
 abbrev μ-loop : tie.MeasureT-loop
 μ-loop a b n i₀ i = n - i
 
-loop-holds : tie.Need-loop-holds Inv-loop μ-loop
-loop-holds c = (omega arith, omega arith, omega arith, refl)
-
-returns : tie.Need-returns Inv-loop μ-loop
-returns c = sym (rw (c .if1 .taken) at (c .before .four-differ .ensures))
-
 loop-again : tie.Need-loop-again Inv-loop μ-loop
-loop-again c =
-    let l = c .before .before .before .loop in
-    (omega arith, omega arith, omega arith, l .inv .3 ∙ rw (c .if1 .left) at (c .before .four-differ .ensures))
-
-returns-2 : tie.Need-returns-2 Inv-loop μ-loop
-returns-2 c = sym (rw (c .if2 .taken) at (c .before .last-differ .ensures))
+loop-again c = (omega arith, omega arith, omega arith, c .before .before .before .loop .inv .3 ∙ rw (c .if1 .left) at (c .before .four-differ .ensures))
 
 returns-3 : tie.Need-returns-3 Inv-loop μ-loop
 returns-3 c =
-    let after-last-differ = c .before in
-    let at-loop = after-last-differ .before .before in
-    let start = at-loop .before .before .before in
-    let x = start .args in
-    let l = at-loop .loop in
-    sym (end-decides (now (x .a)) (now (x .b)) (length (now (x .a)) - 32) (l .i) (omega arith) (l .inv .3) (rw (c .if2 .left) at (after-last-differ .last-differ .ensures)))
+    let at-loop = c .before .before .before in
+    let a = at-loop .before .before .before .args in
+    sym (end-decides (now (a .a)) (now (a .b)) (length (now (a .a)) - 32) (at-loop .loop .i) (omega arith) (at-loop .loop .inv .3) (rw (c .if2 .left) at (c .before .last-differ .ensures)))
 
 pub same-words-spec : {M : Type 1} → statement M
 same-words-spec =
     tie.close
     (tie.spec
-    Inv-loop μ-loop loop-holds (λ c. omega arith) (λ c κs. omega arith) returns (λ c. omega arith) (λ c. omega arith)
-    loop-again (λ c κs. omega arith) returns-2 returns-3)
+    Inv-loop μ-loop (λ c. (omega arith, omega arith, omega arith, refl)) (λ c. omega arith) (λ c κs. omega arith) (λ c. sym (rw (c .if1 .taken) at (c .before .four-differ .ensures))) (λ c. omega arith) (λ c. omega arith)
+    loop-again (λ c κs. omega arith) (λ c. sym (rw (c .if2 .taken) at (c .before .last-differ .ensures))) returns-3)

@@ -3,16 +3,13 @@ use mathlib.Core.Path.{sym}
 use native.Mathlib.Omega.{arith}
 use lib.ListN.{length-take}
 use borrow.Author.Needs.{needs}
-use denote.Ref.{now}
 use Rattle.vrf_path.specs.Text.{startsWith}
 use Rattle.vrf_path.specs.Laws.Text.{starts-short}
 use Rattle.vrf_path.proofs.starts_with.Statement.{statement}
 use Rattle.vrf_path.proofs.starts_with.Tie as tie
 
 returns : tie.Need-returns
-returns c =
-    let start = c .before .before .before in
-    sym (starts-short (now (start .args .p)) (now (start .args .text)) (c .if1 .taken))
+returns c = sym (starts-short _ _ (c .if1 .taken))
 
 returns-2 : tie.Need-returns-2
 unfolding startsWith

@@ -4,7 +4,7 @@ use mathlib.Core.Bool.{true, false}
 use mathlib.Core.List.{List}
 use mathlib.Core.Option.{none, some}
 use Prim.Native.Nat.{ℕ}
-use native.Mathlib.Omega.{arith}
+use Rattle.vrf_bitio.specs.Laws.Cases.{clash}
 use Rattle.vrf_path.specs.Answers.{spelled, keyBytes, absent}
 use Rattle.vrf_path.specs.declared.Key.{Key}
 use Rattle.vrf_path.specs.declared.Key.the-variants.{Itself, Stripped, Prefixed, Cut, Inserted, Absent}
@@ -15,12 +15,12 @@ spelled-bytes t Stripped h = refl
 spelled-bytes t Prefixed h = refl
 spelled-bytes t (Cut i) h = refl
 spelled-bytes t Inserted h = refl
-spelled-bytes t Absent h = absurd (let z : _≡_ {A = ℕ} 0 1 = cc in omega arith)
+spelled-bytes t Absent h = clash (cc)
 
 pub spelled-absent : (t : List ℕ) (k : Key) → absent k ≡ true → spelled t k ≡ none
-spelled-absent t Itself h = absurd (let z : _≡_ {A = ℕ} 0 1 = cc in omega arith)
-spelled-absent t Stripped h = absurd (let z : _≡_ {A = ℕ} 0 1 = cc in omega arith)
-spelled-absent t Prefixed h = absurd (let z : _≡_ {A = ℕ} 0 1 = cc in omega arith)
-spelled-absent t (Cut i) h = absurd (let z : _≡_ {A = ℕ} 0 1 = cc in omega arith)
-spelled-absent t Inserted h = absurd (let z : _≡_ {A = ℕ} 0 1 = cc in omega arith)
+spelled-absent t Itself h = clash (cc)
+spelled-absent t Stripped h = clash (cc)
+spelled-absent t Prefixed h = clash (cc)
+spelled-absent t (Cut i) h = clash (cc)
+spelled-absent t Inserted h = clash (cc)
 spelled-absent t Absent h = refl

@@ -1,11 +1,12 @@
 -- Laws of bases: the base by the last byte of a text, as the code finds it, and the base of each leaf that a name or a stem is tried as.
 use mathlib.Core.Path.{_≡_, refl, sym, ap, _∙_}
-use mathlib.Core.Bool.{Bool, true, false, cond}
+use mathlib.Core.Bool.{true, false}
 use mathlib.Core.List.{List, _++_, append-assoc}
 use Prim.Native.Nat.{ℕ, _-_}
 use native.Mathlib.Omega.{arith}
 use lib.ListN.{length, getD, take, length-append}
 use lib.Seq.{take-at}
+use Rattle.vrf_bitio.specs.Laws.Cases.{by-cond}
 use Rattle.vrf_path.specs.Text.{endsWith}
 use Rattle.vrf_path.specs.Toggle.{classNetCache}
 use Rattle.vrf_path.specs.Stems.{component, underscoreC}
@@ -37,14 +38,9 @@ module _ (t : List ℕ) where
 
   pub class-by-t : last ≡ 116 → cutAt component t ≡ classBase t
   unfolding classBase
-  class-by-t e = by (endsWith component t) refl
-    where
-      other : cutAt underscoreC t ≡ t
-      other = sym (cut-not underscoreC t (no-underscore (λ z. omega (arith, e, z))))
-
-      by : (b : Bool) → endsWith component t ≡ b → cutAt component t ≡ cond b (cutAt component t) (cutAt underscoreC t)
-      by true h = refl
-      by false h = sym (cut-not component t h) ∙ sym other
+  class-by-t e =
+      by-cond (λ (u : List ℕ). cutAt component t ≡ u) (endsWith component t) (λ h. refl)
+      (λ h. sym (cut-not component t h) ∙ cut-not underscoreC t (no-underscore (λ z. omega (arith, e, z))))
 
   pub class-by-C : last ≡ 67 → cutAt underscoreC t ≡ classBase t
   unfolding classBase

@@ -7,6 +7,7 @@ use Prim.Native.Nat.{ℕ, _+_, _-_, _≤_}
 use native.Mathlib.Omega.{arith}
 use lib.ListN.{length, take, drop, length-append, length-drop}
 use lib.Seq.{length-take-le}
+use Rattle.vrf_bitio.specs.Laws.Cases.{clash}
 use Rattle.vrf_path.specs.Toggle.{classNetCache}
 use Rattle.vrf_path.specs.Answers.{Front, KeyAnswer, LeafAnswer, ToggleAnswer, ruleAt, StemAnswer}
 use Rattle.vrf_path.specs.declared.Key.{Key}
@@ -31,8 +32,8 @@ leaf-determined t (LeafAt i) (LeafAt j) a b =
     let rest : drop i t ≡ drop j t = cc (a .0, b .0) in
     let long : length t - i ≡ length t - j = sym (length-drop i t) ∙ ap length rest ∙ length-drop j t in
     ap LeafAt (omega (arith, long, a .1, b .1))
-leaf-determined t (LeafAt i) NoLeaf a b = absurd (let z : _≡_ {A = ℕ} 0 1 = cc (a .0, b) in omega arith)
-leaf-determined t NoLeaf (LeafAt j) a b = absurd (let z : _≡_ {A = ℕ} 0 1 = cc (a, b .0) in omega arith)
+leaf-determined t (LeafAt i) NoLeaf a b = clash (cc (a .0, b))
+leaf-determined t NoLeaf (LeafAt j) a b = clash (cc (a, b .0))
 leaf-determined t NoLeaf NoLeaf a b = refl
 
 -- a key with the suffix appended is not a front part of the key
@@ -46,12 +47,12 @@ longer t {n} h e =
 pub toggle-determined : (t : List ℕ) (r q : Toggle) → ToggleAnswer t r → ToggleAnswer t q → r ≡ q
 toggle-determined t (Stripped n) (Stripped m) a b = ap Stripped (fronts t (a .1) (b .1) (cc (a .0, b .0)))
 toggle-determined t (Stripped n) Appended a b = absurd (longer t (a .1) (cc (a .0, b)))
-toggle-determined t (Stripped n) NoToggle a b = absurd (let z : _≡_ {A = ℕ} 0 1 = cc (a .0, b) in omega arith)
+toggle-determined t (Stripped n) NoToggle a b = clash (cc (a .0, b))
 toggle-determined t Appended (Stripped m) a b = absurd (longer t (b .1) (cc (a, b .0)))
 toggle-determined t Appended Appended a b = refl
-toggle-determined t Appended NoToggle a b = absurd (let z : _≡_ {A = ℕ} 0 1 = cc (a, b) in omega arith)
-toggle-determined t NoToggle (Stripped m) a b = absurd (let z : _≡_ {A = ℕ} 0 1 = cc (a, b .0) in omega arith)
-toggle-determined t NoToggle Appended a b = absurd (let z : _≡_ {A = ℕ} 0 1 = cc (a, b) in omega arith)
+toggle-determined t Appended NoToggle a b = clash (cc (a, b))
+toggle-determined t NoToggle (Stripped m) a b = clash (cc (a, b .0))
+toggle-determined t NoToggle Appended a b = clash (cc (a, b))
 toggle-determined t NoToggle NoToggle a b = refl
 
 -- `default_object_alias`, `core_alias`
@@ -64,6 +65,6 @@ stem-determined name (StemAt n x) (StemAt m y) a b =
     let size : n ≡ m = fronts name (a .within) (b .within) (cc (a .stems, b .stems)) in
     let rule : x ≡ y = a .rule ∙ ap (ruleAt name) size ∙ sym (b .rule) in
     rw (size, rule)
-stem-determined name (StemAt n x) End a b = absurd (let z : _≡_ {A = ℕ} 0 1 = cc (a .stems, b .stems) in omega arith)
-stem-determined name End (StemAt m y) a b = absurd (let z : _≡_ {A = ℕ} 0 1 = cc (a .stems, b .stems) in omega arith)
+stem-determined name (StemAt n x) End a b = clash (cc (a .stems, b .stems))
+stem-determined name End (StemAt m y) a b = clash (cc (a .stems, b .stems))
 stem-determined name End End a b = refl

@@ -10,6 +10,7 @@ use native.Mathlib.Numerals.{add-one}
 use native.Mathlib.Omega.{arith}
 use lib.ListN.{length, getD, take, drop, drop-of-length-le, length-append, length-take, length-drop}
 use lib.Seq.{drop-cons, drop-drop}
+use Rattle.vrf_bitio.specs.Laws.Cases.{by-test, clash, neither}
 use Rattle.vrf_path.specs.Text.{same, startsWith, firstFrom}
 use Rattle.vrf_path.specs.Keys.{isSeparator, hasSeparator, defaultPrefix, charactersRoot, charactersCore, coreSegment, defaultAlias, coreAliasAt, coreAlias, keys, isOneOf, hasKey, keyIs}
 use Rattle.vrf_path.specs.Answers.{defaultKey, coreKeyAt, coreKey, KeyAnswer}
@@ -45,10 +46,6 @@ four-next t i h {a} {b} {c} {d} ea eb ec ed =
     (rw (← ec, z3) at (separator-next t (i + 2) (omega arith))))
     (rw (← ed, z4) at (separator-next t (i + 3) (omega arith)))
 
-pub neither : (x y : Bool) → (x || y) ≡ false → (x ≡ false) × (y ≡ false)
-neither true y e = absurd (let z : _≡_ {A = ℕ} 0 1 = cc in omega arith)
-neither false y e = (refl, e)
-
 separators-drop : (n : ℕ) (t : List ℕ) → hasSeparator t ≡ false → hasSeparator (drop n t) ≡ false
 unfolding hasSeparator
 separators-drop zero t h = h
@@ -63,11 +60,7 @@ module _ (t : List ℕ) (i p j : ℕ) (hp : i ≤ p) (hj : p ≤ j) where
       ap hasSeparator (sym (drop-drop (b - a) a t ∙ ap (λ (k : ℕ). drop k t) following)) ∙ separators-drop (b - a) (drop a t) e
 
   pub separators-end : hasSeparator (drop i t) ≡ hasSeparator (drop j t) → (x : Bool) → hasSeparator (drop p t) ≡ x → hasSeparator (drop i t) ≡ x
-  separators-end before true e = by (hasSeparator (drop i t)) refl
-    where
-      by : (y : Bool) → hasSeparator (drop i t) ≡ y → y ≡ true
-      by true ey = refl
-      by false ey = sym (from-later i p hp ey) ∙ e
+  separators-end before true e = by-test (hasSeparator (drop i t)) (λ y. y) (λ y. y ∙ sym (from-later i p hp y) ∙ e)
   separators-end before false e = before ∙ from-later p j hj e
 
   pub separators-or : (x y : Bool) → hasSeparator (drop i t) ≡ (x || hasSeparator (drop j t)) → hasSeparator (drop p t) ≡ y → hasSeparator (drop i t) ≡ (x || y)
@@ -107,16 +100,10 @@ module _ (t : List ℕ) where
 -- the length of an alias: `Default__` has 9 bytes and `_Core/` has 6
 pub default-length : (t : List ℕ) {k : List ℕ} → defaultAlias t ≡ some k → (length k + 9 ≡ length t) ⊎ (length k ≡ length t + 9)
 unfolding defaultPrefix
-default-length t {k} e = by (startsWith defaultPrefix t) refl (hasSeparator t) refl
-  where
-    by : (x : Bool) → startsWith defaultPrefix t ≡ x → (y : Bool) → hasSeparator t ≡ y → (length k + 9 ≡ length t) ⊎ (length k ≡ length t + 9)
-    by true ex y ey =
-        let ek : k ≡ drop 9 t = cc (default-stripped t ex .text) in
-        inl (rw (ek, length-drop) (omega (arith, starts-length defaultPrefix t ex)))
-    by false ex true ey = absurd (let z : _≡_ {A = ℕ} 0 1 = cc (default-none t ex ey .text) in omega arith)
-    by false ex false ey =
-        let ek : k ≡ defaultPrefix ++ t = cc (default-prefixed t ex ey .text) in
-        inr (rw ek (omega arith))
+default-length t {k} e = by-test (startsWith defaultPrefix t)
+    (λ ex. let ek : k ≡ drop 9 t = cc (default-stripped t ex .text) in inl (rw (ek, length-drop) (omega (arith, starts-length defaultPrefix t ex))))
+    (λ ex. by-test (hasSeparator t) (λ ey. clash (cc (default-none t ex ey .text)))
+    (λ ey. let ek : k ≡ defaultPrefix ++ t = cc (default-prefixed t ex ey .text) in inr (rw ek (omega arith))))
 
 pub core-length : (t : List ℕ) {k : List ℕ} → coreAlias t ≡ some k → (length k + 6 ≡ length t) ⊎ (length k ≡ length t + 6)
 unfolding coreSegment charactersRoot charactersCore
@@ -129,7 +116,7 @@ core-length t {k} e = by (firstFrom coreSegment 0 t) refl (startsWith characters
     by none ex true ey =
         let ek : k ≡ charactersCore ++ drop 17 t = cc (core-inserted t ex ey .text) in
         inr (rw ek (simp length-drop (omega (arith, starts-length charactersRoot t ey))))
-    by none ex false ey = absurd (let z : _≡_ {A = ℕ} 0 1 = cc (core-none t ex ey .text) in omega arith)
+    by none ex false ey = clash (cc (core-none t ex ey .text))
 
 -- a text is not the core alias if its length differs by anything other than 6
 pub core-other : (t k : List ℕ) → (length k + 6 ≡ length t → ⊥) → (length t + 6 ≡ length k → ⊥) → keyIs (coreAlias t) k ≡ false
@@ -158,16 +145,12 @@ module _ (t k : List ℕ) where
 
 pub the-true : (o : Option (List ℕ)) (k : List ℕ) → keyIs o k ≡ true → o ≡ some k
 unfolding keyIs
-the-true none k h = absurd (let z : _≡_ {A = ℕ} 0 1 = cc in omega arith)
+the-true none k h = clash (cc)
 the-true (some s) k h = ap some (same-true s k h)
 
 module _ (t k : List ℕ) where
   pub has-cases : hasKey t k ≡ true → (t ≡ k) ⊎ ((defaultAlias t ≡ some k) ⊎ (coreAlias t ≡ some k))
-  has-cases e = by (same t k) refl (keyIs (defaultAlias t) k) refl (keyIs (coreAlias t) k) refl
-    where
-      by : (x : Bool) → same t k ≡ x → (y : Bool) → keyIs (defaultAlias t) k ≡ y → (z : Bool) → keyIs (coreAlias t) k ≡ z
-          → (t ≡ k) ⊎ ((defaultAlias t ≡ some k) ⊎ (coreAlias t ≡ some k))
-      by true ex y ey z ez = inl (same-true t k ex)
-      by false ex true ey z ez = inr (inl (the-true (defaultAlias t) k ey))
-      by false ex false ey true ez = inr (inr (the-true (coreAlias t) k ez))
-      by false ex false ey false ez = absurd (let n : _≡_ {A = ℕ} 0 1 = cc (sym (rw (ex, ey, ez) at (has-by-parts t k)) ∙ e) in omega arith)
+  has-cases e =
+      by-test (same t k) (λ ex. inl (same-true t k ex)) (λ ex.
+      by-test (keyIs (defaultAlias t) k) (λ ey. inr (inl (the-true (defaultAlias t) k ey))) (λ ey.
+      by-test (keyIs (coreAlias t) k) (λ ez. inr (inr (the-true (coreAlias t) k ez))) (λ ez. clash (cc (sym (rw (ex, ey, ez) at (has-by-parts t k)) ∙ e)))))

@@ -1,21 +1,21 @@
 -- Laws of leaves: the leaf by the place of the last dot, and when a text is the leaf of a path (`LeafIs`).
 use mathlib.Core.Path.{_≡_, refl, sym, ap, _∙_}
-use mathlib.Core.Bool.{Bool, true, false, cond}
+use mathlib.Core.Bool.{true, false}
 use mathlib.Core.List.{List, [], _∷_, _++_}
 use mathlib.Core.Option.{Option, none, some}
 use Prim.Native.Char.{code}
 use Prim.Native.Nat.{ℕ, zero, suc, _+_, _-_, _<_, _≤_}
 use native.Mathlib.Omega.{arith}
-use lib.Dec.{eqb, leb}
-use lib.ListN.{length, getD, take, drop, length-drop}
+use lib.Dec.{eqb}
+use lib.ListN.{length, getD, take, drop, length-drop, List·getD-eq-default}
 use lib.Seq.{getD-drop}
-use borrow.Author.Tests.{eqb-true, eqb-false, ne-eqb, leb-true, leb-false}
+use borrow.Author.Tests.{eqb-true, eqb-false, ne-eqb}
+use Rattle.vrf_bitio.specs.Laws.Cases.{by-cond, by-order, clash, neither}
 use Rattle.vrf_path.specs.Text.{lastBelow}
 use Rattle.vrf_path.specs.Keys.{isSeparator, hasSeparator}
 use Rattle.vrf_path.specs.Leaf.{leafAfter, leaf}
 use Rattle.vrf_path.specs.Inner.Leaf.{Dotless}
 use Rattle.vrf_path.specs.Laws.Text.{non-empty, all-empty, last-here}
-use Rattle.vrf_path.specs.Laws.Keys.{neither}
 
 module _ (t : List ℕ) {i : ℕ} (e : lastBelow (code ".") t (length t) ≡ some i) where
   pub leaf-following : i + 1 < length t → leaf t ≡ some (drop (i + 1) t)
@@ -32,22 +32,10 @@ leaf-no-dot t e = rw e
 
 -- ---- texts without a dot
 
-getD-past : (t : List ℕ) (i : ℕ) → length t ≤ i → getD t i 0 ≡ 0
-getD-past [] i h = refl
-getD-past (b ∷ t) zero h = absurd (omega arith)
-getD-past (b ∷ t) (suc i) h = getD-past t i (omega arith)
-
-in-order : {P : Type 0} (a b : ℕ) → (a ≤ b → P) → (b < a → P) → P
-in-order {P} a b f g = by (leb a b) refl
-  where
-    by : (x : Bool) → leb a b ≡ x → P
-    by true e = f (leb-true a b e)
-    by false e = g (leb-false a b e)
-
 pub separatorless : (t : List ℕ) → hasSeparator t ≡ false → Dotless t
 unfolding hasSeparator isSeparator
 separatorless [] h i e = omega (arith, e)
-separatorless (b ∷ t) h zero e = let z : true ≡ false = sym (ap isSeparator e) ∙ neither (isSeparator b) (hasSeparator t) h .0 in let y : _≡_ {A = ℕ} 0 1 = cc in omega arith
+separatorless (b ∷ t) h zero e = let z : true ≡ false = sym (ap isSeparator e) ∙ neither (isSeparator b) (hasSeparator t) h .0 in clash (cc)
 separatorless (b ∷ t) h (suc i) e = separatorless t (neither (isSeparator b) (hasSeparator t) h .1) i e
 
 pub separators-append : (s t : List ℕ) → hasSeparator s ≡ false → hasSeparator t ≡ false → hasSeparator (s ++ t) ≡ false
@@ -73,19 +61,12 @@ pub record LeafIs (t l : List ℕ) : Type 0 where
 -- the byte at the last place of b is b, and no later byte below n is
 pub last-is : (b : ℕ) (t : List ℕ) (n : ℕ) {i : ℕ} → lastBelow b t n ≡ some i → (getD t i 0 ≡ b) × ((j : ℕ) → i < j → j < n → getD t j 0 ≡ b → ⊥)
 unfolding lastBelow
-last-is b t zero e = absurd (let z : _≡_ {A = ℕ} 0 1 = cc in omega arith)
-last-is b t (suc n) {i} e = by (eqb (getD t n 0) b) refl e (λ es. last-is b t n es)
-  where
-    by : (x : Bool) → eqb (getD t n 0) b ≡ x → cond x (some n) (lastBelow b t n) ≡ some i
-        → (lastBelow b t n ≡ some i → (getD t i 0 ≡ b) × ((j : ℕ) → i < j → j < n → getD t j 0 ≡ b → ⊥))
-        → (getD t i 0 ≡ b) × ((j : ℕ) → i < j → j < suc n → getD t j 0 ≡ b → ⊥)
-    by true ex es earlier = let ei : n ≡ i = cc in (rw ei at (eqb-true (getD t n 0) b ex), λ j h k. absurd (omega (arith, h, k)))
-    by false ex es earlier =
-        let old = earlier es in
-        (old .0, λ j h k ej. by-last j (eqb-false (getD t n 0) b ex) (old .1 j h) ej k)
-      where
-        by-last : (j : ℕ) → (getD t n 0 ≡ b → ⊥) → (j < n → getD t j 0 ≡ b → ⊥) → getD t j 0 ≡ b → j < suc n → ⊥
-        by-last j here below ej k = in-order n j (λ h. let z : j ≡ n = omega arith in here (rw z at ej)) (λ h. below h ej)
+last-is b t zero e = clash (cc)
+last-is b t (suc n) {i} e =
+    by-cond (λ (o : Option ℕ). o ≡ some i → (getD t i 0 ≡ b) × ((j : ℕ) → i < j → j < suc n → getD t j 0 ≡ b → ⊥)) (eqb (getD t n 0) b)
+    (λ ex es. let ei : n ≡ i = cc in (rw ei at (eqb-true (getD t n 0) b ex), λ j h k. absurd (omega (arith, h, k))))
+    (λ ex es. let old = last-is b t n es in
+    (old .0, λ j h k ej. by-order n j (λ m. let z : j ≡ n = omega arith in eqb-false (getD t n 0) b ex (rw z at ej)) (λ m. old .1 j h m ej))) e
 
 -- d bytes from place k on, none of them b, do not change the last place of b
 last-skip : (b : ℕ) (t : List ℕ) (k d : ℕ) → ((j : ℕ) → j < d → getD t (k + j) 0 ≡ b → ⊥) → lastBelow b t (k + d) ≡ lastBelow b t k
@@ -100,9 +81,9 @@ pub leaf-is : (t l : List ℕ) → leaf t ≡ some l → LeafIs t l
 leaf-is t l e = by (lastBelow (code ".") t (length t)) refl
   where
     by : (o : Option ℕ) → lastBelow (code ".") t (length t) ≡ o → LeafIs t l
-    by none eo = absurd (let z = leaf-no-dot t eo in let y : _≡_ {A = ℕ} 0 1 = cc in omega arith)
-    by (some i) eo = in-order (length t) (i + 1)
-        (λ h. absurd (let z = leaf-empty t eo h in let y : _≡_ {A = ℕ} 0 1 = cc in omega arith))
+    by none eo = clash (cc (leaf-no-dot t eo))
+    by (some i) eo = by-order (length t) (i + 1)
+        (λ h. clash (cc (leaf-empty t eo h)))
         (λ h. let el : l ≡ drop (i + 1) t = cc (leaf-following t eo h) in
         let size : length l ≡ length t - (i + 1) = rw el (length-drop (i + 1) t) in
         let following : length t - length l ≡ i + 1 = omega arith in
@@ -115,7 +96,7 @@ leaf-is t l e = by (lastBelow (code ".") t (length t)) refl
           some-bytes = omega arith;
           dotless = λ j ej.
               let there : getD t (i + 1 + j) 0 ≡ code "." = sym (getD-drop (i + 1) t j 0) ∙ rw el at ej in
-              in-order (length t) (i + 1 + j) (λ past. omega (arith, getD-past t (i + 1 + j) past)) (λ within. last .1 (i + 1 + j) (omega arith) within there);
+              by-order (length t) (i + 1 + j) (λ past. omega (arith, List·getD-eq-default t 0 past)) (λ within. last .1 (i + 1 + j) (omega arith) within there);
         })
 
 pub is-leaf : (t l : List ℕ) → LeafIs t l → leaf t ≡ some l

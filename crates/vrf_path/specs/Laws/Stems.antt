@@ -1,7 +1,7 @@
 -- Laws of stems, one place at a time. `cuts-last` is the loop of resolve.rs: after a stem comes that stem cut at its last `_`, as long as
 -- this `_` is above place 0.
 use mathlib.Core.Path.{_≡_, refl, sym, ap, _∙_}
-use mathlib.Core.Bool.{Bool, true, false, cond, _&&_}
+use mathlib.Core.Bool.{Bool, true, false, cond}
 use mathlib.Core.Logic.{⊎-elim}
 use mathlib.Core.List.{List, [], _∷_}
 use mathlib.Core.Option.{Option, none, some}
@@ -9,9 +9,10 @@ use Prim.Native.Char.{code}
 use Prim.Native.Nat.{ℕ, zero, suc, _<_, _≤_}
 use native.Mathlib.Nat.{eq-or-lt-of-le}
 use native.Mathlib.Omega.{arith}
-use lib.Dec.{eqb, leb}
+use lib.Dec.{eqb}
 use lib.ListN.{length, getD, take, List·getD-eq-default}
-use borrow.Author.Tests.{lt-ltb, le-ltb, leb-true, le-leb, lt-leb}
+use borrow.Author.Tests.{lt-ltb, le-ltb, le-leb, lt-leb}
+use Rattle.vrf_bitio.specs.Laws.Cases.{by-cond, by-order, clash}
 use Rattle.vrf_path.specs.Text.{lastBelow}
 use Rattle.vrf_path.specs.Stems.{cutsBelow, isDigit, isCapital, digitsFrom, capitalStems, digitStems}
 use Rattle.vrf_path.specs.Answers.{ruleAt}
@@ -104,22 +105,15 @@ capital-at name (suc i) e h = rw e
 digit-following : (name : List ℕ) (k : ℕ) → digitsFrom name k < k → isDigit (getD name (digitsFrom name k) 0) ≡ true
 unfolding digitsFrom
 digit-following name zero h = absurd (omega arith)
-digit-following name (suc i) h = by (isDigit (getD name i 0)) refl (digit-following name i) h
-  where
-    by : (x : Bool) → isDigit (getD name i 0) ≡ x → (digitsFrom name i < i → isDigit (getD name (digitsFrom name i) 0) ≡ true)
-        → cond x (digitsFrom name i) (suc i) < suc i → isDigit (getD name (cond x (digitsFrom name i) (suc i)) 0) ≡ true
-    by true e earlier h = ⊎-elim (λ here. rw here e) earlier (eq-or-lt-of-le (omega arith))
-    by false e earlier h = absurd (omega arith)
+digit-following name (suc i) h =
+    by-cond (λ (k : ℕ). k < suc i → isDigit (getD name k 0) ≡ true) (isDigit (getD name i 0))
+    (λ e h. ⊎-elim (λ here. rw here e) (digit-following name i) (eq-or-lt-of-le (omega arith))) (λ e h. absurd (omega arith)) h
 
 capital-no-digit : (b : ℕ) → isCapital b ≡ true → isDigit b ≡ false
 unfolding isDigit isCapital
-capital-no-digit b e = by (leb (code "A") b) refl e
-  where
-    by : (x : Bool) → leb (code "A") b ≡ x → (x && leb b (code "Z")) ≡ true → (leb (code "0") b && leb b (code "9")) ≡ false
-    by true ex _ =
-        let above : 65 ≤ b = leb-true (code "A") b ex in
-        rw (le-leb (code "0") b (omega arith), lt-leb b (code "9") (omega arith))
-    by false ex e = absurd (let z : _≡_ {A = ℕ} 0 1 = cc in omega arith)
+capital-no-digit b e = by-order (code "A") b
+    (λ above. rw (le-leb (code "0") b (omega arith), lt-leb b (code "9") (omega arith)))
+    (λ below. clash (cc (rw (lt-leb (code "A") b below) at e)))
 
 module _ (name : List ℕ) (n : ℕ) where
   pub rule-digits : {k : ℕ} → n ≡ digitsFrom name k → n < k → Digits ≡ ruleAt name n

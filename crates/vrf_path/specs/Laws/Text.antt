@@ -1,8 +1,8 @@
 -- Laws of texts: when two texts are the same, by bytes and by words, and the searches, one place at a time.
 use mathlib.Core.Path.{_≡_, refl, sym, ap, _∙_}
-use mathlib.Core.Bool.{Bool, true, false, cond, _&&_}
+use mathlib.Core.Bool.{Bool, true, false, _&&_}
 use mathlib.Core.List.{List, [], _∷_, _++_}
-use mathlib.Core.Option.{none, some}
+use mathlib.Core.Option.{Option, none, some}
 use Prim.Native.Nat.{ℕ, zero, suc, _+_, _-_, _*_, _^_, _<_, _≤_}
 use native.Mathlib.Numerals.{add-one}
 use native.Mathlib.Omega.{arith}
@@ -10,6 +10,7 @@ use lib.Dec.{eqb}
 use lib.ListN.{length, getD, take, drop, length-take, length-drop, length-append, drop-of-length-le}
 use lib.Seq.{drop-cons, drop-drop, drop-at, getD-drop, getD-append-add}
 use borrow.Author.Tests.{eq-eqb, ne-eqb, eqb-true}
+use Rattle.vrf_bitio.specs.Laws.Cases.{by-test, by-cond, clash}
 use Rattle.vrf_path.specs.Text.{same, four, eight, startsWith, endsWith, firstFrom, lastBelow, nonEmpty}
 
 -- texts of different lengths differ
@@ -32,13 +33,13 @@ same-refl (b ∷ t) = rw (eq-eqb b b refl, same-refl t)
 pub same-true : (s t : List ℕ) → same s t ≡ true → s ≡ t
 unfolding same
 same-true [] [] e = refl
-same-true [] (b ∷ t) e = absurd (let z : _≡_ {A = ℕ} 0 1 = cc in omega arith)
-same-true (a ∷ s) [] e = absurd (let z : _≡_ {A = ℕ} 0 1 = cc in omega arith)
+same-true [] (b ∷ t) e = clash (cc)
+same-true (a ∷ s) [] e = clash (cc)
 same-true (a ∷ s) (b ∷ t) e = both (eqb a b) refl e (same-true s t)
   where
     both : (x : Bool) → eqb a b ≡ x → (x && same s t) ≡ true → (same s t ≡ true → s ≡ t) → a ∷ s ≡ b ∷ t
     both true ex es rest = rw (eqb-true a b ex, rest es)
-    both false ex es rest = absurd (let z : _≡_ {A = ℕ} 0 1 = cc in omega arith)
+    both false ex es rest = clash (cc)
 
 -- two texts from place i on, by the byte at i
 module _ (s t : List ℕ) (i : ℕ) (hs : i < length s) (ht : i < length t) where
@@ -71,13 +72,12 @@ four-lt : (t : List ℕ) → ((i : ℕ) → getD t i 0 < 256) → (i : ℕ) → 
 unfolding four
 four-lt t b i = omega (arith, b i, b (i + 1), b (i + 2), b (i + 3))
 
--- texts differ if eight bytes of them differ
+-- texts differ if they are not equal, and so if eight bytes of them differ
+same-false : (s t : List ℕ) → (s ≡ t → ⊥) → same s t ≡ false
+same-false s t h = by-test (same s t) (λ e. absurd (h (same-true s t e))) (λ e. e)
+
 pub differ-eight : (s t : List ℕ) (i : ℕ) → (eight s i ≡ eight t i → ⊥) → same s t ≡ false
-differ-eight s t i h = by (same s t) refl
-  where
-    by : (x : Bool) → same s t ≡ x → x ≡ false
-    by true e = absurd (h (ap (λ (u : List ℕ). eight u i) (same-true s t e)))
-    by false e = refl
+differ-eight s t i h = same-false s t (λ e. h (ap (λ (u : List ℕ). eight u i) e))
 
 -- two texts from place i on, by four and by eight bytes that agree
 module _ (s t : List ℕ) (bs : (i : ℕ) → getD s i 0 < 256) (bt : (i : ℕ) → getD t i 0 < 256) where
@@ -149,15 +149,10 @@ ends-length p t e = omega (arith, rw length-drop at (ap length (same-true (drop 
 -- a text does not end with p if its last byte differs
 pub ends-other : (p t : List ℕ) → 0 < length p → (getD t (length t - 1) 0 ≡ getD p (length p - 1) 0 → ⊥) → endsWith p t ≡ false
 unfolding endsWith
-ends-other p t h ne = by (same (drop (length t - length p) t) p) refl
-  where
-    by : (x : Bool) → same (drop (length t - length p) t) p ≡ x → x ≡ false
-    by false e = refl
-    by true e =
-        let tail : drop (length t - length p) t ≡ p = same-true (drop (length t - length p) t) p e in
-        let size : length t - (length t - length p) ≡ length p = sym (length-drop (length t - length p) t) ∙ ap length tail in
-        let last : length t - length p + (length p - 1) ≡ length t - 1 = omega arith in
-        absurd (ne (ap (λ (i : ℕ). getD t i 0) (sym last) ∙ sym (getD-drop (length t - length p) t (length p - 1) 0) ∙ ap (λ (u : List ℕ). getD u (length p - 1) 0) tail))
+ends-other p t h ne = same-false (drop (length t - length p) t) p (λ tail.
+    let size : length t - (length t - length p) ≡ length p = sym (length-drop (length t - length p) t) ∙ ap length tail in
+    let last : length t - length p + (length p - 1) ≡ length t - 1 = omega arith in
+    ne (ap (λ (i : ℕ). getD t i 0) (sym last) ∙ sym (getD-drop (length t - length p) t (length p - 1) 0) ∙ ap (λ (u : List ℕ). getD u (length p - 1) 0) tail))
 
 -- s ++ q ends with q, and does not end with a text that has a different last byte
 module _ (s q : List ℕ) where
@@ -189,13 +184,10 @@ module _ (p t : List ℕ) (i : ℕ) where
 -- where p was found, all of it is inside the text
 pub first-within : (p t : List ℕ) (j : ℕ) {i : ℕ} → firstFrom p j t ≡ some i → i + length p ≤ j + length t
 unfolding firstFrom
-first-within p [] j e = absurd (let z : _≡_ {A = ℕ} 0 1 = cc in omega arith)
-first-within p (b ∷ t) j {i} e = by (startsWith p (b ∷ t)) refl e (λ es. first-within p t (j + 1) es)
-  where
-    by : (x : Bool) → startsWith p (b ∷ t) ≡ x → cond x (some j) (firstFrom p (j + 1) t) ≡ some i
-        → (firstFrom p (j + 1) t ≡ some i → i + length p ≤ j + 1 + length t) → i + length p ≤ j + suc (length t)
-    by true ex es later = let ei : j ≡ i = cc in omega (arith, starts-length p (b ∷ t) ex)
-    by false ex es later = omega (arith, later es)
+first-within p [] j e = clash (cc)
+first-within p (b ∷ t) j {i} e =
+    by-cond (λ (o : Option ℕ). o ≡ some i → i + length p ≤ j + suc (length t)) (startsWith p (b ∷ t))
+    (λ ex es. let ei : j ≡ i = cc in omega (arith, starts-length p (b ∷ t) ex)) (λ ex es. omega (arith, first-within p t (j + 1) es)) e
 
 -- the search for the last byte b, one place at a time, from the end
 module _ (b : ℕ) (t : List ℕ) {i : ℕ} (j : ℕ) (e : i ≡ suc j) where
@@ -209,12 +201,9 @@ module _ (b : ℕ) (t : List ℕ) {i : ℕ} (j : ℕ) (e : i ≡ suc j) where
 
 pub last-within : (b : ℕ) (t : List ℕ) (n : ℕ) {i : ℕ} → lastBelow b t n ≡ some i → i < n
 unfolding lastBelow
-last-within b t zero e = absurd (let z : _≡_ {A = ℕ} 0 1 = cc in omega arith)
-last-within b t (suc n) {i} e = by (eqb (getD t n 0) b) e (λ es. last-within b t n es)
-  where
-    by : (x : Bool) → cond x (some n) (lastBelow b t n) ≡ some i → (lastBelow b t n ≡ some i → i < n) → i < suc n
-    by true es earlier = let ei : n ≡ i = cc in omega arith
-    by false es earlier = omega (arith, earlier es)
+last-within b t zero e = clash (cc)
+last-within b t (suc n) {i} e =
+    by-cond (λ (o : Option ℕ). o ≡ some i → i < suc n) (eqb (getD t n 0) b) (λ ex es. let ei : n ≡ i = cc in omega arith) (λ ex es. omega (arith, last-within b t n es)) e
 
 -- a text with at least one byte
 pub non-empty : (t : List ℕ) → 0 < length t → nonEmpty t ≡ some t

@@ -9,25 +9,25 @@ use Rattle.vrf_bitio.specs.declared.Byte.{Byte}
 use Rattle.vrf_bitio.specs.declared.Byte.the-variants.{Value as ByteValue, Refused as NoByte}
 use Rattle.vrf_bitio.specs.declared.Cursor.{Cursor}
 use Rattle.vrf_bitio.specs.declared.Refusal.{Refusal}
-use Rattle.vrf_bitio.specs.declared.Word.{Word}
-use Rattle.vrf_bitio.specs.declared.Word.the-variants.{Value as WordValue, Refused as NoWord}
-use Rattle.vrf_model.specs.Book.{Counters, stepped}
+use Rattle.vrf_model.specs.Book.{Counters, Increments, stepped}
 use Rattle.vrf_model.specs.Parser.{Parsed, Parser, return, fail}
 use Rattle.vrf_store.specs.Store.{countersOf}
 use Rattle.vrf_store.specs.Inner.WellFormed.{WellFormed}
 use Rattle.vrf_store.specs.Inner.Stepped.{held}
 use Rattle.vrf_reader.specs.declared.Advanced.{Advanced}
 use Rattle.vrf_reader.specs.declared.Advanced.the-variants.{To, Refused as NotMoved}
+use Rattle.vrf_reader.specs.declared.ReadNumber.{ReadNumber}
+use Rattle.vrf_reader.specs.declared.ReadNumber.the-variants.{Of, Refused as NoNumber}
 
 -- the definition k, run from the code's cursor c and memory m
-abbrev pub parserAt : {A : Type 0} → List ℕ → Cursor → List ℕ → Parser A → Counters → Parsed A
+abbrev pub parserAt : {A : Type 0} → List ℕ → Cursor → List ℕ → Parser A → Increments → Parsed A
 parserAt s c m k t = k (c .pos) (restOf s c) (held m) t
 
 -- k from cursor c and memory m gives what k′ gives from cursor d and memory m′. `adds` adds what the code counted between them
 pub record Simulates {A : Type 0} (s : List ℕ) (k : Parser A) (c : Cursor) (m : List ℕ) (k′ : Parser A) (d : Cursor) (m′ : List ℕ) : Type 0 where
-  pub adds : Counters → Counters
-  pub simulates : (t : Counters) → parserAt s c m k t ≡ parserAt s d m′ k′ (adds t)
-  pub counters : (b t : Counters) → countersOf m ≡ stepped b t → countersOf m′ ≡ stepped b (adds t)
+  pub adds : Increments → Increments
+  pub simulates : (t : Increments) → parserAt s c m k t ≡ parserAt s d m′ k′ (adds t)
+  pub counters : (b : Counters) (t : Increments) → countersOf m ≡ stepped b t → countersOf m′ ≡ stepped b (adds t)
   pub good : WellFormed m′
   pub long : length m′ ≡ length m
   pub first : d .first ≡ c .first
@@ -56,6 +56,6 @@ abbrev pub byteOutcome : Byte → ReaderEnd ℕ
 byteOutcome (ByteValue n d) = at n d
 byteOutcome (NoByte r) = no r
 
-abbrev pub wordOutcome : Word → ReaderEnd ℕ
-wordOutcome (WordValue n d) = at n d
-wordOutcome (NoWord r) = no r
+abbrev pub numberOutcome : ReadNumber → ReaderEnd ℕ
+numberOutcome (Of n d) = at n d
+numberOutcome (NoNumber r) = no r

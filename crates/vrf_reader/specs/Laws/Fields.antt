@@ -5,7 +5,6 @@ use mathlib.Core.Bool.{Bool, cond}
 use mathlib.Core.List.{List}
 use mathlib.Core.Option.{none, some}
 use Prim.Native.Nat.{ℕ, _≤_, _<_}
-use native.Mathlib.Nat.{add-zero}
 use lib.Dec.{eqb, ltb}
 use lib.ListN.{take}
 use borrow.Author.Tests.{ne-eqb, lt-ltb, le-ltb}
@@ -14,12 +13,13 @@ use Rattle.vrf_bitio.specs.Answers.{restOf, readAt, Gave, Refuses}
 use Rattle.vrf_bitio.specs.declared.Cursor.{Cursor}
 use Rattle.vrf_bitio.specs.declared.Refusal.{Refusal}
 use Rattle.vrf_text.specs.Text.{fstring}
-use Rattle.vrf_model.specs.Book.{Content, Counters, none-counted, addCounters}
+use Rattle.vrf_model.specs.Book.{Content, Increments}
 use Rattle.vrf_model.specs.Lookup.{indexPlace}
 use Rattle.vrf_model.specs.Setting.{addGroup, setField}
 use Rattle.vrf_model.specs.Names.{fname}
 use Rattle.vrf_model.specs.Parser.{Parser, return, fail, bindParsed, _>>=_, read, parsedStep, step}
 use Rattle.vrf_model.specs.Runs.{known, declaredGroup, groupOf, exportedField, exportEntry}
+use Rattle.vrf_model.specs.Laws.Parser.{add-none}
 use Rattle.vrf_store.specs.Inner.WellFormed.{WellFormed}
 use Rattle.vrf_store.specs.Inner.Stepped.{held}
 use Rattle.vrf_cache.specs.Inner.Taken.{Taken, NotTaken}
@@ -53,7 +53,7 @@ module _ (index handle : ℕ) {s : List ℕ} {c d : Cursor} {m : List ℕ} (good
 
 -- what follows a field, in an export or a block, starts where the code's field ended
 module _ (index handle : ℕ) {A : Type 0} (k : Parser A) where
-  followed : (pos : ℕ) (l : List ℕ) (c : Content) (t : Counters)
+  followed : (pos : ℕ) (l : List ℕ) (c : Content) (t : Increments)
       → (fieldRead index handle >>= λ u. k) pos l c t ≡ fieldThen index handle k pos l c t
   unfolding return _>>=_ bindParsed
   followed pos l c t =
@@ -119,15 +119,11 @@ module _ (index : ℕ) {s : List ℕ} {c d : Cursor} {m : List ℕ} (good : Well
 
 -- ---- the group of an export
 
-uncounted : (t : Counters) → addCounters t none-counted ≡ t
-unfolding addCounters none-counted
-uncounted t = simp add-zero
-
 module _ (index : ℕ) {s : List ℕ} {c : Cursor} {m : List ℕ} (good : WellFormed m) {flag : ℕ} where
   -- flag 0: a group has the index
   pub index-known : flag ≡ 0 → {i : ℕ} → some i ≡ indexPlace index (held m .groups) → Simulates s (groupOf index flag) c m (return tt) c m
   unfolding groupOf step parsedStep known return
-  index-known z e = rw z (alike good (λ t. rw (← e, uncounted t)))
+  index-known z e = rw z (alike good (λ t. rw (← e, add-none t)))
 
   -- 20: no group has the index
   pub index-unknown : flag ≡ 0 → none ≡ indexPlace index (held m .groups) → Simulates s (groupOf index flag) c m (fail 20 index 0) c m

@@ -9,14 +9,14 @@ use lib.Dec.{leb}
 use lib.ListN.{length}
 use borrow.Author.Tests.{lt-ltb, le-ltb, le-leb, lt-leb}
 use Rattle.vrf_bitio.specs.Window.{inner}
-use Rattle.vrf_bitio.specs.Number.{word32}
+use Rattle.vrf_bitio.specs.Number.{bytes, word32}
 use Rattle.vrf_bitio.specs.Answers.{restOf, readAt, Gave, Refuses}
 use Rattle.vrf_bitio.specs.Laws.Window.{rest-length}
 use Rattle.vrf_bitio.specs.declared.Cursor.{Cursor}
 use Rattle.vrf_bitio.specs.declared.Refusal.{Refusal}
-use Rattle.vrf_model.specs.Book.{Content, Counters}
-use Rattle.vrf_model.specs.Parser.{parsed, failed, Parser, return, fail, _>>=_}
-use Rattle.vrf_model.specs.Runs.{objectAt, afterPayload, payloadOf, guidEntry}
+use Rattle.vrf_model.specs.Book.{Content, Increments}
+use Rattle.vrf_model.specs.Parser.{parsed, failed, Parser, return, fail, bindParsed, _>>=_, parsedRead, read}
+use Rattle.vrf_model.specs.Runs.{objectAt, afterInner, innerWindow, payloadOf, guidEntry}
 use Rattle.vrf_store.specs.Inner.WellFormed.{WellFormed}
 use Rattle.vrf_store.specs.Inner.Stepped.{held}
 use Rattle.vrf_reader.specs.Inner.Simulates.{parserAt, Simulates, no, Refines}
@@ -27,37 +27,37 @@ use Rattle.vrf_reader.specs.Laws.Within.{Inside, sub-short}
 -- ---- a payload
 
 -- no whole byte is left in the payload, or 25
-module _ {A : Type 0} (pos : ℕ) (l : List ℕ) (a : A) (p : ℕ) (c : Content) (t : Counters) where
-  following-none : (left : List ℕ) → length left ≡ 0 → afterPayload pos l (parsed a p left c t) ≡ parsed a pos l c t
-  unfolding afterPayload
+module _ {A : Type 0} (pos : ℕ) (l : List ℕ) (a : A) (p : ℕ) (c : Content) (t : Increments) where
+  following-none : (left : List ℕ) → length left ≡ 0 → afterInner pos l (parsed a p left c t) ≡ parsed a pos l c t
+  unfolding afterInner
   following-none [] h = refl
   following-none (b ∷ left) h = absurd (omega arith)
 
-  following-some : (left : List ℕ) → length left ≢ 0 → afterPayload pos l (parsed a p left c t) ≡ failed 25 (length left) 0 c t
-  unfolding afterPayload
+  following-some : (left : List ℕ) → length left ≢ 0 → afterInner pos l (parsed a p left c t) ≡ failed 25 (length left) 0 c t
+  unfolding afterInner
   following-some [] h = absurd (h refl)
   following-some (b ∷ left) h = refl
 
 module _ {A : Type 0} {s : List ℕ} (n : ℕ) (r : Parser A) {c : Cursor} where
   pub payload-short : {m : List ℕ} {q : Refusal} → CursorWithin s c → WellFormed m → Refuses (inner s (c .first) (c .count) (8 * n) (c .pos)) q
       → Refines s (payloadOf n r) c m m (no q)
-  unfolding payloadOf fail
+  unfolding payloadOf _>>=_ bindParsed read parsedRead bytes fail
   payload-short within good e =
       let short = sub-short n within e in
       alike good (λ t. rw (lt-ltb (length (restOf s c)) n (short .0)) (cc (short .1)))
 
   module _ {i d : Cursor} (w : Inside s c n i d) where
-    in-window : (m : List ℕ) (t : Counters) → parserAt s c m (payloadOf n r) t ≡ afterPayload (d .pos) (restOf s d) (parserAt s i m r t)
-    unfolding payloadOf
+    in-window : (m : List ℕ) (t : Increments) → parserAt s c m (payloadOf n r) t ≡ afterInner (d .pos) (restOf s d) (parserAt s i m r t)
+    unfolding payloadOf innerWindow _>>=_ bindParsed read parsedRead bytes
     in-window m t = rw (le-ltb (length (restOf s c)) n (w .enough), w .bytes, w .left, w .start, w .next)
 
     -- the payload, after the code has read its object as far as e
-    from-object : {m m′ : List ℕ} {k : Parser A} {e : Cursor} (g : Simulates s r i m k e m′) (t : Counters)
-        → parserAt s c m (payloadOf n r) t ≡ afterPayload (d .pos) (restOf s d) (parserAt s e m′ k (g .adds t))
-    from-object {m} g t = in-window m t ∙ ap (afterPayload (d .pos) (restOf s d)) (g .simulates t)
+    from-object : {m m′ : List ℕ} {k : Parser A} {e : Cursor} (g : Simulates s r i m k e m′) (t : Increments)
+        → parserAt s c m (payloadOf n r) t ≡ afterInner (d .pos) (restOf s d) (parserAt s e m′ k (g .adds t))
+    from-object {m} g t = in-window m t ∙ ap (afterInner (d .pos) (restOf s d)) (g .simulates t)
 
     pub payload-refused : {m m′ : List ℕ} (q : Refusal) → Refines s r i m m′ (no q) → Refines s (payloadOf n r) c m m′ (no q)
-    unfolding fail afterPayload
+    unfolding fail afterInner
     payload-refused q g = across g (from-object g) refl refl
 
     module _ {m m′ : List ℕ} (v : A) {e : Cursor} (g : Simulates s r i m (return v) e m′) {k : ℕ} (left : k ≡ (e .count - e .pos) / 8) where

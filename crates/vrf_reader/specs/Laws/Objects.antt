@@ -15,14 +15,15 @@ use Rattle.vrf_bitio.specs.declared.Byte.the-variants.{Value, Refused as NoByte
 use Rattle.vrf_bitio.specs.declared.Cursor.{Cursor}
 use Rattle.vrf_bitio.specs.declared.Refusal.{Refusal}
 use Rattle.vrf_text.specs.Text.{fstring}
+use Rattle.vrf_model.specs.Setting.{setGuid}
 use Rattle.vrf_model.specs.Parser.{Parser, return, fail, _>>=_, step}
-use Rattle.vrf_model.specs.Runs.{flagsOf, skipChecksum, withPath, objectAfter, objectWithOuter, object}
+use Rattle.vrf_model.specs.Runs.{flagsOf, skipChecksum, objectPath, objectAfter, objectWithOuter, object}
 use Rattle.vrf_store.specs.Inner.WellFormed.{WellFormed}
 use Rattle.vrf_store.specs.Inner.Stepped.{held}
 use Rattle.vrf_cache.specs.Inner.Taken.{Taken, NotTaken}
 use Rattle.vrf_reader.specs.Inner.Simulates.{Simulates, ReaderEnd, at, no, Refines, RefinesReading, byteOutcome}
 use Rattle.vrf_reader.specs.Inner.Texts.{TextRead}
-use Rattle.vrf_reader.specs.Inner.Objects.{ObjectHeadOf, setObject, recorded}
+use Rattle.vrf_reader.specs.Inner.Objects.{ObjectHeadOf, recorded}
 use Rattle.vrf_reader.specs.Laws.Simulates.{stays, gave, refused, taken, not-taken, then, bind, bind-stop, read-on, read-stops, stops, reads}
 use Rattle.vrf_reader.specs.Laws.Texts.{scratch-gave}
 use Rattle.vrf_reader.specs.declared.objects.ObjectHead.the-variants.{Ends, Path, Refused as NoHead}
@@ -66,7 +67,7 @@ module _ {s : List ℕ} {c : Cursor} (exporting : Bool) where
 
       module _ {flags : ℕ} {e : Cursor} (h : RefinesReading s (flagsOf exporting guid) d (at flags e)) where
         to-path : (outer : Parser ℕ) {m : List ℕ} → WellFormed m
-            → Simulates s (objectWithOuter outer exporting) c m (cond (eqb (flags % 2) 1) (withPath outer guid flags) (return guid)) e m
+            → Simulates s (objectWithOuter outer exporting) c m (cond (eqb (flags % 2) 1) (objectPath outer guid flags) (return guid)) e m
         unfolding objectAfter
         to-path outer good = then (to-flags outer good) (bind _ (h .reads _ good))
 
@@ -101,16 +102,16 @@ module _ {s : List ℕ} {c d : Cursor} (guid flags outer : ℕ) {m : List ℕ} (
   record-sumless q h = stops (read-on fstring _ good (scratch-gave t)) q (bind-stop _ q (h .reads m good))
 
   module _ {e : Cursor} (h : RefinesReading s (skipChecksum flags) d (at tt e)) where
-    to-setting : Simulates s (recorded guid flags outer) c m (step (setObject guid (take n scratch) outer) >>= λ v. return guid) e m
+    to-setting : Simulates s (recorded guid flags outer) c m (step (setGuid guid (take n scratch) outer) >>= λ v. return guid) e m
     unfolding recorded
     to-setting = then (read-on fstring _ good (scratch-gave t)) (bind _ (h .reads m good))
 
     module _ {m′ : List ℕ} where
-      pub record-refused : {q : Refusal} → NotTaken (setObject guid (take n scratch) outer (held m)) q m m′
+      pub record-refused : {q : Refusal} → NotTaken (setGuid guid (take n scratch) outer (held m)) q m m′
           → Refines s (recorded guid flags outer) c m m′ (no q)
       record-refused {q} k = stops to-setting q (bind-stop _ q (not-taken _ good k))
 
-      pub record-set : Taken (setObject guid (take n scratch) outer (held m)) tt m m′
+      pub record-set : Taken (setGuid guid (take n scratch) outer (held m)) tt m m′
           → Simulates s (recorded guid flags outer) c m (return guid) e m′
       record-set k = then to-setting (bind _ (taken _ k))
 
@@ -136,15 +137,15 @@ module _ {s : List ℕ} {c : Cursor} (left : ℕ) {exporting : Bool} (some : lef
   object-ends guid h = rw (over left exporting some) (h .reads (object (left - 1) exporting) m good)
 
   module _ {guid flags : ℕ} {d : Cursor} (h : ObjectHeadOf s exporting c (Path guid flags d)) where
-    to-outer : Simulates s (object left exporting) c m (withPath (object (left - 1) exporting) guid flags) d m
+    to-outer : Simulates s (object left exporting) c m (objectPath (object (left - 1) exporting) guid flags) d m
     to-outer = rw (over left exporting some) (h .reads (object (left - 1) exporting) m good)
 
     pub outer-refused : {m′ : List ℕ} (q : Refusal) → Refines s (object (left - 1) exporting) d m m′ (no q)
         → Refines s (object left exporting) c m m′ (no q)
-    unfolding withPath
+    unfolding objectPath
     outer-refused q g = stops to-outer q (bind-stop _ q g)
 
     pub outer-then : {m′ : List ℕ} (outer : ℕ) {e : Cursor} → Simulates s (object (left - 1) exporting) d m (return outer) e m′
         → (m″ : List ℕ) (o : ReaderEnd ℕ) → Refines s (recorded guid flags outer) e m′ m″ o → Refines s (object left exporting) c m m″ o
-    unfolding withPath recorded
+    unfolding objectPath recorded
     outer-then outer g = reads (then to-outer (bind (recorded guid flags) g))

@@ -6,7 +6,7 @@ use Rattle.vrf_bitio.specs.Reading.{Reader}
 use Rattle.vrf_bitio.specs.Answers.{restOf, readAt, Gave, Refuses}
 use Rattle.vrf_bitio.specs.declared.Cursor.{Cursor}
 use Rattle.vrf_bitio.specs.declared.Refusal.{Refusal}
-use Rattle.vrf_model.specs.Book.{Content, Counters, addCounters, stepped}
+use Rattle.vrf_model.specs.Book.{Content, Counters, Increments, addIncrements, stepped}
 use Rattle.vrf_model.specs.Setting.{Step}
 use Rattle.vrf_model.specs.Parser.{parsed, Parser, return, fail, bindParsed, _>>=_, parsedRead, read, parsedStep, step}
 use Rattle.vrf_store.specs.Inner.WellFormed.{WellFormed}
@@ -19,12 +19,12 @@ use Rattle.vrf_reader.specs.Inner.Simulates.{parserAt, Simulates, Reader
 
 -- the memory stays as it is
 still : {A : Type 0} {s : List ℕ} {k k′ : Parser A} {c d : Cursor} {m : List ℕ} → WellFormed m
-    → ((t : Counters) → parserAt s c m k t ≡ parserAt s d m k′ t) → d .first ≡ c .first → d .count ≡ c .count → Simulates s k c m k′ d m
+    → ((t : Increments) → parserAt s c m k t ≡ parserAt s d m k′ t) → d .first ≡ c .first → d .count ≡ c .count → Simulates s k c m k′ d m
 still good e f n = record { adds = λ t. t; simulates = e; counters = λ b t h. h; good = good; long = refl; first = f; count = n }
 
 -- two readers that give the same from this cursor and memory
 pub alike : {A : Type 0} {s : List ℕ} {k k′ : Parser A} {c : Cursor} {m : List ℕ} → WellFormed m
-    → ((t : Counters) → parserAt s c m k t ≡ parserAt s c m k′ t) → Simulates s k c m k′ c m
+    → ((t : Increments) → parserAt s c m k t ≡ parserAt s c m k′ t) → Simulates s k c m k′ c m
 alike good e = still good e refl refl
 
 pub stays : {A : Type 0} {s : List ℕ} {k : Parser A} {c : Cursor} {m : List ℕ} → WellFormed m → Simulates s k c m k c m
@@ -45,10 +45,10 @@ module _ {A : Type 0} {s : List ℕ} (σ : Content → Step A) {c : Cursor} {m m
   pub taken : {a : A} → Taken (σ (held m)) a m m′ → Simulates s (step σ) c m (return a) c m′
   unfolding step parsedStep return
   taken {a} h = record {
-    adds = λ t. addCounters t (h .counted);
+    adds = λ t. addIncrements t (h .counted);
     simulates = λ t.
         ap (parsedStep (c .pos) (restOf s c) (held m) t) (h .step)
-        ∙ ap (λ (x : Content). parsed a (c .pos) (restOf s c) x (addCounters t (h .counted))) (sym (h .holds .content));
+        ∙ ap (λ (x : Content). parsed a (c .pos) (restOf s c) x (addIncrements t (h .counted))) (sym (h .holds .content));
     counters = λ b t e. h .holds .counters ∙ ap (λ (x : Counters). stepped x (h .counted)) e ∙ stepped-both b t (h .counted);
     good = h .holds .good;
     long = h .holds .long;
@@ -78,7 +78,7 @@ then g h = record {
 
 -- if l and l′ give the same with the counters that g adds, then l is simulated with the memory of g
 pub across : {A B : Type 0} {s : List ℕ} {k k′ : Parser A} {l l′ : Parser B} {i e c d : Cursor} {m m′ : List ℕ} (g : Simulates s k i m k′ e m′)
-    → ((t : Counters) → parserAt s c m l t ≡ parserAt s d m′ l′ (g .adds t)) → d .first ≡ c .first → d .count ≡ c .count → Simulates s l c m l′ d m′
+    → ((t : Increments) → parserAt s c m l t ≡ parserAt s d m′ l′ (g .adds t)) → d .first ≡ c .first → d .count ≡ c .count → Simulates s l c m l′ d m′
 across g e f n = record { adds = g .adds; simulates = e; counters = g .counters; good = g .good; long = g .long; first = f; count = n }
 
 module _ {A B : Type 0} {s : List ℕ} {k : Parser A} (f : A → Parser B) {c d : Cursor} {m m′ : List ℕ} where

@@ -29,7 +29,7 @@ use Rattle.vrf_names.specs.Laws.Names.{decimal-length, into-long, into-fits}
 use Rattle.vrf_names.specs.declared.Rendered.{Rendered}
 use Rattle.vrf_names.specs.declared.Rendered.the-variants.{Length, Refused}
 use Rattle.vrf_model.specs.Names.{limited, textName, indexName, fname}
-use Rattle.vrf_model.specs.Laws.Lawful.Readings.{bytesOf-bytes, Gives, ReadsBytes, fstring-reads}
+use Rattle.vrf_model.specs.Laws.Readings.{bytesOf-bytes, Gives, ReadsBytes, fstring-reads}
 use Rattle.vrf_reader.specs.Inner.Texts.{TextRead, TextIn, numbered, Small, namedBy}
 
 -- a reading, then a text

@@ -3,11 +3,12 @@ use mathlib.Core.Path.{_≡_}
 use mathlib.Core.List.{List}
 use Prim.Native.Nat.{ℕ, zero, suc, _+_, _-_, _≤_, _<_}
 use native.Mathlib.Omega.{arith}
-use Rattle.vrf_bitio.specs.Number.{packed}
 use Rattle.vrf_bitio.specs.Answers.{readAt, Gave}
 use Rattle.vrf_bitio.specs.declared.Cursor.{Cursor}
 use Rattle.vrf_bitio.specs.declared.Refusal.{Refusal}
+use Rattle.vrf_model.specs.Names.{number}
 use Rattle.vrf_model.specs.Parser.{Parser, return, _>>=_, read, times}
+use Rattle.vrf_model.specs.Runs.{runOf}
 use Rattle.vrf_store.specs.Inner.WellFormed.{WellFormed}
 use Rattle.vrf_reader.specs.Inner.Simulates.{Simulates, no, Refines}
 use Rattle.vrf_reader.specs.Laws.Simulates.{stays, then, bind, bind-stop, read-on, stops}
@@ -41,17 +42,12 @@ module _ {s : List ℕ} {entry : Parser (Unit {0})} {n : ℕ} {c₀ : Cursor} {m
 
 -- ---- the run
 
--- a packed count, then this number of entries
-abbrev pub runOf : Parser (Unit {0}) → Parser ℕ
-runOf entry = do
-  n ← read packed
-  u ← times n entry
-  return n
-
 module _ (entry : Parser (Unit {0})) {s : List ℕ} {c d : Cursor} {m m′ : List ℕ} (good : WellFormed m)
-    {n : ℕ} (g : Gave s c (readAt s c packed) n d) where
+    {n : ℕ} (g : Gave s c (readAt s c number) n d) where
   pub run-refused : (q : Refusal) → Refines s (times n entry) d m m′ (no q) → Refines s (runOf entry) c m m′ (no q)
-  run-refused q h = stops (read-on packed _ good g) q (bind-stop _ q h)
+  unfolding runOf
+  run-refused q h = stops (read-on number _ good g) q (bind-stop _ q h)
 
   pub run-read : {e : Cursor} → Simulates s (times n entry) d m (return tt) e m′ → Simulates s (runOf entry) c m (return n) e m′
-  run-read h = then (read-on packed _ good g) (bind _ h)
+  unfolding runOf
+  run-read h = then (read-on number _ good g) (bind _ h)

@@ -16,7 +16,7 @@ use Rattle.vrf_bitio.specs.Laws.Bits.{bytes-take, bytes-drop}
 use Rattle.vrf_bitio.specs.Laws.Window.{rest-length}
 use Rattle.vrf_bitio.specs.declared.Cursor.{Cursor}
 use Rattle.vrf_bitio.specs.declared.Refusal.{Refusal}
-use Rattle.vrf_text.specs.Laws.Cases.{by-cond, by-order, clash}
+use Rattle.vrf_bitio.specs.Laws.Cases.{by-cond, by-order, clash}
 use Rattle.vrf_reader.specs.Inner.Within.{CursorWithin}
 
 -- a window that was opened is within the slice

@@ -7,14 +7,14 @@ use Prim.Native.Nat.{ℕ, _<_, _≤_}
 use native.Mathlib.Nat.{zero-add}
 use native.Mathlib.Omega.{arith}
 use lib.ListN.{length, take, length-take}
-use Rattle.vrf_text.specs.Laws.Cases.{clash}
+use Rattle.vrf_bitio.specs.Laws.Cases.{clash}
 use Rattle.vrf_words.specs.Words.{word, part}
 use Rattle.vrf_words.specs.Laws.Words.{word-part}
 use Rattle.vrf_model.specs.Book.{Book, filled}
 use Rattle.vrf_model.specs.Calls.{Call, add-export-group, set-field-on-group, Answer, refusal-of, field-placed, at-place, runBook}
 use Rattle.vrf_model.specs.Untouched.{IsReader, PlacedAlone, OneGroup}
 use Rattle.vrf_model.specs.Laws.Untouched.{field-call-alone, adding-call-alone}
-use Rattle.vrf_model.specs.Laws.Lawful.Calls.{refused-changes-nothing}
+use Rattle.vrf_model.specs.Laws.Calls.{refused-changes-nothing}
 use Rattle.vrf_store.specs.Layout
 use Rattle.vrf_store.specs.Store.{allowancesOf, contentOf, bookOf}
 use Rattle.vrf_store.specs.Check.{check}

@@ -9,15 +9,17 @@ use lib.Seq.{take-append-seam}
 use Rattle.vrf_bitio.specs.Laws.Pasted.{pasted-front}
 use Rattle.vrf_model.specs.Book.{Allowances, Book, fresh, freshBook}
 use Rattle.vrf_model.specs.Writer.{encodeBook}
-use Rattle.vrf_model.specs.Calls.{Call, Answer, whole, read-checkpoint-tables, run, runBook, play, answers}
+use Rattle.vrf_model.specs.Calls.{Call, Answer, whole, read-checkpoint-tables, look, unchanged, run, runBook, play, answers}
 use Rattle.vrf_model.specs.Lawful.{Lawful}
-use Rattle.vrf_model.specs.Laws.Lawful.Calls.{run-allowed}
+use Rattle.vrf_model.specs.Laws.Calls.{run-allowed}
 use Rattle.vrf_model.specs.Laws.Writer.{writing, write-accepts}
-use Rattle.vrf_model.specs.Laws.LateJoin.{lookups-off-lists, joinCall, lateReader, JoinsLate, joins}
+use Rattle.vrf_model.specs.Laws.LateJoin.{joinCall, lateReader, JoinsLate, joins}
+use Rattle.vrf_model.specs.declared.Acted.the-variants.{Done}
 use Rattle.vrf_model.specs.declared.Wrote.the-variants.{Length}
 use Rattle.vrf_store.specs.Store.{bookOf}
 use Rattle.vrf_store.specs.Check.{check}
 use Rattle.vrf_schema.specs.CallContract.{CallContract}
+use Rattle.vrf_schema.specs.OpenContract.{OpenContract}
 use Rattle.vrf_schema.specs.WriteContract.{WriteContract}
 use Rattle.vrf_schema.specs.Demand3.{Trace, nothing, next, OffList, LateReader, LateJoin, Demand-3}
 use Rattle.vrf_schema.specs.Laws.Demand1.{accepted-lawful}
@@ -40,16 +42,20 @@ left {m = m} good (next {k = k} {ks = ks} c p) =
       accepted = all .accepted;
       book = all .book ∙ ap (play ks) (one .book);
       answers = cc (one .answer, all .answers, one .book);
-      allowed = all .allowed ∙ ap (λ (b : Book). b .content .allowed) (one .book) ∙ run-allowed k (bookOf m .content) (accepted-lawful m good);
+      allowed = all .allowed ∙ ap (λ (b : Book). b .content .allowed) (one .book) ∙ run-allowed k (bookOf m .content);
     }
 
 off-list : {m : List ℕ} → check m ≡ true → OffList m
-off-list {m} good = record { answered = λ k called c groups. called .ran good .answer ∙ lookups-off-lists k (bookOf m .content) c (sym groups) }
+unfolding run unchanged look
+off-list {m} good = record { answered = λ l called. called .ran good .answer }
 
 -- calls on an opened book leave a lawful book with the allowances that it was opened with
 early-lawful : {a : Allowances} {calls : List Call} {m₀ m : List ℕ} {rs : List Answer} → bookOf m₀ ≡ freshBook a → TraceLeaves calls m₀ rs m → Lawful a (bookOf m .content)
 unfolding freshBook fresh
 early-lawful {a} {m = m} opened l = subst (λ (x : Allowances). Lawful x (bookOf m .content)) (l .allowed ∙ ap (λ (b : Book). b .content .allowed) opened) (accepted-lawful m (l .accepted))
+
+pub trace-lawful : {a : Allowances} {lent m₀ m : List ℕ} → OpenContract a lent m₀ Done → {calls : List Call} {rs : List Answer} → Trace calls m₀ rs m → Lawful a (bookOf m .content)
+trace-lawful opened trace = early-lawful (opened .book) (left (opened .accepted) trace)
 
 -- ---- the late reader
 
@@ -75,6 +81,7 @@ module _ (a : Allowances) (m : List ℕ) (good : check m ≡ true) (law : Lawful
         record {
           answered = ran .answer ∙ ap (λ (b : Book). run (joinCall (bookOf m)) (b .content) .answer) opened ∙ model .answered;
           lists = same;
+          counters = ap (λ (b : Book). b .counters) current ∙ model .counters;
           together = λ further p q.
               let one = left good p in
               let two = left (ran .accepted) q in

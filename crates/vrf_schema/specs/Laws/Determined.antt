@@ -6,9 +6,9 @@ use mathlib.Core.Bool.{Bool, true, false}
 use mathlib.Core.List.{List, []}
 use Prim.Native.Nat.{ℕ, zero, suc}
 use lib.ListN.{length}
-use Rattle.vrf_text.specs.Laws.Cases.{clash}
+use Rattle.vrf_bitio.specs.Laws.Cases.{clash}
 use Rattle.vrf_model.specs.Book.{Allowances, Counters}
-use Rattle.vrf_model.specs.Calls.{Call, Answer}
+use Rattle.vrf_model.specs.Calls.{Lookup, Call, Answer}
 use Rattle.vrf_model.specs.Answers.{actedOf, addedOf, placedOf, foundOf, ranOf, tablesOf, numberOf}
 use Rattle.vrf_model.specs.Laws.Answers.{same-acted, same-added, same-placed, same-found, same-ran, same-read, same-number, same-wrote}
 use Rattle.vrf_model.specs.declared.Acted.{Acted}
@@ -23,7 +23,7 @@ use Rattle.vrf_model.specs.declared.Wrote.{Wrote}
 use Rattle.vrf_store.specs.Store.{bookOf}
 use Rattle.vrf_store.specs.Check.{check}
 use Rattle.vrf_writer.specs.Writes.{leaves}
-use Rattle.vrf_schema.specs.CallContract.{CallContract, textOf, TextCallContract}
+use Rattle.vrf_schema.specs.CallContract.{CallContract, textOf, TextLookupContract}
 use Rattle.vrf_schema.specs.OpenContract.{OpenContract}
 use Rattle.vrf_schema.specs.WriteContract.{WriteContract}
 use Rattle.vrf_schema.specs.CountersContract.{CountersContract}
@@ -76,8 +76,8 @@ module _ {k : Call} {m m′ m″ : List ℕ} where
   number-determined = by-answer numberOf same-number
 
 -- a text, and the number of the refusal as the second result
-pub text-determined : {k : Call} {m : List ℕ} (n n′ : ℕ) (t t′ : List ℕ) → TextCallContract k m n t → TextCallContract k m n′ t′ → (n ≡ n′) × (t ≡ t′)
-text-determined {k} {m} n n′ t t′ c d = by n n′ (called-alike (c .called) (d .called) .answer) (c .empty) (d .empty)
+pub text-determined : {l : Lookup} {m : List ℕ} (n n′ : ℕ) (t t′ : List ℕ) → TextLookupContract l m n t → TextLookupContract l m n′ t′ → (n ≡ n′) × (t ≡ t′)
+text-determined {m = m} n n′ t t′ c d = by n n′ (called-alike (c .called) (d .called) .answer) (c .empty) (d .empty)
   where
     by : (n n′ : ℕ) → textOf n t ≡ textOf n′ t′ → ((n ≡ 0 → ⊥) → t ≡ []) → ((n′ ≡ 0 → ⊥) → t′ ≡ []) → (n ≡ n′) × (t ≡ t′)
     by zero zero e f g = (refl, cc)

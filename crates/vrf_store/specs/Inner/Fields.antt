@@ -5,11 +5,10 @@ use mathlib.Core.List.{List}
 use mathlib.Core.Option.{Option, none}
 use Prim.Native.Nat.{ℕ, zero, suc, _/_, _%_, _<_, _+_, _-_, _*_, _≤_}
 use lib.Dec.{eqb, ltb}
-use lib.ListN.{length, set, replicate}
+use lib.ListN.{length, replicate}
 use Rattle.vrf_bitio.specs.Pasted.{pasted}
 use Rattle.vrf_model.specs.Book.{empty, Slot, Group, Content}
-use Rattle.vrf_model.specs.Lookup.{placeOr}
-use Rattle.vrf_model.specs.Setting.{withGroups, withSlot, noGroup}
+use Rattle.vrf_model.specs.Setting.{alter, withGroups, withSlot}
 use Rattle.vrf_table.specs.Table.{key, info, findKey, at, len}
 use Rattle.vrf_store.specs.Layout
 use Rattle.vrf_store.specs.Store.{Store, slotKey, storeOf}
@@ -26,9 +25,9 @@ slotRow s place slot = cond (ltb slot 65536) (fieldFound s (slotKey place slot))
 
 -- ---- changing one group
 
--- the content with the group at this place replaced by f of it
+-- the content with f of the group at this place
 abbrev pub withGroup : Content → ℕ → (Group → Group) → Content
-withGroup c place f = withGroups c (set (c .groups) place (placeOr f noGroup (c .groups) place))
+withGroup c place f = withGroups c (alter f (c .groups) place)
 
 -- the content with w in a slot of the group at this place
 abbrev pub withField : Content → ℕ → ℕ → Slot → Content

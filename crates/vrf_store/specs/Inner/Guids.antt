@@ -6,6 +6,7 @@ use Prim.Native.Nat.{ℕ, _+_, _-_, _<_, _≤_}
 use Rattle.vrf_words.specs.Words.{part}
 use Rattle.vrf_model.specs.Book.{Guid}
 use Rattle.vrf_model.specs.Lookup.{guidPlace}
+use Rattle.vrf_model.specs.Setting.{newGuid}
 use Rattle.vrf_table.specs.Table.{len}
 use Rattle.vrf_store.specs.Store.{Store, allowancesOf, headerOf, storeOf}
 use Rattle.vrf_store.specs.Inner.WellFormed.{WellFormed}
@@ -14,7 +15,7 @@ use Rattle.vrf_store.specs.Inner.Stepped.{held}
 
 -- the record whose path is the text at this place of the store
 abbrev pub guidOf : Store → (guid at len outer : ℕ) → Guid
-guidOf s guid at len outer = record { guid = guid; path = part (s .texts) at len; outer = outer }
+guidOf s guid at len outer = newGuid guid (part (s .texts) at len) outer
 
 -- ---- adding a record
 

@@ -1,4 +1,4 @@
--- Laws about the check: it accepts exactly the valid stores, its steps in code are the same check, and a valid store holds a lawful book.
+-- Laws about the check: it accepts exactly the valid stores, and a valid store holds a lawful book.
 pub mod Check
 pub mod Valid
 pub mod Steps

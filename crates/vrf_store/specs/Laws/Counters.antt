@@ -8,7 +8,7 @@ use Rattle.vrf_bitio.specs.Bits.{Bytes}
 use Rattle.vrf_words.specs.Words.{word}
 use Rattle.vrf_words.specs.Inner.Words.{setWord}
 use Rattle.vrf_words.specs.Laws.Words.{length-setWord, word-bound}
-use Rattle.vrf_model.specs.Book.{Counters, addCounters, stepped}
+use Rattle.vrf_model.specs.Book.{Counters, Increments, addIncrements, stepped}
 use Rattle.vrf_model.specs.Setting.{schemaStep, guidStep, droppedStep, replacedStep, renamedStep, clearStep}
 use Rattle.vrf_store.specs.Layout
 use Rattle.vrf_store.specs.Store.{Header, Store, headerOf, long, countersOf, storeBy, contentOf}
@@ -22,7 +22,7 @@ use Rattle.vrf_store.specs.Laws.Memory.HeaderWords.{Has, has-now, has-he
 
 -- ---- what a step leaves, and several steps
 
-module _ {m m′ : List ℕ} {t : Counters} (k : CountersStepped m m′ t) where
+module _ {m m′ : List ℕ} {t : Increments} (k : CountersStepped m m′ t) where
   pub counted-held : held m′ ≡ held m
   counted-held = ap contentOf (k .store)
 
@@ -33,14 +33,14 @@ module _ {m m′ : List ℕ} {t : Counters} (k : CountersStepped m m′ t) where
   }
 
 -- two steps are one step by their sum
-pub stepped-both : (c s t : Counters) → stepped (stepped c s) t ≡ stepped c (addCounters s t)
-unfolding stepped addCounters
+pub stepped-both : (c : Counters) (s t : Increments) → stepped (stepped c s) t ≡ stepped c (addIncrements s t)
+unfolding stepped addIncrements
 stepped-both c s t = rw (both (c .schema) (s .schema) (t .schema), both (c .guid) (s .guid) (t .guid), both (c .dropped) (s .dropped) (t .dropped), both (c .replaced) (s .replaced) (t .replaced), both (c .renamed) (s .renamed) (t .renamed))
   where
     both : (x y z : ℕ) → ((x + y) % 2 ^ 64 + z) % 2 ^ 64 ≡ (x + (y + z)) % 2 ^ 64
     both x y z = omega arith
 
-counted-both : {m y z : List ℕ} {s t : Counters} → CountersStepped m y s → CountersStepped y z t → CountersStepped m z (addCounters s t)
+counted-both : {m y z : List ℕ} {s t : Increments} → CountersStepped m y s → CountersStepped y z t → CountersStepped m z (addIncrements s t)
 counted-both {m} {s = s} {t = t} a b = record {
   store = b .store ∙ a .store;
   counters = b .counters ∙ ap (λ (c : Counters). stepped c t) (a .counters) ∙ stepped-both (countersOf m) s t;
@@ -49,12 +49,12 @@ counted-both {m} {s = s} {t = t} a b = record {
 
 -- a group replaced: steps the schema generation and the replaced counter
 pub counted-replacing : {m y z : List ℕ} → CountersStepped m y schemaStep → CountersStepped y z replacedAlone → CountersStepped m z replacedStep
-unfolding addCounters schemaStep replacedAlone replacedStep
+unfolding addIncrements schemaStep replacedAlone replacedStep
 counted-replacing a b = counted-both a b
 
 -- a book cleared: steps both generations
 pub counted-clearing : {m y z : List ℕ} → CountersStepped m y schemaStep → CountersStepped y z guidStep → CountersStepped m z clearStep
-unfolding addCounters schemaStep guidStep clearStep
+unfolding addIncrements schemaStep guidStep clearStep
 counted-clearing a b = counted-both a b
 
 -- ---- adding one to a counter
@@ -70,7 +70,7 @@ module _ (m : List ℕ) (b : Bytes m) (space : 128 ≤ length m) where
     has = has-word (has-word (has-now m) space i (v % 2 ^ 32) (omega (arith, low)) (omega arith) refl) space (i + 1) (v / 2 ^ 32) (omega (arith, low)) (omega (arith, small)) e
 
     -- the two words written are words of no other number of the header
-    counted : (t : Counters) → headerBy (wordTo (wordTo (word m) i (v % 2 ^ 32)) (i + 1) (v / 2 ^ 32)) ≡ headerOf m → countersBy (wordTo (wordTo (word m) i (v % 2 ^ 32)) (i + 1) (v / 2 ^ 32)) ≡ stepped (countersOf m) t → CountersStepped m m′ t
+    counted : (t : Increments) → headerBy (wordTo (wordTo (word m) i (v % 2 ^ 32)) (i + 1) (v / 2 ^ 32)) ≡ headerOf m → countersBy (wordTo (wordTo (word m) i (v % 2 ^ 32)) (i + 1) (v / 2 ^ 32)) ≡ stepped (countersOf m) t → CountersStepped m m′ t
     counted t h c =
         let first : 128 ≤ length (setWord m i (v % 2 ^ 32)) = omega (arith, space, length-setWord m i (v % 2 ^ 32) (omega (arith, space, low))) in
         record {

@@ -6,17 +6,19 @@ use mathlib.Core.Option.{Option, none, some}
 use Prim.Native.Nat.{ℕ, zero, suc, _+_, _*_, _/_, _%_, _<_, _≤_}
 use native.Mathlib.Nat.{not-suc-le-zero, le-of-suc-le-suc, add-zero}
 use native.Mathlib.Omega.{arith}
-use lib.ListN.{length, getD, take, List·getD-eq-default}
+use lib.ListN.{length, getD, set, take, List·getD-eq-default}
 use borrow.Author.Tests.{eqb-true}
-use Rattle.vrf_text.specs.Laws.Cases.{by-cond}
+use Rattle.vrf_bitio.specs.Laws.Cases.{by-cond}
 use Rattle.vrf_path.specs.Keys.{hasKey, keyIs}
 use Rattle.vrf_path.specs.Leaf.{leaf}
 use Rattle.vrf_path.specs.Base.{leafBase}
 use Rattle.vrf_path.specs.Laws.Keys.{has-by-parts}
 use Rattle.vrf_model.specs.Book.{Guid, Group, empty}
 use Rattle.vrf_model.specs.Lookup
-use Rattle.vrf_model.specs.Lookup.{placeOr, pathPlace, indexPlace, guidPlace, slotAt, Claim, absent, ambiguous, claimed, hasLeaf, claimWithHead, leafClaim}
-use Rattle.vrf_model.specs.Laws.Places.{placeOr-at}
+use Rattle.vrf_model.specs.Lookup.{placeOr, pathPlace, indexPlace, guidPlace, slotAt, Claim, absent, ambiguous, claimed, hasLeaf, placesFrom, claimOfPlaces, leafClaim}
+use Rattle.vrf_model.specs.Setting.{alter}
+use Rattle.vrf_model.specs.Laws.Claims.{claimWithHead, claim-cons}
+use Rattle.vrf_model.specs.Laws.Places.{placeOr-at, alter-set}
 use Rattle.vrf_table.specs.Chain.{lastBelow}
 use Rattle.vrf_table.specs.Index.{claimUnlessSecond, claimFrom}
 use Rattle.vrf_table.specs.Table.{key, info, text, keyHit, findKey}
@@ -65,6 +67,12 @@ module _ (s : Store) {B : Type 0} (d : B) (i : ℕ) where
     pub group-past : s .header .groups ≤ i → placeOr f d (contentOf s .groups) i ≡ d
     unfolding contentOf
     group-past = placeOr-past f d (groupBy s (s .header .fields)) (s .header .groups) i
+
+pub group-altered : (s : Store) (i : ℕ) (f : Group → Group) → i < s .header .groups → alter f (contentOf s .groups) i ≡ set (contentOf s .groups) i (f (groupBy s (s .header .fields) i))
+unfolding contentOf
+group-altered s i f h =
+    let by = groupBy s (s .header .fields) in
+    alter-set f (upTo by (s .header .groups)) i (by i) (rw length-upTo h) ∙ ap (λ (g : Group). set (upTo by (s .header .groups)) i (f g)) (getD-upTo by (s .header .groups) i (by i) h)
 
 -- ---- finding by GUID and by path-name index
 
@@ -151,14 +159,14 @@ again-head false n (claimed i) = refl
 module _ (l : List ℕ) (g : Group) where
   -- one more group, which has the leaf or not
   leaf-hit : (gs : List Group) → hasLeaf l g ≡ true → leafClaim l (gs ++ (g ∷ [])) ≡ again (length gs) (leafClaim l gs)
-  unfolding leafClaim claimWithHead
+  unfolding claimWithHead leafClaim placesFrom claimOfPlaces
   leaf-hit [] e = rw e
-  leaf-hit (x ∷ gs) e = rw (leaf-hit gs e) (again-head (hasLeaf l x) (length gs) (leafClaim l gs))
+  leaf-hit (x ∷ gs) e = rw (claim-cons l x (gs ++ (g ∷ [])), claim-cons l x gs, leaf-hit gs e) (again-head (hasLeaf l x) (length gs) (leafClaim l gs))
 
   leaf-miss : (gs : List Group) → hasLeaf l g ≡ false → leafClaim l (gs ++ (g ∷ [])) ≡ leafClaim l gs
-  unfolding leafClaim claimWithHead
+  unfolding leafClaim placesFrom
   leaf-miss [] e = rw e
-  leaf-miss (x ∷ gs) e = rw (leaf-miss gs e)
+  leaf-miss (x ∷ gs) e = rw (claim-cons l x (gs ++ (g ∷ [])), claim-cons l x gs, leaf-miss gs e)
 
 claim-again : (hit : ℕ → Bool) (n : ℕ) → claimUnlessSecond n (lastBelow hit n) ≡ again n (claimBelow hit n)
 unfolding claimBelow claimFrom claimUnlessSecond
@@ -173,7 +181,7 @@ claim-again hit n = go (lastBelow hit n)
     go (some i) = twice i (lastBelow hit i)
 
 pub leafClaim-upTo : (l : List ℕ) (f : ℕ → Group) (n : ℕ) → leafClaim l (upTo f n) ≡ claimBelow (λ e. hasLeaf l (f e)) n
-unfolding upTo leafClaim claimBelow claimFrom lastBelow
+unfolding upTo leafClaim placesFrom claimOfPlaces claimBelow claimFrom lastBelow
 leafClaim-upTo l f zero = refl
 leafClaim-upTo l f (suc n) =
     let hit : ℕ → Bool = λ e. hasLeaf l (f e) in

@@ -1,6 +1,6 @@
 -- `vrf_table::find_key` satisfies its contract: the rest of the chain gives the same row as the whole chain.
 use mathlib.Core.Path.{_≡_, refl, sym, ap, _∙_}
-use Prim.Native.Nat.{_-_, _≤_}
+use Prim.Native.Nat.{ℕ, _-_, _≤_}
 use native.Mathlib.Omega.{arith}
 use borrow.Author.Needs.{needs}
 use borrow.Author.Tests.{eq-eqb, ne-eqb}
@@ -19,6 +19,15 @@ Inv-loop rows heads b n k p₀ limit₀ p limit = (limit ≤ n) × (findKey rows
 abbrev μ-loop : tie.MeasureT-loop
 μ-loop rows heads b n k p₀ limit₀ p limit = limit
 
+abbrev start : tie.At-loop Inv-loop μ-loop → tie.Start Inv-loop μ-loop
+start c =
+    let back = c .before .before .before .before in
+    back .before
+
+-- the key of the row that the pointer points to
+abbrev its : tie.At-loop Inv-loop μ-loop → ℕ
+its c = key (now (start c .args .rows)) (c .loop .p - 1)
+
 get32-requires : tie.Need-get32-requires Inv-loop μ-loop
 get32-requires c κs =
     let x = c .before .before .before .args in
@@ -30,48 +39,27 @@ loop-holds c =
     let x = c .before .before .before .before .args in
     (omega arith, sym (ap (walk (keyHit (now (x .rows)) (x .k)) (link (now (x .rows))) (x .n)) (c .get32 .ensures ∙ ap (word (now (x .heads))) (c .before .key-bucket .ensures))))
 
-returns : tie.Need-returns Inv-loop μ-loop
-returns c =
-    let l = c .before .before .loop in
-    sym (l .inv .1 ∙ walk-beyond _ _ (l .limit) (l .p) (c .before .loop-test .taken) (c .if1 .taken))
-
 returns-2 : tie.Need-returns-2 Inv-loop μ-loop
 unfolding keyHit key
 returns-2 c =
-    let after-get64 = c .before in
-    let at-if1 = after-get64 .before in
-    let at-loop-test = at-if1 .before in
-    let at-loop = at-loop-test .before in
-    let back = at-loop .before .before .before .before in
-    let start = back .before in
-    let l = at-loop .loop in
-    let x = start .args in
-    sym (l .inv .1 ∙ walk-found _ _ (l .limit) (l .p) (at-loop-test .loop-test .taken) (at-if1 .if1 .left) refl (eq-eqb (key (now (x .rows)) (l .p - 1)) (x .k) (sym (after-get64 .get64 .ensures) ∙ c .if2 .taken)))
+    let row = c .before in
+    let turn = row .before .before in
+    walk-found _ _ _ _ (turn .before .loop .inv .1) (turn .loop-test .taken) (row .before .if1 .left) refl (eq-eqb (its (turn .before)) _ (sym (row .get64 .ensures) ∙ c .if2 .taken))
 
 loop-again : tie.Need-loop-again Inv-loop μ-loop
 unfolding keyHit key link
 loop-again c =
-    let at-if2 = c .before in
-    let after-get64 = at-if2 .before in
-    let at-if1 = after-get64 .before in
-    let at-loop-test = at-if1 .before in
-    let at-loop = at-loop-test .before in
-    let back = at-loop .before .before .before .before in
-    let start = back .before in
-    let l = at-loop .loop in
-    let x = start .args in
-    let other = ne-eqb (key (now (x .rows)) (l .p - 1)) (x .k) (λ e. at-if2 .if2 .left (after-get64 .get64 .ensures ∙ e)) in
-    (omega arith, l .inv .1 ∙ walk-on (keyHit (now (x .rows)) (x .k)) (link (now (x .rows))) (l .limit) (l .p) (at-loop-test .loop-test .taken) (at-if1 .if1 .left) refl other (c .get322 .ensures))
-
-returns-3 : tie.Need-returns-3 Inv-loop μ-loop
-returns-3 c =
-    let l = c .before .loop in
-    sym (l .inv .1 ∙ walk-ended _ _ (l .limit) (l .p) (c .loop-test .left))
+    let missed = c .before .before in
+    let turn = missed .before .before in
+    let x = start (turn .before) .args in
+    let other = ne-eqb (its (turn .before)) (x .k) (λ e. c .before .if2 .left (missed .get64 .ensures ∙ e)) in
+    (omega arith, walk-on (keyHit (now (x .rows)) (x .k)) (link (now (x .rows))) _ _ (turn .before .loop .inv .1) (turn .loop-test .taken) (missed .before .if1 .left) refl other (c .get322 .ensures))
 
 pub find-key-spec : {M : Type 1} → statement M
 find-key-spec =
     tie.close
     (tie.spec
-    Inv-loop μ-loop (λ c κs. search needs) (λ c. search needs) get32-requires loop-holds (λ c. search needs) returns
+    Inv-loop μ-loop (λ c κs. search needs) (λ c. search needs) get32-requires loop-holds (λ c. search needs)
+    (λ c. walk-beyond _ _ _ _ (c .before .before .loop .inv .1) (c .before .loop-test .taken) (c .if1 .taken))
     (λ c. search needs) (λ c. search needs) (λ c κs. search needs) returns-2 (λ c. search needs) (λ c κs. search needs)
-    (λ c. search needs) loop-again returns-3)
+    (λ c. search needs) loop-again (λ c. walk-ended _ _ _ _ (c .before .loop .inv .1) (c .loop-test .left)))

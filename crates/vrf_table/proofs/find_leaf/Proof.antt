@@ -1,5 +1,5 @@
 -- `vrf_table::find_leaf` satisfies its contract: the rest of the chain gives the same group as the whole chain.
-use mathlib.Core.Path.{_≡_, refl, sym, _∙_}
+use mathlib.Core.Path.{_≡_, refl}
 use mathlib.Core.List.{_++_}
 use Prim.Native.Nat.{_-_, _≤_}
 use native.Mathlib.Omega.{arith}
@@ -17,58 +17,32 @@ Inv-loop rows x links n p name suffix p₀ limit₀ p' limit = (limit ≤ n) × 
 abbrev μ-loop : tie.MeasureT-loop
 μ-loop rows x links n p name suffix p₀ limit₀ p' limit = limit
 
-returns : tie.Need-returns Inv-loop μ-loop
-returns c =
-    let l = c .before .before .loop in
-    sym (l .inv .1 ∙ walk-beyond _ _ (l .limit) (l .p) (c .before .loop-test .taken) (c .if1 .taken))
+loop-holds : tie.Need-loop-holds Inv-loop μ-loop
+loop-holds c = (omega arith, refl)
 
 leaf-hit-requires : tie.Need-leaf-hit-requires Inv-loop μ-loop
 leaf-hit-requires c κs =
     let at-loop = c .before .before in
     let back = at-loop .before .before .before .before in
-    let x = back .before .before in
-    let l = at-loop .loop in
-    (x .pre .0, omega arith, x .pre .3 (l .p - 1) (omega arith))
+    let needed = back .before .before .pre in
+    (needed .0, omega arith, needed .3 (at-loop .loop .p - 1) (omega arith))
 
 returns-2 : tie.Need-returns-2 Inv-loop μ-loop
 returns-2 c =
-    let after-leaf-hit = c .before in
-    let at-if1 = after-leaf-hit .before in
-    let at-loop-test = at-if1 .before in
-    let at-loop = at-loop-test .before in
-    let l = at-loop .loop in
-    sym (l .inv .1 ∙ walk-found _ _ (l .limit) (l .p) (at-loop-test .loop-test .taken) (at-if1 .if1 .left) (after-leaf-hit .leaf-hit .ensures) (c .if2 .taken))
+    let turn = c .before .before .before in
+    walk-found _ _ _ _ (turn .before .loop .inv .1) (turn .loop-test .taken) (c .before .before .if1 .left) (c .before .leaf-hit .ensures) (c .if2 .taken)
 
 loop-again : tie.Need-loop-again Inv-loop μ-loop
 loop-again c =
-    let at-if2 = c .before in
-    let after-leaf-hit = at-if2 .before in
-    let at-if1 = after-leaf-hit .before in
-    let at-loop-test = at-if1 .before in
-    let at-loop = at-loop-test .before in
-    let l = at-loop .loop in
-    (omega arith, l .inv .1 ∙ walk-on _ _ (l .limit) (l .p) (at-loop-test .loop-test .taken) (at-if1 .if1 .left) (after-leaf-hit .leaf-hit .ensures) (at-if2 .if2 .left) (c .get32 .ensures))
-
-returns-3 : tie.Need-returns-3 Inv-loop μ-loop
-returns-3 c =
-    let l = c .before .loop in
-    sym (l .inv .1 ∙ walk-ended _ _ (l .limit) (l .p) (c .loop-test .left))
-
-loop-holds : tie.Need-loop-holds Inv-loop μ-loop
-loop-holds c = (omega arith, refl)
-
-sub-e : tie.Need-sub-e Inv-loop μ-loop
-sub-e c = omega arith
-
-get32-requires : tie.Need-get32-requires Inv-loop μ-loop
-get32-requires c κs = omega arith
-
-loop-less : tie.Need-loop-less Inv-loop μ-loop
-loop-less c = omega arith
+    let missed = c .before .before in
+    let turn = missed .before .before in
+    (omega arith, walk-on _ _ _ _ (turn .before .loop .inv .1) (turn .loop-test .taken) (missed .before .if1 .left) (missed .leaf-hit .ensures) (c .before .if2 .left) (c .get32 .ensures))
 
 pub find-leaf-spec : {M : Type 1} → statement M
 find-leaf-spec =
     tie.close
     (tie.spec
-    Inv-loop μ-loop loop-holds sub-e returns leaf-hit-requires returns-2 (λ c. search needs) get32-requires loop-less
-    loop-again returns-3)
+    Inv-loop μ-loop loop-holds (λ c. omega arith)
+    (λ c. walk-beyond _ _ _ _ (c .before .before .loop .inv .1) (c .before .loop-test .taken) (c .if1 .taken))
+    leaf-hit-requires returns-2 (λ c. search needs) (λ c κs. omega arith) (λ c. omega arith) loop-again
+    (λ c. walk-ended _ _ _ _ (c .before .loop .inv .1) (c .loop-test .left)))

@@ -5,53 +5,38 @@ use Rattle.vrf_table.specs.Laws.Answers.{later-first, later-next}
 use Rattle.vrf_table.proofs.first_claim.Statement.{statement}
 use Rattle.vrf_table.proofs.first_claim.Tie as tie
 
+abbrev start : tie.After-claim-from → tie.Start
+start c =
+    let back = c .before .before .before .before in
+    back .before .before .before .before
+
 claim-from-requires : tie.Need-claim-from-requires
 claim-from-requires c κs =
     let back = c .before .before .before .before in
-    let start = back .before .before .before in
-    let p = start .pre in
+    let p = back .before .before .before .pre in
     (p .0, p .3, p .4, p .5, p .6)
 
 returns : tie.Need-returns
 unfolding firstAt
 returns c = later-first (c .before .claim-from .result) _ (c .before .claim-from .ensures) (c .if1 .taken)
 
-claim-from-requires-2 : tie.Need-claim-from-requires-2
-claim-from-requires-2 c κs =
-    let back = c .before .before .before .before in
-    let back2 = back .before .before .before .before in
-    let start = back2 .before in
-    let p = start .pre in
-    (p .1, p .3, p .4, p .5, p .6)
-
 returns-2 : tie.Need-returns-2
 unfolding firstAt
 returns-2 c =
-    let after-claim-from2 = c .before in
-    let at-if1 = after-claim-from2 .before in
-    let after-claim-from = at-if1 .before in
-    later-first (after-claim-from2 .claim-from2 .result) _ (after-claim-from2 .claim-from2 .ensures) (c .if2 .taken) ∙ sym (later-next (after-claim-from .claim-from .result) _ (after-claim-from .claim-from .ensures) (at-if1 .if1 .left))
-
-claim-from-requires-3 : tie.Need-claim-from-requires-3
-claim-from-requires-3 c κs =
-    let back = c .before .before .before .before in
-    let back2 = back .before .before .before .before in
-    let start = back2 .before .before .before in
-    let p = start .pre in
-    (p .2, p .3, p .4, p .5, p .6)
+    let second = c .before .claim-from2 in
+    let passed = c .before .before in
+    later-first (second .result) _ (second .ensures) (c .if2 .taken) ∙ sym (later-next (passed .before .claim-from .result) _ (passed .before .claim-from .ensures) (passed .if1 .left))
 
 returns-3 : tie.Need-returns-3
 unfolding firstAt
 returns-3 c =
-    let at-if2 = c .before in
-    let after-claim-from2 = at-if2 .before in
-    let at-if1 = after-claim-from2 .before in
-    let after-claim-from = at-if1 .before in
-    c .claim-from3 .ensures
-    ∙ sym (later-next (after-claim-from2 .claim-from2 .result) _ (after-claim-from2 .claim-from2 .ensures) (at-if2 .if2 .left))
-    ∙ sym (later-next (after-claim-from .claim-from .result) _ (after-claim-from .claim-from .ensures) (at-if1 .if1 .left))
+    let second = c .before .before .claim-from2 in
+    let passed = c .before .before .before in
+    c .claim-from3 .ensures ∙ sym (later-next (second .result) _ (second .ensures) (c .before .if2 .left)) ∙ sym (later-next (passed .before .claim-from .result) _ (passed .before .claim-from .ensures) (passed .if1 .left))
 
 pub first-claim-spec : {M : Type 1} → statement M
 first-claim-spec =
     tie.close
-    (tie.spec claim-from-requires returns claim-from-requires-2 returns-2 claim-from-requires-3 returns-3)
+    (tie.spec
+    claim-from-requires returns (λ c κs. let p = start (c .before) .pre in (p .1, p .3, p .4, p .5, p .6)) returns-2
+    (λ c κs. let p = start (c .before .before .before) .pre in (p .2, p .3, p .4, p .5, p .6)) returns-3)

@@ -21,8 +21,7 @@ returns c =
 add-result : tie.Need-add-result
 add-result c =
     let after-key-hash2 = c .before in
-    let start = after-key-hash2 .before .before in
-    omega (arith, c .bucket-of2 .ensures, bucket-lt (start .args .b - 63) (after-key-hash2 .key-hash2 .result) (omega arith) (after-key-hash2 .key-hash2 .ensures .1))
+    omega (arith, c .bucket-of2 .ensures, bucket-lt (after-key-hash2 .before .before .args .b - 63) (after-key-hash2 .key-hash2 .result) (omega arith) (after-key-hash2 .key-hash2 .ensures .1))
 
 returns-2 : tie.Need-returns-2
 unfolding keyBucket

@@ -15,8 +15,7 @@ returns : tie.Need-returns
 unfolding leafBucket
 returns c =
     let after-leaf-base = c .before .before in
-    let start = after-leaf-base .before .before in
-    c .text-bucket .ensures ∙ ap (textBucket (start .args .b)) (after-leaf-base .leaf-base .ensures .0)
+    c .text-bucket .ensures ∙ ap (textBucket (after-leaf-base .before .before .args .b)) (after-leaf-base .leaf-base .ensures .0)
 
 pub leaf-bucket-spec : {M : Type 1} → statement M
 leaf-bucket-spec =

@@ -32,8 +32,7 @@ returns c =
     let after-get32 = c .before .before in
     let after-leaf-bucket = after-get32 .before in
     let back = after-leaf-bucket .before .before .before .before in
-    let at-start = back .before .before in
-    let x = at-start .args in
+    let x = back .before .before .args in
     let start = after-get32 .get32 .ensures ∙ ap (word (now (x .heads))) (after-leaf-bucket .leaf-bucket .ensures) in
     let found = rw (append-nil (now (x .l))) at (c .claim-from .ensures) in
     (after-leaf-bucket .leaf-bucket .ensures, found ∙ ap (λ (p : ℕ). claimAt (now (x .rows)) (now (x .x)) (now (x .links)) (x .n) p (now (x .l))) start)

@@ -18,16 +18,14 @@ returns c =
 returns-2 : tie.Need-returns-2
 returns-2 c =
     let back = c .before .before .before .before in
-    let start = back .before in
-    let x = start .args in
+    let x = back .before .args in
     let size = length-append (now (x .name)) (now (x .suffix)) in
     sym (leaf-not (now (x .path)) (now (x .name) ++ now (x .suffix)) (λ is. omega (arith, is .shorter, size, c .if2 .taken)))
 
 returns-3 : tie.Need-returns-3
 returns-3 c =
     let back = c .before .before .before .before in
-    let start = back .before .before .before in
-    let x = start .args in
+    let x = back .before .before .before .args in
     let size = length-append (now (x .name)) (now (x .suffix)) in
     sym (leaf-not (now (x .path)) (now (x .name) ++ now (x .suffix)) (λ is. c .if3 .taken (rw size at (is .dot))))
 

@@ -7,7 +7,7 @@ use native.Mathlib.Omega.{arith}
 use native.Mathlib.Nat.{not-suc-le-zero}
 use lib.Dec.{eqb}
 use borrow.Author.Tests.{eqb-true, eqb-false, eq-eqb, ne-eqb}
-use Rattle.vrf_text.specs.Laws.Cases.{by-cond, clash}
+use Rattle.vrf_bitio.specs.Laws.Cases.{by-cond, clash}
 use Rattle.vrf_table.specs.Chain.{walk, lastBelow}
 
 pub by-equal : {P : Type 0} (a b : ℕ) → (a ≡ b → P) → ((a ≡ b → ⊥) → P) → P

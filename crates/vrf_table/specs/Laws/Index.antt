@@ -5,7 +5,7 @@ use mathlib.Core.Bool.{Bool, true, false, cond}
 use mathlib.Core.Option.{Option, none, some}
 use Prim.Native.Nat.{ℕ, suc, _<_, _≤_}
 use native.Mathlib.Omega.{arith}
-use Rattle.vrf_text.specs.Laws.Cases.{clash}
+use Rattle.vrf_bitio.specs.Laws.Cases.{clash}
 use Rattle.vrf_model.specs.Lookup.{Claim, absent, ambiguous, claimed}
 use Rattle.vrf_table.specs.Chain.{walk, lastBelow}
 use Rattle.vrf_table.specs.Index.{claimUnlessSecond, claimFrom, claimWalk}

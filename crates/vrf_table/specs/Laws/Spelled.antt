@@ -8,7 +8,7 @@ use lib.ListN.{length, take, drop, set, length-append, length-take, length-drop,
 use lib.Seq.{take-at, take-all, drop-drop}
 use Rattle.vrf_bitio.specs.Pasted.{pasted}
 use Rattle.vrf_bitio.specs.Laws.Pasted.{pasted-nil, pasted-cons, pasted-append, pasted-front, pasted-length}
-use Rattle.vrf_text.specs.Laws.Cases.{by-order}
+use Rattle.vrf_bitio.specs.Laws.Cases.{by-order}
 use Rattle.vrf_path.specs.Keys.{defaultPrefix, charactersCore}
 use Rattle.vrf_path.specs.Answers.{keyBytes}
 use Rattle.vrf_path.specs.declared.Key.{Key}

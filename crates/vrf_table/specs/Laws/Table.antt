@@ -9,7 +9,7 @@ use native.Mathlib.Nat.{mul-lt-mul-of-pos-right}
 use lib.Dec.{ltb}
 use lib.ListN.{length}
 use borrow.Author.Tests.{ltb-false}
-use Rattle.vrf_text.specs.Laws.Cases.{by-cond}
+use Rattle.vrf_bitio.specs.Laws.Cases.{by-cond}
 use Rattle.vrf_words.specs.Words.{word}
 use Rattle.vrf_words.specs.Inner.Words.{setWord}
 use Rattle.vrf_words.specs.Laws.Words.{length-setWord, word-setWord-same, word-setWord-other}

@@ -2,17 +2,12 @@
 use native.Mathlib.Omega.{arith}
 use lib.ListN.{length-take}
 use borrow.Author.Needs.{needs}
-use denote.Ref.{now}
 use Rattle.vrf_text.proofs.Ascii.{clear-at}
 use Rattle.vrf_text.proofs.ascii_at.Statement.{statement}
 use Rattle.vrf_text.proofs.ascii_at.Tie as tie
 
 returns-3 : tie.Need-returns-3
-returns-3 c =
-    let back = c .before .before .before .before in
-    let start = back .before in
-    let a = start .args in
-    clear-at (now (a .s)) (a .p) (a .n) (c .clear-run .result) (omega (arith, simp length-take at (c .clear-run .ensures .0))) (c .clear-run .ensures .1)
+returns-3 c = clear-at _ _ _ (c .clear-run .result) (omega (arith, simp length-take at (c .clear-run .ensures .0))) (c .clear-run .ensures .1)
 
 pub ascii-at-spec : {M : Type 1} → statement M
 ascii-at-spec =

@@ -3,19 +3,15 @@ use mathlib.Core.Bool.{false≢true}
 use native.Mathlib.Omega.{arith}
 use borrow.Author.Needs.{needs}
 use borrow.Author.Tests.{eqb-true}
-use denote.Ref.{now}
 use Rattle.vrf_text.proofs.Ascii.{four}
 use Rattle.vrf_text.proofs.clear_32.Statement.{statement}
 use Rattle.vrf_text.proofs.clear_32.Tie as tie
 
 returns-2 : tie.Need-returns-2
-returns-2 c = let c1 = c .before in
-    let c2 = c1 .before in
-    let c3 = c2 .before in
-    let c4 = c3 .before in
-    let c5 = c4 .before in
-    let c6 = c5 .before in
-    λ e. (c4 .if1 .left, four (now (c6 .args .s)) (λ k. omega (arith, c5 .shared-slice-known .given k)) (c6 .args .b) (omega arith) (c3 .bits-at .ensures) (c2 .bits-at2 .ensures) (c1 .bits-at3 .ensures) (c .bits-at4 .ensures) (eqb-true _ _ e))
+returns-2 c =
+    let after-bits-at2 = c .before .before in
+    let at-if1 = after-bits-at2 .before .before in
+    λ e. (at-if1 .if1 .left, four _ (λ k. omega (arith, at-if1 .before .shared-slice-known .given k)) _ (omega arith) (after-bits-at2 .before .bits-at .ensures) (after-bits-at2 .bits-at2 .ensures) (c .before .bits-at3 .ensures) (c .bits-at4 .ensures) (eqb-true _ _ e))
 
 returns : tie.Need-returns
 returns c = λ e. absurd (false≢true e)

@@ -22,11 +22,9 @@ returns : tie.Need-returns Inv-loop μ-loop
 returns c = c .before .before .before .before .loop .inv
 
 loop-again : tie.Need-loop-again Inv-loop μ-loop
-loop-again c = let c1 = c .before in
-    let c4 = c1 .before .before .before in
-    let c6 = c4 .before .before in
-    let l = c4 .loop in
-    block (now (c6 .args .s)) (c6 .args .b) (l .i) (l .inv .1) (c1 .clear-32 .ensures (not-false _ (c .if1 .left)))
+loop-again c =
+    let at-loop = c .before .before .before .before in
+    block (now (at-loop .before .before .args .s)) _ (at-loop .loop .i) (at-loop .loop .inv .1) (c .before .clear-32 .ensures (not-false _ (c .if1 .left)))
 
 returns-2 : tie.Need-returns-2 Inv-loop μ-loop
 returns-2 c = c .before .loop .inv

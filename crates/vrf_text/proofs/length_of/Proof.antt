@@ -1,37 +1,22 @@
 -- `vrf_text::length_of` satisfies its contract.
-use Rattle.vrf_text.proofs.Signs.{negative, neg-cast, neg-add, neg-length, natural, zero-length, nat-cast, nat-length}
+use borrow.Author.Needs.{needs}
+use Rattle.vrf_bitio.specs.Laws.Signed.{is-zero, below-zero, above-zero}
 use Rattle.vrf_text.proofs.length_of.Statement.{statement}
 use Rattle.vrf_text.proofs.length_of.Tie as tie
 
-sub-t3 : tie.Need-sub-t3
-sub-t3 c = (negative (c .before .args .n) (c .before .fits .n) (c .if1 .taken)) .fits
-
-cast-t4 : tie.Need-cast-t4
-cast-t4 c = neg-cast (negative (c .before .args .n) (c .before .fits .n) (c .if1 .taken))
-
-add-t5 : tie.Need-add-t5
-add-t5 c = neg-add (negative (c .before .args .n) (c .before .fits .n) (c .if1 .taken))
-
 returns : tie.Need-returns
-returns c = neg-length (negative (c .before .args .n) (c .before .fits .n) (c .if1 .taken))
+returns c =
+    let m = below-zero _ (c .before .before .fits .n) (c .magnitude .ensures) (c .before .if1 .taken) in
+    (m .1, m .0)
 
 returns-2 : tie.Need-returns-2
-returns-2 c =
-    let at-if1 = c .before in
-    let start = at-if1 .before in
-    zero-length (start .args .n) (natural (start .args .n) (start .fits .n) (at-if1 .if1 .left)) (c .if2 .taken)
-
-cast-t6 : tie.Need-cast-t6
-cast-t6 c =
-    let at-if1 = c .before in
-    let start = at-if1 .before in
-    nat-cast (start .args .n) (natural (start .args .n) (start .fits .n) (at-if1 .if1 .left))
+returns-2 c = is-zero _ (c .before .before .fits .n) (c .if2 .taken)
 
 returns-3 : tie.Need-returns-3
 returns-3 c =
-    let at-if1 = c .before in
-    let start = at-if1 .before in
-    nat-length (start .args .n) (natural (start .args .n) (start .fits .n) (at-if1 .if1 .left)) (c .if2 .left)
+    let at-if1 = c .before .before in
+    let m = above-zero _ (at-if1 .before .fits .n) (c .magnitude2 .ensures) (at-if1 .if1 .left) (c .before .if2 .left) in
+    (m .1, m .0)
 
 pub length-of-spec : {M : Type 1} → statement M
-length-of-spec = tie.close (tie.spec sub-t3 cast-t4 add-t5 returns returns-2 cast-t6 returns-3)
+length-of-spec = tie.close (tie.spec (λ c κs. search needs) returns returns-2 (λ c κs. search needs) returns-3)

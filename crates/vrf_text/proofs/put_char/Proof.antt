@@ -2,62 +2,53 @@
 use native.Mathlib.Omega.{arith}
 use lib.ListN.{length-set}
 use borrow.Author.Needs.{needs}
-use denote.Ref.{now}
 use Rattle.vrf_text.proofs.CharWrites.{length-1, length-2, length-3, length-4, put-1, put-2, put-3, put-4}
 use Rattle.vrf_text.proofs.put_char.Statement.{statement}
 use Rattle.vrf_text.proofs.put_char.Tie as tie
 
 slice-write-out : tie.Need-slice-write-out
-slice-write-out c = omega (arith, length-1 (c .before .args .u) (c .if1 .taken))
+slice-write-out c = omega (arith, length-1 _ (c .if1 .taken))
 
 returns : tie.Need-returns
-returns c =
-    let start = c .before in
-    (omega (arith, length-1 (start .args .u) (c .if1 .taken)), put-1 (now (start .args .out)) (start .args .at) (start .args .u) (start .pre .1) (c .if1 .taken))
+returns c = (omega (arith, length-1 _ (c .if1 .taken)), put-1 _ _ _ (c .before .pre .1) (c .if1 .taken))
 
 slice-write-out-2 : tie.Need-slice-write-out-2
-slice-write-out-2 c = omega (arith, length-2 (c .before .before .args .u) (c .before .if1 .left) (c .if2 .taken))
+slice-write-out-2 c = omega (arith, length-2 _ (c .before .if1 .left) (c .if2 .taken))
 
 slice-write-out-3 : tie.Need-slice-write-out-3
-slice-write-out-3 c = simp length-set (omega (arith, length-2 (c .before .before .args .u) (c .before .if1 .left) (c .if2 .taken)))
+slice-write-out-3 c = simp length-set (omega (arith, length-2 _ (c .before .if1 .left) (c .if2 .taken)))
 
 returns-2 : tie.Need-returns-2
-returns-2 c =
-    let at-if1 = c .before in
-    let start = at-if1 .before in
-    (omega (arith, length-2 (start .args .u) (at-if1 .if1 .left) (c .if2 .taken)), put-2 (now (start .args .out)) (start .args .at) (start .args .u) (start .pre .1) (at-if1 .if1 .left) (c .if2 .taken))
+returns-2 c = (omega (arith, length-2 _ (c .before .if1 .left) (c .if2 .taken)), put-2 _ _ _ (c .before .before .pre .1) (c .before .if1 .left) (c .if2 .taken))
 
 slice-write-out-4 : tie.Need-slice-write-out-4
-slice-write-out-4 c = omega (arith, length-3 (c .before .before .before .args .u) (c .before .if2 .left) (c .if3 .taken))
+slice-write-out-4 c = omega (arith, length-3 _ (c .before .if2 .left) (c .if3 .taken))
 
 slice-write-out-5 : tie.Need-slice-write-out-5
-slice-write-out-5 c = simp length-set (omega (arith, length-3 (c .before .before .before .args .u) (c .before .if2 .left) (c .if3 .taken)))
+slice-write-out-5 c = simp length-set (omega (arith, length-3 _ (c .before .if2 .left) (c .if3 .taken)))
 
 slice-write-out-6 : tie.Need-slice-write-out-6
-slice-write-out-6 c = simp length-set (omega (arith, length-3 (c .before .before .before .args .u) (c .before .if2 .left) (c .if3 .taken)))
+slice-write-out-6 c = simp length-set (omega (arith, length-3 _ (c .before .if2 .left) (c .if3 .taken)))
 
 returns-3 : tie.Need-returns-3
-returns-3 c = let c1 = c .before in
-    let c3 = c1 .before .before in
-    let a = c3 .args in
-    (omega (arith, length-3 (a .u) (c1 .if2 .left) (c .if3 .taken)), put-3 (now (a .out)) (a .at) (a .u) (c3 .pre .1) (c1 .if2 .left) (c .if3 .taken))
+returns-3 c =
+    let at-if2 = c .before in
+    (omega (arith, length-3 _ (at-if2 .if2 .left) (c .if3 .taken)), put-3 _ _ _ (at-if2 .before .before .pre .1) (at-if2 .if2 .left) (c .if3 .taken))
 
 slice-write-out-7 : tie.Need-slice-write-out-7
-slice-write-out-7 c = omega (arith, length-4 (c .before .before .before .args .u) (c .if3 .left))
+slice-write-out-7 c = omega (arith, length-4 _ (c .if3 .left))
 
 slice-write-out-8 : tie.Need-slice-write-out-8
-slice-write-out-8 c = simp length-set (omega (arith, length-4 (c .before .before .before .args .u) (c .if3 .left)))
+slice-write-out-8 c = simp length-set (omega (arith, length-4 _ (c .if3 .left)))
 
 slice-write-out-9 : tie.Need-slice-write-out-9
-slice-write-out-9 c = simp length-set (omega (arith, length-4 (c .before .before .before .args .u) (c .if3 .left)))
+slice-write-out-9 c = simp length-set (omega (arith, length-4 _ (c .if3 .left)))
 
 slice-write-out-10 : tie.Need-slice-write-out-10
-slice-write-out-10 c = simp length-set (omega (arith, length-4 (c .before .before .before .args .u) (c .if3 .left)))
+slice-write-out-10 c = simp length-set (omega (arith, length-4 _ (c .if3 .left)))
 
 returns-4 : tie.Need-returns-4
-returns-4 c = let c3 = c .before .before .before in
-    let a = c3 .args in
-    (omega (arith, length-4 (a .u) (c .if3 .left)), put-4 (now (a .out)) (a .at) (a .u) (c3 .pre .1) (c .if3 .left))
+returns-4 c = (omega (arith, length-4 _ (c .if3 .left)), put-4 _ _ _ (c .before .before .before .pre .1) (c .if3 .left))
 
 pub put-char-spec : {M : Type 1} → statement M
 put-char-spec =

@@ -1,54 +1,45 @@
 -- `vrf_text::read_fstring` satisfies its contract: it tests the text, and then copies it if the target is long enough.
-use mathlib.Core.Path.{refl, subst}
-use lib.ListN.{length}
+use mathlib.Core.Path.{_≡_, refl}
 use borrow.Author.Needs.{needs}
 use denote.Ref.{now}
 use Rattle.vrf_bitio.specs.Answers.{readAt}
 use Rattle.vrf_text.specs.Text.{fstring}
 use Rattle.vrf_text.specs.Inner.Steps.{FoundAnswer}
+use Rattle.vrf_text.specs.declared.FoundText.{FoundText}
 use Rattle.vrf_text.proofs.Takes.{text-refused, text-then}
 use Rattle.vrf_text.proofs.read_fstring.Statement.{statement}
 use Rattle.vrf_text.proofs.read_fstring.Tie as tie
 
+-- the text that was found
+found : (c : tie.After-find-text) {r : FoundText} → c .find-text .result ≡ r → let a = c .before .before .before .args in FoundAnswer (now (a .s)) (a .c) (readAt (now (a .s)) (a .c) fstring) r
+found c e = rw e at (c .find-text .ensures)
+
 take-bytes-requires : tie.Need-take-bytes-requires
-take-bytes-requires c κs = let c2 = c .before .before in
-    let c4 = c2 .before .before in
-    let c7 = c4 .before .before .before in
-    let a = c7 .args in
-    (subst (FoundAnswer (now (a .s)) (a .c) (readAt (now (a .s)) (a .c) fstring)) (c2 .at .given .1) (c4 .find-text .ensures)) .1
+take-bytes-requires c κs =
+    let at-at = c .before .before in
+    found (at-at .before .before) (at-at .at .given .1) .1
 
 take-units-requires : tie.Need-take-units-requires
-take-units-requires c κs = let c2 = c .before .before in
-    let c4 = c2 .before .before in
-    let c7 = c4 .before .before .before in
-    let a = c7 .args in
-    let f = subst (FoundAnswer (now (a .s)) (a .c) (readAt (now (a .s)) (a .c) fstring)) (c2 .at2 .given .1) (c4 .find-text .ensures) in
+take-units-requires c κs =
+    let at-at2 = c .before .before in
+    let f = found (at-at2 .before .before) (at-at2 .at2 .given .1) in
     (f .1 .1 .1 .1, (f .0, (f .1 .1 .0, f .1 .1 .1 .0)))
 
 returns : tie.Need-returns
-returns c = let c1 = c .before in
-    let c3 = c1 .before .before in
-    let c6 = c3 .before .before .before in
-    let a = c6 .args in
-    (text-refused (now (a .s)) (a .c) (length (now (a .out))) _ (subst (FoundAnswer (now (a .s)) (a .c) (readAt (now (a .s)) (a .c) fstring)) (c1 .r .given .1) (c3 .find-text .ensures)), refl)
+returns c = (text-refused _ _ _ _ (found (c .before .before .before) (c .before .r .given .1)), refl)
 
 returns-2 : tie.Need-returns-2
-returns-2 c = let c2 = c .before .before in
-    let c5 = c2 .before .before .before in
-    let c7 = c5 .before .before in
-    let c10 = c7 .before .before .before in
-    let a = c10 .args in
-    let f = subst (FoundAnswer (now (a .s)) (a .c) (readAt (now (a .s)) (a .c) fstring)) (c5 .at .given .1) (c7 .find-text .ensures) in
-    text-then (now (a .s)) (a .c) (length (now (a .out))) (f .0) (now (a .out)) (c2 .take-bytes .last .1 .1 .1 .1 .0) (c2 .take-bytes .result) (c2 .take-bytes .ensures)
+returns-2 c =
+    let after-take-bytes = c .before .before in
+    let at-at = after-take-bytes .before .before .before in
+    text-then _ _ _ (found (at-at .before .before) (at-at .at .given .1) .0) _ _ (after-take-bytes .take-bytes .result) (after-take-bytes .take-bytes .ensures)
 
 returns-3 : tie.Need-returns-3
-returns-3 c = let c2 = c .before .before in
-    let c5 = c2 .before .before .before in
-    let c7 = c5 .before .before in
-    let c10 = c7 .before .before .before in
-    let a = c10 .args in
-    let f = subst (FoundAnswer (now (a .s)) (a .c) (readAt (now (a .s)) (a .c) fstring)) (c5 .at2 .given .1) (c7 .find-text .ensures) in
-    text-then (now (a .s)) (a .c) (length (now (a .out))) (f .1 .0) (now (a .out)) (c2 .take-units .last .1 .1 .1 .1 .1 .0) (c2 .take-units .result) (c2 .take-units .ensures (f .0) (f .1 .1 .0))
+returns-3 c =
+    let after-take-units = c .before .before in
+    let at-at2 = after-take-units .before .before .before in
+    let f = found (at-at2 .before .before) (at-at2 .at2 .given .1) in
+    text-then _ _ _ (f .1 .0) _ _ (after-take-units .take-units .result) (after-take-units .take-units .ensures (f .0) (f .1 .1 .0))
 
 pub read-fstring-spec : {M : Type 1} → statement M
 read-fstring-spec =

@@ -6,10 +6,10 @@ use Rattle.vrf_text.proofs.step.Statement.{statement}
 use Rattle.vrf_text.proofs.step.Tie as tie
 
 returns : tie.Need-returns
-returns c = record { few = omega arith; passed = ascii-8 (c .before .args .w) (c .if1 .taken) }
+returns c = record { few = omega arith; passed = ascii-8 _ (c .if1 .taken) }
 
 returns-2 : tie.Need-returns-2
-returns-2 c = record { few = omega arith; passed = ascii-4 (c .before .before .args .w) (c .if2 .taken) }
+returns-2 c = record { few = omega arith; passed = ascii-4 _ (c .if2 .taken) }
 
 returns-3 : tie.Need-returns-3
 returns-3 c = record { few = omega arith; passed = c .char-len .ensures .passed }

@@ -11,35 +11,34 @@ use Rattle.vrf_text.proofs.take_bytes.Statement.{statement}
 use Rattle.vrf_text.proofs.take_bytes.Tie as tie
 
 returns : tie.Need-returns
-returns c = let c1 = c .before in
-    let c4 = c1 .before .before .before in
-    let a = c4 .args in
-    (target-short (now (a .s)) (a .next) (length (now (a .out))) (bytesOf (now (a .s)) (bitAt (a .c)) (a .n)) (a .n) (sym (bytes-length (now (a .s)) (bitAt (a .c)) (a .n))) (c1 .if1 .taken) (c .target-short .ensures), refl)
+returns c =
+    let a = c .before .before .before .before .args in
+    (target-short (now (a .s)) (a .next) (length (now (a .out))) (bytesOf (now (a .s)) (bitAt (a .c)) (a .n)) (a .n) (sym (bytes-length (now (a .s)) (bitAt (a .c)) (a .n))) (c .before .if1 .taken) (c .target-short .ensures), refl)
 
 returns-2 : tie.Need-returns-2
-returns-2 c = let c4 = c .before .before .before .before in
-    let c6 = c4 .before .before in
-    let c9 = c6 .before .before .before in
-    let a = c9 .args in (
-      bytesOf (now (a .s)) (bitAt (a .c)) (a .n),
+returns-2 c =
+    let after-copy-bits-to = c .before .before .before .before in
+    let at-if1 = after-copy-bits-to .before .before in
+    let start = at-if1 .before .before .before in (
+      bytesOf (now (start .args .s)) (bitAt (start .args .c)) (start .args .n),
       (
-        space (now (a .s)) (a .next) (length (now (a .out))) (bytesOf (now (a .s)) (bitAt (a .c)) (a .n)) (a .n) (sym (bytes-length (now (a .s)) (bitAt (a .c)) (a .n))) (c6 .if1 .left),
+        space (now (start .args .s)) (start .args .next) (length (now (start .args .out))) (bytesOf (now (start .args .s)) (bitAt (start .args .c)) (start .args .n)) (start .args .n) (sym (bytes-length (now (start .args .s)) (bitAt (start .args .c)) (start .args .n))) (at-if1 .if1 .left),
         (
-          sym (bytes-length (now (a .s)) (bitAt (a .c)) (a .n)),
-          copied-bytes (now (a .s)) (a .c) (length (now (a .out))) (a .n) (c6 .if1 .left) (c9 .pre)
-              (now (a .out)) (c4 .copy-bits-to .last .1 .1 .0) (c4 .copy-bits-to .ensures) (c .enum-told .given .1),
+          sym (bytes-length (now (start .args .s)) (bitAt (start .args .c)) (start .args .n)),
+          copied-bytes (now (start .args .s)) (start .args .c) (length (now (start .args .out))) (start .args .n) (at-if1 .if1 .left) (start .pre)
+              (now (start .args .out)) (after-copy-bits-to .copy-bits-to .last .1 .1 .0) (after-copy-bits-to .copy-bits-to .ensures) (c .enum-told .given .1),
         ),
       ),
     )
 
 returns-3 : tie.Need-returns-3
-returns-3 c = let c1 = c .before in
-    let c5 = c1 .before .before .before .before in
-    let c7 = c5 .before .before in
-    let c10 = c7 .before .before .before in
-    let a = c10 .args in
-    never-refused (now (a .s)) (a .c) (length (now (a .out))) (a .n) (c7 .if1 .left) (c10 .pre)
-    (now (a .out)) (c5 .copy-bits-to .last .1 .1 .0) (c5 .copy-bits-to .ensures) (c1 .r .given .1)
+returns-3 c =
+    let at-r = c .before in
+    let after-copy-bits-to = at-r .before .before .before .before in
+    let at-if1 = after-copy-bits-to .before .before in
+    let start = at-if1 .before .before .before in
+    never-refused (now (start .args .s)) _ (length (now (start .args .out))) _ (at-if1 .if1 .left) (start .pre)
+    (now (start .args .out)) (after-copy-bits-to .copy-bits-to .last .1 .1 .0) (after-copy-bits-to .copy-bits-to .ensures) (at-r .r .given .1)
 
 pub take-bytes-spec : {M : Type 1} → statement M
 take-bytes-spec =

@@ -10,12 +10,11 @@ use Rattle.vrf_text.proofs.take_units.Statement.{statement}
 use Rattle.vrf_text.proofs.take_units.Tie as tie
 
 returns : tie.Need-returns
-returns c = let c1 = c .before in
-    let c4 = c1 .before .before .before in
-    let a = c4 .args in
+returns c =
+    let start = c .before .before .before .before in
     λ v e. (
-      target-short (now (a .s)) (a .next) (length (now (a .out))) v (a .len)
-          (c4 .pre .1 .1 .1 ∙ ap length (one-text (c4 .pre .1 .1 .0) e)) (c1 .if1 .taken) (c .target-short .ensures),
+      target-short (now (start .args .s)) _ (length (now (start .args .out))) v _
+          (start .pre .1 .1 .1 ∙ ap length (one-text (start .pre .1 .1 .0) e)) (c .before .if1 .taken) (c .target-short .ensures),
       refl,
     )
 
@@ -26,17 +25,17 @@ put-units-requires c κs =
     (omega arith, start .pre .0, record { text = start .pre .1 .0; is = start .pre .1 .1 .0; fits = omega arith })
 
 returns-2 : tie.Need-returns-2
-returns-2 c = let c2 = c .before .before in
-    let c6 = c2 .before .before .before .before in
-    let c9 = c6 .before .before .before in
-    let a = c9 .args in
-    λ v e. let q = c9 .pre .1 .1 .1 ∙ ap length (one-text (c9 .pre .1 .1 .0) e) in (
+returns-2 c =
+    let after-put-units = c .before .before in
+    let at-if1 = after-put-units .before .before .before .before in
+    let start = at-if1 .before .before .before in
+    λ v e. let q = start .pre .1 .1 .1 ∙ ap length (one-text (start .pre .1 .1 .0) e) in (
       v,
       (
-        space (now (a .s)) (a .next) (length (now (a .out))) v (a .len) q (c6 .if1 .left),
+        space (now (start .args .s)) _ (length (now (start .args .out))) v _ q (at-if1 .if1 .left),
         (
           q,
-          c2 .put-units .ensures .wrote ∙ ap (pasted (now (a .out)) 0) (one-text (c2 .put-units .ensures .is) e),
+          after-put-units .put-units .ensures .wrote ∙ ap (pasted (now (start .args .out)) 0) (one-text (after-put-units .put-units .ensures .is) e),
         ),
       ),
     )

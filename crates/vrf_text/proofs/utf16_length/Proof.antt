@@ -15,47 +15,32 @@ Inv-loop s p n i₀ len₀ i len = Decoding (unitsOf s p n) i len × (i ≤ n + 
 abbrev μ-loop : tie.MeasureT-loop
 μ-loop s p n i₀ len₀ i len = n - i
 
-loop-holds : tie.Need-loop-holds Inv-loop μ-loop
-loop-holds c = (start (unitsOf (now (c .before .args .s)) (c .before .args .p) (c .before .args .n)), omega arith, omega arith)
-
 returns : tie.Need-returns Inv-loop μ-loop
-returns c = let c1 = c .before in
-    let c2 = c1 .before in
-    let c4 = c2 .before .before in
-    let c6 = c4 .before .before in
-    let a = c6 .args in
-    let l = c4 .loop in
-    bad (unitsOf (now (a .s)) (a .p) (a .n)) (l .i) (l .len) (l .inv .0) (c1 .char16 .result .code) (c1 .char16 .result .units) (c .if1 .taken)
-    (taken-at (now (a .s)) (a .p) (a .n) (l .i) (c1 .char16 .ensures) (c2 .units-at .ensures))
-
-add-i : tie.Need-add-i Inv-loop μ-loop
-add-i c = omega (arith, c .before .before .char16 .ensures .few)
+returns c =
+    let l = c .before .before .before .before .loop in
+    bad (unitsOf _ _ _) (l .i) (l .len) (l .inv .0) (c .before .char16 .result .code) (c .before .char16 .result .units) (c .if1 .taken)
+    (taken-at _ _ _ (l .i) (c .before .char16 .ensures) (c .before .before .units-at .ensures))
 
 loop-again : tie.Need-loop-again Inv-loop μ-loop
-loop-again c = let c1 = c .before in
-    let c2 = c1 .before in
-    let c3 = c2 .before in
-    let c5 = c3 .before .before in
-    let c7 = c5 .before .before in
-    let a = c7 .args in
-    let l = c5 .loop in (
-      rw (c .utf8-len .ensures .0) (on (unitsOf (now (a .s)) (a .p) (a .n)) (l .i) (l .len) (l .inv .0) (c2 .char16 .result .code) (c2 .char16 .result .units) (c1 .if1 .left)
-          (taken-at (now (a .s)) (a .p) (a .n) (l .i) (c2 .char16 .ensures) (c3 .units-at .ensures))),
-      omega (arith, c2 .char16 .ensures .few),
+loop-again c =
+    let after-char16 = c .before .before in
+    let l = after-char16 .before .before .before .loop in (
+      rw (c .utf8-len .ensures .0) (on (unitsOf _ _ _) (l .i) (l .len) (l .inv .0) (after-char16 .char16 .result .code) (after-char16 .char16 .result .units) (c .before .if1 .left)
+          (taken-at _ _ _ (l .i) (after-char16 .char16 .ensures) (after-char16 .before .units-at .ensures))),
+      omega (arith, after-char16 .char16 .ensures .few),
       omega (arith, c .utf8-len .ensures .1),
     )
 
 returns-2 : tie.Need-returns-2 Inv-loop μ-loop
-returns-2 c = let c1 = c .before in
-    let c3 = c1 .before .before in
-    let a = c3 .args in
-    let l = c1 .loop in
-    (l .inv .0 .done, (end (unitsOf (now (a .s)) (a .p) (a .n)) (l .i) (l .len) (l .inv .0) (omega (arith, units-length (now (a .s)) (a .p) (a .n))), sym (l .inv .0 .long)))
+returns-2 c =
+    let at-loop = c .before in
+    let a = at-loop .before .before .args in
+    (at-loop .loop .inv .0 .done, (end (unitsOf (now (a .s)) (a .p) (a .n)) (at-loop .loop .i) (at-loop .loop .len) (at-loop .loop .inv .0) (omega (arith, units-length (now (a .s)) (a .p) (a .n))), sym (at-loop .loop .inv .0 .long)))
 
 pub utf16-length-spec : {M : Type 1} → statement M
 utf16-length-spec =
     tie.close
     (tie.spec
-    Inv-loop μ-loop loop-holds (λ c. omega arith) (λ c. omega arith) (λ c. omega arith) (λ c κs. omega arith)
-    (λ c κs. tt) returns (λ c κs. tt) (λ c. omega (arith, c .utf8-len .ensures .1)) add-i (λ c. omega arith) loop-again
+    Inv-loop μ-loop (λ c. (start (unitsOf _ _ _), omega arith, omega arith)) (λ c. omega arith) (λ c. omega arith) (λ c. omega arith) (λ c κs. omega arith)
+    (λ c κs. tt) returns (λ c κs. tt) (λ c. omega (arith, c .utf8-len .ensures .1)) (λ c. omega (arith, c .before .before .char16 .ensures .few)) (λ c. omega arith) loop-again
     returns-2)

@@ -18,35 +18,25 @@ abbrev μ-loop : tie.MeasureT-loop
 μ-loop s p n i₀ i = n - i
 
 returns : tie.Need-returns Inv-loop μ-loop
-returns c = let c1 = c .before in
-    let c2 = c1 .before in
-    let c4 = c2 .before .before in
-    let a = c4 .before .before .before .args in
-    let l = c4 .loop in
-    bad (bytesOf (now (a .s)) (a .p) (a .n)) (l .i) (l .inv) (c1 .step .result) (c .if1 .taken)
-    (rest-at (now (a .s)) (a .p) (a .n) (l .i) (c1 .step .result) (c1 .step .ensures .passed _ (c2 .word-at .ensures)))
-
-add-i : tie.Need-add-i Inv-loop μ-loop
-add-i c = omega (arith, c .before .step .ensures .few)
+returns c =
+    let l = c .before .before .before .before .loop in
+    bad (bytesOf _ _ _) (l .i) (l .inv) (c .before .step .result) (c .if1 .taken)
+    (rest-at _ _ _ (l .i) (c .before .step .result) (c .before .step .ensures .passed _ (c .before .before .word-at .ensures)))
 
 loop-again : tie.Need-loop-again Inv-loop μ-loop
-loop-again c = let c1 = c .before in
-    let c2 = c1 .before in
-    let c4 = c2 .before .before in
-    let a = c4 .before .before .before .args in
-    let l = c4 .loop in
-    on (bytesOf (now (a .s)) (a .p) (a .n)) (l .i) (l .inv) (c1 .step .result) (c .if1 .left)
-    (rest-at (now (a .s)) (a .p) (a .n) (l .i) (c1 .step .result) (c1 .step .ensures .passed _ (c2 .word-at .ensures)))
+loop-again c =
+    let l = c .before .before .before .before .loop in
+    on (bytesOf _ _ _) (l .i) (l .inv) (c .before .step .result) (c .if1 .left)
+    (rest-at _ _ _ (l .i) (c .before .step .result) (c .before .step .ensures .passed _ (c .before .before .word-at .ensures)))
 
 returns-2 : tie.Need-returns-2 Inv-loop μ-loop
-returns-2 c = let c1 = c .before in
-    let a = c1 .before .before .before .args in
-    let l = c1 .loop in
-    end (bytesOf (now (a .s)) (a .p) (a .n)) (l .i) (l .inv) (omega (arith, bytes-length (now (a .s)) (a .p) (a .n)))
+returns-2 c =
+    let a = c .before .before .before .before .args in
+    end (bytesOf (now (a .s)) (a .p) (a .n)) (c .before .loop .i) (c .before .loop .inv) (omega (arith, bytes-length (now (a .s)) (a .p) (a .n)))
 
 pub utf8-bits-spec : {M : Type 1} → statement M
 utf8-bits-spec =
     tie.close
     (tie.spec
     Inv-loop μ-loop (λ c κs. omega arith) (λ c. c .ascii-at .ensures) (λ c. omega arith) (λ c. omega arith)
-    (λ c. omega arith) (λ c κs. tt) (λ c κs. tt) returns add-i (λ c. omega arith) loop-again returns-2)
+    (λ c. omega arith) (λ c κs. tt) (λ c κs. tt) returns (λ c. omega (arith, c .before .step .ensures .few)) (λ c. omega arith) loop-again returns-2)

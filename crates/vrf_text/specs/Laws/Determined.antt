@@ -4,11 +4,11 @@ use mathlib.Core.Path.{_≡_, refl, sym, ap, _∙_}
 use mathlib.Core.List.{List}
 use Prim.Native.Nat.{ℕ}
 use Rattle.vrf_bitio.specs.Reading.{Read}
+use Rattle.vrf_bitio.specs.Laws.Cases.{clash}
 use Rattle.vrf_bitio.specs.Laws.Determined.{same-details, same-value, same-refusal}
 use Rattle.vrf_bitio.specs.declared.Cursor.{Cursor}
 use Rattle.vrf_text.specs.Text.{CallerText}
 use Rattle.vrf_text.specs.Answers.{TextAnswer, CallerAnswer}
-use Rattle.vrf_text.specs.Laws.Cases.{clash}
 use Rattle.vrf_text.specs.declared.Caller.{Caller}
 use Rattle.vrf_text.specs.declared.Caller.the-variants.{Accepted, Refused as NotAccepted}
 use Rattle.vrf_text.specs.declared.Text.{Text}

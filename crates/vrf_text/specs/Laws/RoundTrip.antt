@@ -9,9 +9,9 @@ use Prim.Native.Nat.{ℕ, _+_, _-_, _*_, _/_, _%_, _≤_}
 use native.Mathlib.Omega.{arith}
 use lib.ListN.{getD}
 use borrow.Author.Tests.{le-ltb, le-leb, lt-leb}
+use Rattle.vrf_bitio.specs.Laws.Cases.{at-most, by-order}
 use Rattle.vrf_text.specs.Utf8.{In, UTF8-tail, UTF8-char, UTF8-octets, nil, char, within, utf8, UTF8-1, UTF8-2, UTF8-3-E0, UTF8-3-E1, UTF8-3-ED, UTF8-3-EE, UTF8-4-F0, UTF8-4-F1, UTF8-4-F4}
 use Rattle.vrf_text.specs.Utf16.{Scalar, below, above, Scalars, surrogates, encodeChar, encodeUtf16, units, pair, before, utf16From, utf16, utf8Of, utf8Chars, charOf, utf8Decode, unitsToUtf8}
-use Rattle.vrf_text.specs.Laws.Cases.{at-most, by-order}
 use Rattle.vrf_text.specs.Laws.Utf8.{utf8-octets}
 use Rattle.vrf_text.specs.Laws.Utf16.{unitBytes, encode-single, kind-below, kind-above, kind-high, kind-low, single-first, high-first, low-second}
 

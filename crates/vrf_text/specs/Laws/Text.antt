@@ -12,12 +12,12 @@ use lib.Seq.{take-at, drop-at}
 use borrow.Author.Tests.{lt-ltb, le-ltb, ltb-false, ne-eqb}
 use Rattle.vrf_bitio.specs.Reading.{Read, ok, refused, Reader, return, position, bindRead, _>>=_}
 use Rattle.vrf_bitio.specs.Number.{word32, encodeWord32}
+use Rattle.vrf_bitio.specs.Laws.Cases.{by-cond}
 use Rattle.vrf_bitio.specs.Laws.Reading.{bind-ok, Decodes, decodes-then}
 use Rattle.vrf_bitio.specs.Laws.Number.{word32-decodes}
 use Rattle.vrf_text.specs.Utf8.{utf8, utf8From}
 use Rattle.vrf_text.specs.Utf16.{units, unitsToUtf8}
 use Rattle.vrf_text.specs.Text.{IsText, textBytes, dropZero, asUtf8, checked, text8, text16, textOf, fstring, encodeText, CallerText, accepted, refusal, callerText}
-use Rattle.vrf_text.specs.Laws.Cases.{by-cond}
 use Rattle.vrf_text.specs.Laws.Utf16.{InvalidOrUtf8, units-16, unitsToUtf8-valid}
 
 -- ---- what is written is read back

@@ -8,10 +8,10 @@ use Prim.Native.Nat.{ℕ, _+_, _-_, _*_, _/_, _%_, _≤_, zero, suc, _<_, zero-l
 use native.Mathlib.Omega.{arith}
 use lib.ListN.{getD}
 use borrow.Author.Tests.{lt-ltb, le-ltb, le-leb, lt-leb}
-use Rattle.vrf_text.specs.Utf8.{In, UTF8-tail, UTF8-char, UTF8-octets, nil, char, utf8, UTF8-1, UTF8-2, UTF8-3-E0, UTF8-3-E1, UTF8-3-ED, UTF8-3-EE, UTF8-4-F0, UTF8-4-F1, UTF8-4-F4}
+use Rattle.vrf_bitio.specs.Laws.Cases.{by-order, at-most}
+use Rattle.vrf_text.specs.Utf8.{In, UTF8-char, UTF8-octets, nil, char, utf8, UTF8-1, UTF8-2, UTF8-3-E0, UTF8-3-E1, UTF8-3-ED, UTF8-3-EE, UTF8-4-F0, UTF8-4-F1, UTF8-4-F4}
 use Rattle.vrf_text.specs.Utf16.{Scalar, below, above, Scalars, surrogates, encodeChar, encodeUtf16, units, Kind, single, high, low, kind, pair, before, utf16From, utf16, utf8Of, utf8Chars}
 use Rattle.vrf_text.specs.Utf16.{unitsToUtf8}
-use Rattle.vrf_text.specs.Laws.Cases.{by-order, at-most}
 use Rattle.vrf_text.specs.Laws.Utf8.{octets-utf8}
 
 -- ---- units to bytes
@@ -29,82 +29,26 @@ three u = (0xE0 + u / 4096) ∷ (0x80 + u / 64 % 64) ∷ (0x80 + u % 64) ∷ []
 abbrev four : ℕ → List ℕ
 four u = (0xF0 + u / 262144) ∷ (0x80 + u / 4096 % 64) ∷ (0x80 + u / 64 % 64) ∷ (0x80 + u % 64) ∷ []
 
-three-E0 : (u : ℕ) → In 0x800 0xFFF u → UTF8-char (three u)
-three-E0 u h =
-    let e : 0xE0 + u / 4096 ≡ 0xE0 = omega arith in
-    let b : In 0xA0 0xBF (0x80 + u / 64 % 64) = omega arith in
-    let c : UTF8-tail (0x80 + u % 64) = omega arith in
-    rw e (UTF8-3-E0 b c)
-
-three-E1 : (u : ℕ) → In 0x1000 0xCFFF u → UTF8-char (three u)
-three-E1 u h =
-    let a : In 0xE1 0xEC (0xE0 + u / 4096) = omega arith in
-    let b : UTF8-tail (0x80 + u / 64 % 64) = omega arith in
-    let c : UTF8-tail (0x80 + u % 64) = omega arith in
-    UTF8-3-E1 a b c
-
-three-ED : (u : ℕ) → In 0xD000 0xD7FF u → UTF8-char (three u)
-three-ED u h =
-    let e : 0xE0 + u / 4096 ≡ 0xED = omega arith in
-    let b : In 0x80 0x9F (0x80 + u / 64 % 64) = omega arith in
-    let c : UTF8-tail (0x80 + u % 64) = omega arith in
-    rw e (UTF8-3-ED b c)
-
-three-EE : (u : ℕ) → In 0xE000 0xFFFF u → UTF8-char (three u)
-three-EE u h =
-    let a : In 0xEE 0xEF (0xE0 + u / 4096) = omega arith in
-    let b : UTF8-tail (0x80 + u / 64 % 64) = omega arith in
-    let c : UTF8-tail (0x80 + u % 64) = omega arith in
-    UTF8-3-EE a b c
-
-four-F0 : (u : ℕ) → In 0x10000 0x3FFFF u → UTF8-char (four u)
-four-F0 u h =
-    let e : 0xF0 + u / 262144 ≡ 0xF0 = omega arith in
-    let b : In 0x90 0xBF (0x80 + u / 4096 % 64) = omega arith in
-    let c : UTF8-tail (0x80 + u / 64 % 64) = omega arith in
-    let d : UTF8-tail (0x80 + u % 64) = omega arith in
-    rw e (UTF8-4-F0 b c d)
-
-four-F1 : (u : ℕ) → In 0x40000 0xFFFFF u → UTF8-char (four u)
-four-F1 u h =
-    let a : In 0xF1 0xF3 (0xF0 + u / 262144) = omega arith in
-    let b : UTF8-tail (0x80 + u / 4096 % 64) = omega arith in
-    let c : UTF8-tail (0x80 + u / 64 % 64) = omega arith in
-    let d : UTF8-tail (0x80 + u % 64) = omega arith in
-    UTF8-4-F1 a b c d
-
-four-F4 : (u : ℕ) → In 0x100000 0x10FFFF u → UTF8-char (four u)
-four-F4 u h =
-    let e : 0xF0 + u / 262144 ≡ 0xF4 = omega arith in
-    let b : In 0x80 0x8F (0x80 + u / 4096 % 64) = omega arith in
-    let c : UTF8-tail (0x80 + u / 64 % 64) = omega arith in
-    let d : UTF8-tail (0x80 + u % 64) = omega arith in
-    rw e (UTF8-4-F4 b c d)
-
-two-char : (u : ℕ) → In 0x80 0x7FF u → UTF8-char ((0xC0 + u / 64) ∷ (0x80 + u % 64) ∷ [])
-two-char u h =
-    let a : In 0xC2 0xDF (0xC0 + u / 64) = omega arith in
-    let b : UTF8-tail (0x80 + u % 64) = omega arith in
-    UTF8-2 a b
-
 three-char : (u : ℕ) → In 0x800 0xFFFF u → Scalar u → UTF8-char (three u)
 three-char u h (below k) =
-    by-order u 0xFFF (λ p. three-E0 u (omega arith)) λ p.
-    by-order u 0xCFFF (λ q. three-E1 u (omega arith)) λ q. three-ED u (omega arith)
-three-char u h (above k) = three-EE u (omega arith)
+    by-order u 0xFFF (λ p. let e : 0xE0 + u / 4096 ≡ 0xE0 = omega arith in rw e (UTF8-3-E0 {b = 0x80 + u / 64 % 64} {c = 0x80 + u % 64} (omega arith) (omega arith))) λ p.
+    by-order u 0xCFFF (λ q. UTF8-3-E1 (omega arith) (omega arith) (omega arith)) λ q.
+    let e : 0xE0 + u / 4096 ≡ 0xED = omega arith in rw e (UTF8-3-ED {b = 0x80 + u / 64 % 64} {c = 0x80 + u % 64} (omega arith) (omega arith))
+three-char u h (above k) = UTF8-3-EE {a = 0xE0 + u / 4096} {b = 0x80 + u / 64 % 64} {c = 0x80 + u % 64} (omega arith) (omega arith) (omega arith)
 
 four-char : (u : ℕ) → 0xFFFF < u → Scalar u → UTF8-char (four u)
 four-char u h (below k) = absurd (omega arith)
 four-char u h (above k) =
-    by-order u 0x3FFFF (λ p. four-F0 u (omega arith)) λ p.
-    by-order u 0xFFFFF (λ q. four-F1 u (omega arith)) λ q. four-F4 u (omega arith)
+    by-order u 0x3FFFF (λ p. let e : 0xF0 + u / 262144 ≡ 0xF0 = omega arith in rw e (UTF8-4-F0 {b = 0x80 + u / 4096 % 64} {c = 0x80 + u / 64 % 64} {d = 0x80 + u % 64} (omega arith) (omega arith) (omega arith))) λ p.
+    by-order u 0xFFFFF (λ q. UTF8-4-F1 (omega arith) (omega arith) (omega arith) (omega arith)) λ q.
+    let e : 0xF0 + u / 262144 ≡ 0xF4 = omega arith in rw e (UTF8-4-F4 {b = 0x80 + u / 4096 % 64} {c = 0x80 + u / 64 % 64} {d = 0x80 + u % 64} (omega arith) (omega arith) (omega arith))
 
 -- the UTF-8 of a scalar value is a character of the grammar
 pub scalar-char : (u : ℕ) → Scalar u → UTF8-char (utf8Of u)
 unfolding utf8Of
 scalar-char u s =
     at-most UTF8-char u 0x7F (λ h. UTF8-1 (record { low = zero-le; high = h })) λ p.
-    at-most UTF8-char u 0x7FF (λ h. two-char u (record { low = p; high = h })) λ p.
+    at-most UTF8-char u 0x7FF (λ h. UTF8-2 (omega arith) (omega arith)) λ p.
     at-most UTF8-char u 0xFFFF (λ h. three-char u (record { low = p; high = h }) s) λ p. four-char u p s
 
 scalars-octets : (cs : List ℕ) → Scalars cs → UTF8-octets (utf8Chars cs)

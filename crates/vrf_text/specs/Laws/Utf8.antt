@@ -1,17 +1,17 @@
 -- Laws of UTF-8: the test `utf8` agrees with the grammar of RFC 3629, section 4 (`octets-utf8`, `utf8-octets`); then laws of joined texts,
 -- of ASCII and of the largest byte.
-use mathlib.Core.Bool.{Bool, true, false, _&&_, and-eq-true-iff, false≢true}
+use mathlib.Core.Bool.{Bool, true, false, cond, _&&_, and-eq-true-iff, false≢true}
 use mathlib.Core.List.{List, [], _∷_, _++_, append-assoc, append-nil}
 use mathlib.Core.Path.{_≡_, refl, sym, ap, _∙_}
 use Prim.Native.Nat.{ℕ, zero, suc, _≤_, _<_, zero-le, suc-le-suc}
 use native.Mathlib.Omega.{arith}
-use lib.Dec.{leb}
+use lib.Dec.{leb, eqb}
 use lib.ListN.{length, getD, drop}
 use lib.Seq.{drop-length}
-use borrow.Author.Tests.{leb-true, le-leb, lt-leb, eqb-true}
+use borrow.Author.Tests.{leb-true, le-leb, lt-leb, eqb-true, ne-eqb}
+use Rattle.vrf_bitio.specs.Laws.Cases.{at-most}
 use Rattle.vrf_text.specs.Utf8.{In, UTF8-tail, UTF8-char, UTF8-octets, nil, char, Lead, asks, bad, lead, within, utf8From, utf8, UTF8-1, UTF8-2, UTF8-3-E0, UTF8-3-E1, UTF8-3-ED, UTF8-3-EE}
 use Rattle.vrf_text.specs.Utf8.{UTF8-4-F0, UTF8-4-F1, UTF8-4-F4}
-use Rattle.vrf_text.specs.Laws.Cases.{at-most}
 
 -- ---- one byte
 
@@ -38,44 +38,55 @@ pub lead-2 : {a : ℕ} → In 0xC2 0xDF a → lead a ≡ asks 1 0x80 0xBF
 unfolding lead
 lead-2 {a} h = rw (lt-leb a 0x7F (omega arith), lt-leb a 0xC1 (omega arith), le-leb a 0xDF (h .high))
 
+module _ (a : ℕ) where
+  -- the range of the second byte, by the lead byte
+  abbrev pub lo-3 : ℕ
+  lo-3 = cond (eqb a 0xE0) 0xA0 0x80
+
+  abbrev pub hi-3 : ℕ
+  hi-3 = cond (eqb a 0xED) 0x9F 0xBF
+
+  pub lead-3 : 0xE0 ≤ a → a < 0xF0 → lead a ≡ asks 2 lo-3 hi-3
+  unfolding lead
+  lead-3 h k =
+      let P : Lead → Type 0 = λ r. r ≡ asks 2 lo-3 hi-3 in
+      at-most P a 0x7F (λ q. absurd (omega arith)) λ _.
+      at-most P a 0xC1 (λ q. absurd (omega arith)) λ _.
+      at-most P a 0xDF (λ q. absurd (omega arith)) λ _.
+      at-most P a 0xE0 (λ q. let e : a ≡ 0xE0 = omega arith in rw e) λ p.
+      at-most P a 0xEC (λ q. rw (ne-eqb a 0xE0 (λ e. omega arith), ne-eqb a 0xED (λ e. omega arith))) λ p.
+      at-most P a 0xED (λ q. let e : a ≡ 0xED = omega arith in rw e) λ p.
+      at-most P a 0xEF (λ q. rw (ne-eqb a 0xE0 (λ e. omega arith), ne-eqb a 0xED (λ e. omega arith))) λ q. absurd (omega arith)
+
+  abbrev pub lo-4 : ℕ
+  lo-4 = cond (eqb a 0xF0) 0x90 0x80
+
+  abbrev pub hi-4 : ℕ
+  hi-4 = cond (eqb a 0xF4) 0x8F 0xBF
+
+  pub lead-4 : 0xF0 ≤ a → a ≤ 0xF4 → lead a ≡ asks 3 lo-4 hi-4
+  unfolding lead
+  lead-4 h k =
+      let P : Lead → Type 0 = λ r. r ≡ asks 3 lo-4 hi-4 in
+      at-most P a 0x7F (λ q. absurd (omega arith)) λ _.
+      at-most P a 0xC1 (λ q. absurd (omega arith)) λ _.
+      at-most P a 0xDF (λ q. absurd (omega arith)) λ _.
+      at-most P a 0xE0 (λ q. absurd (omega arith)) λ _.
+      at-most P a 0xEC (λ q. absurd (omega arith)) λ _.
+      at-most P a 0xED (λ q. absurd (omega arith)) λ _.
+      at-most P a 0xEF (λ q. absurd (omega arith)) λ _.
+      at-most P a 0xF0 (λ q. let e : a ≡ 0xF0 = omega arith in rw e) λ p.
+      at-most P a 0xF3 (λ q. rw (ne-eqb a 0xF0 (λ e. omega arith), ne-eqb a 0xF4 (λ e. omega arith))) λ p.
+      at-most P a 0xF4 (λ q. let e : a ≡ 0xF4 = omega arith in rw e) λ q. absurd (omega arith)
+
 pub lead-E1 : {a : ℕ} → In 0xE1 0xEC a → lead a ≡ asks 2 0x80 0xBF
-unfolding lead
-lead-E1 {a} h =
-    rw (
-      lt-leb a 0x7F (omega arith),
-      lt-leb a 0xC1 (omega arith),
-      lt-leb a 0xDF (omega arith),
-      lt-leb a 0xE0 (omega arith),
-      le-leb a 0xEC (h .high),
-    )
+lead-E1 {a} h = lead-3 a (omega arith) (omega arith) ∙ rw (ne-eqb a 0xE0 (λ e. omega arith), ne-eqb a 0xED (λ e. omega arith))
 
 pub lead-EE : {a : ℕ} → In 0xEE 0xEF a → lead a ≡ asks 2 0x80 0xBF
-unfolding lead
-lead-EE {a} h =
-    rw (
-      lt-leb a 0x7F (omega arith),
-      lt-leb a 0xC1 (omega arith),
-      lt-leb a 0xDF (omega arith),
-      lt-leb a 0xE0 (omega arith),
-      lt-leb a 0xEC (omega arith),
-      lt-leb a 0xED (omega arith),
-      le-leb a 0xEF (h .high),
-    )
+lead-EE {a} h = lead-3 a (omega arith) (omega arith) ∙ rw (ne-eqb a 0xE0 (λ e. omega arith), ne-eqb a 0xED (λ e. omega arith))
 
 pub lead-F1 : {a : ℕ} → In 0xF1 0xF3 a → lead a ≡ asks 3 0x80 0xBF
-unfolding lead
-lead-F1 {a} h =
-    rw (
-      lt-leb a 0x7F (omega arith),
-      lt-leb a 0xC1 (omega arith),
-      lt-leb a 0xDF (omega arith),
-      lt-leb a 0xE0 (omega arith),
-      lt-leb a 0xEC (omega arith),
-      lt-leb a 0xED (omega arith),
-      lt-leb a 0xEF (omega arith),
-      lt-leb a 0xF0 (omega arith),
-      le-leb a 0xF3 (h .high),
-    )
+lead-F1 {a} h = lead-4 a (omega arith) (omega arith) ∙ rw (ne-eqb a 0xF0 (λ e. omega arith), ne-eqb a 0xF4 (λ e. omega arith))
 
 -- ---- the test accepts what follows the grammar
 

@@ -13,26 +13,22 @@ abbrev μ-loop : tie.MeasureT-loop
 μ-loop m₀ from to n k₀ m k = n - k
 
 loop-holds : tie.Need-loop-holds Inv-loop μ-loop
-loop-holds c = copy-start (now (c .args .m)) (now (c .args .m)) (c .args .to) (c .args .from) (c .args .n)
+loop-holds c = copy-start _ _ _ _ _
 
 loop-again : tie.Need-loop-again Inv-loop μ-loop
 loop-again c =
-    let l = c .before .before .loop in
-    let x = c .before .before .before .args in
-    let pre = c .before .before .before .pre in
-    let m = now (x .m) in
-    let stood = unmoved m (l .m) (x .to) (x .from) (x .n) (l .k) (l .inv) (c .before .loop-test .taken) (pre .0) (pre .1) (pre .2) in
-    copy-step m (l .m) m (x .to) (x .from) (x .n) (l .k) (l .inv) _ stood (c .before .loop-test .taken) (pre .0) (pre .1)
+    let at-loop = c .before .before in
+    let m = now (at-loop .before .args .m) in
+    let stood = unmoved m (at-loop .loop .m) _ _ _ (at-loop .loop .k) (at-loop .loop .inv) (c .before .loop-test .taken) (at-loop .before .pre .0) (at-loop .before .pre .1) (at-loop .before .pre .2) in
+    copy-step m (at-loop .loop .m) m _ _ _ (at-loop .loop .k) (at-loop .loop .inv) _ stood (c .before .loop-test .taken) (at-loop .before .pre .0) (at-loop .before .pre .1)
 
 same-length : tie.Need-same-length Inv-loop μ-loop
 same-length c = c .before .loop .inv .long
 
 returns : tie.Need-returns Inv-loop μ-loop
 returns c =
-    let l = c .before .loop in
-    let x = c .before .before .args in
-    let m = now (x .m) in
-    copy-end m (l .m) m (x .to) (x .from) (x .n) (l .k) (l .inv) (c .loop-test .left)
+    let m = now (c .before .before .args .m) in
+    copy-end m (c .before .loop .m) m _ _ _ (c .before .loop .k) (c .before .loop .inv) (c .loop-test .left)
 
 pub move-part-spec : {M : Type 1} → statement M
 move-part-spec =

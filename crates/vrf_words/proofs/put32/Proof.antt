@@ -2,19 +2,14 @@
 use native.Mathlib.Omega.{arith}
 use lib.ListN.{length-set}
 use borrow.Author.Needs.{needs}
-use denote.Ref.{now}
 use Rattle.vrf_words.proofs.Writes.{four}
 use Rattle.vrf_words.proofs.put32.Statement.{statement}
 use Rattle.vrf_words.proofs.put32.Tie as tie
 
 returns : tie.Need-returns
 returns c =
-    let after-low3 = c .before in
-    let after-low2 = after-low3 .before in
-    let after-low = after-low2 .before in
-    let start = after-low .before .before in
-    let a = start .args in
-    four (now (a .s)) (a .i) (a .v) _ _ _ _ (omega arith) (after-low .low .ensures) (after-low2 .low2 .ensures) (after-low3 .low3 .ensures) (c .low4 .ensures)
+    let after-low2 = c .before .before in
+    four _ _ _ _ _ _ _ (omega arith) (after-low2 .before .low .ensures) (after-low2 .low2 .ensures) (c .before .low3 .ensures) (c .low4 .ensures)
 
 pub put32-spec : {M : Type 1} → statement M
 put32-spec =

@@ -2,18 +2,15 @@
 use mathlib.Core.Path.{ap, _∙_}
 use Prim.Native.Nat.{_+_}
 use borrow.Author.Needs.{needs}
-use denote.Ref.{now}
 use Rattle.vrf_bitio.specs.Pasted.{pasted}
 use Rattle.vrf_words.proofs.put_eight.Statement.{statement}
 use Rattle.vrf_words.proofs.put_eight.Tie as tie
 
 returns : tie.Need-returns
 returns c =
-    let after-put-eight-bytes = c .before .before in
-    let after-eight-of = after-put-eight-bytes .before .before in
-    let start = after-eight-of .before .before .before in
-    let x = start .args in
-    after-put-eight-bytes .put-eight-bytes .ensures ∙ ap (pasted (now (x .m)) (x .at + x .k)) (after-eight-of .eight-of .ensures)
+    let after-eight-of = c .before .before .before .before in
+    let a = after-eight-of .before .before .before .args in
+    c .before .before .put-eight-bytes .ensures ∙ ap (pasted _ (a .at + a .k)) (after-eight-of .eight-of .ensures)
 
 pub put-eight-spec : {M : Type 1} → statement M
 put-eight-spec =

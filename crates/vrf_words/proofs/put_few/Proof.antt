@@ -18,24 +18,21 @@ abbrev μ-loop : tie.MeasureT-loop
 μ-loop m₀ at t k₀ m k = length t - k
 
 loop-holds : tie.Need-loop-holds Inv-loop μ-loop
-loop-holds c = copy-start (now (c .args .m)) (now (c .args .t)) (c .args .at) 0 (length (now (c .args .t)))
+loop-holds c = copy-start (now (c .args .m)) (now (c .args .t)) _ 0 (length (now (c .args .t)))
 
 loop-again : tie.Need-loop-again Inv-loop μ-loop
 loop-again c =
-    let l = c .before .before .loop in
-    let x = c .before .before .before .args in
-    let t = now (x .t) in
-    copy-step (now (x .m)) (l .m) t (x .at) 0 (length t) (l .k) (l .inv) (getD t (l .k) 0) (rw zero-add) (omega arith) (omega arith) (omega arith)
+    let at-loop = c .before .before in
+    let t = now (at-loop .before .args .t) in
+    copy-step _ (at-loop .loop .m) t _ 0 (length t) (at-loop .loop .k) (at-loop .loop .inv) (getD t (at-loop .loop .k) 0) (rw zero-add) (omega arith) (omega arith) (omega arith)
 
 same-length : tie.Need-same-length Inv-loop μ-loop
 same-length c = c .before .loop .inv .long
 
 returns : tie.Need-returns Inv-loop μ-loop
 returns c =
-    let l = c .before .loop in
-    let x = c .before .before .args in
-    let t = now (x .t) in
-    copy-end (now (x .m)) (l .m) t (x .at) 0 (length t) (l .k) (l .inv) (omega arith) ∙ ap (pasted (now (x .m)) (x .at)) (whole-part t)
+    let t = now (c .before .before .args .t) in
+    copy-end _ (c .before .loop .m) t _ 0 (length t) (c .before .loop .k) (c .before .loop .inv) (omega arith) ∙ ap (pasted _ _) (whole-part t)
 
 pub put-few-spec : {M : Type 1} → statement M
 put-few-spec =

@@ -16,29 +16,21 @@ abbrev μ-loop : tie.MeasureT-loop
 
 loop-holds : tie.Need-loop-holds Inv-loop μ-loop
 loop-holds c =
-    let x = c .before .before .args in
-    let none : 0 ≡ min 0 (length (now (x .t))) = omega arith in
-    subst (λ (j : ℕ). PartCopied (now (x .m)) (now (x .m)) (now (x .t)) (x .at) j) none (copy-start (now (x .m)) (now (x .t)) (x .at))
+    let a = c .before .before .args in
+    let none : 0 ≡ min 0 (length (now (a .t))) = omega arith in
+    subst (λ (j : ℕ). PartCopied (now (a .m)) (now (a .m)) (now (a .t)) (a .at) j) none (copy-start (now (a .m)) (now (a .t)) (a .at))
 
 loop-again : tie.Need-loop-again Inv-loop μ-loop
 loop-again c =
-    let after-put-many = c .before .before in
-    let after-lower = after-put-many .before in
+    let after-lower = c .before .before .before in
     let at-loop = after-lower .before .before .before in
-    let start = at-loop .before .before .before in
-    let x = start .args in
-    let l = at-loop .loop in
-    let put = after-put-many .put-many in
-    let low = after-lower .lower in
-    let more : low .result + 32 ≡ min (l .k + 32) (length (now (x .t))) = omega (arith, low .ensures) in
-    subst (λ (j : ℕ). PartCopied (now (x .m)) (put .last .0) (now (x .t)) (x .at) j) more (copy-step (l .inv) (low .result) 32 (put .ensures) (omega arith) (omega (arith, low .ensures)) (omega (arith, low .ensures)) (omega (arith, low .ensures)))
-
-returns : tie.Need-returns Inv-loop μ-loop
-returns c = copy-end (c .before .loop .inv) (omega arith)
+    let a = at-loop .before .before .before .args in
+    let more : after-lower .lower .result + 32 ≡ min (at-loop .loop .k + 32) (length (now (a .t))) = omega (arith, after-lower .lower .ensures) in
+    subst (λ (j : ℕ). PartCopied (now (a .m)) (c .before .before .put-many .last .0) (now (a .t)) (a .at) j) more (copy-step (at-loop .loop .inv) (after-lower .lower .result) 32 (c .before .before .put-many .ensures) (omega arith) (omega (arith, after-lower .lower .ensures)) (omega (arith, after-lower .lower .ensures)) (omega (arith, after-lower .lower .ensures)))
 
 pub put-longest-spec : {M : Type 1} → statement M
 put-longest-spec =
     tie.close
     (tie.spec
     Inv-loop μ-loop (λ c. omega arith) loop-holds (λ c κs. tt) (λ c κs. omega arith) (λ c. omega arith)
-    (λ c. omega arith) loop-again (λ c. omega arith) returns)
+    (λ c. omega arith) loop-again (λ c. omega arith) (λ c. copy-end (c .before .loop .inv) (omega arith)))

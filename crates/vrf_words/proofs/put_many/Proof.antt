@@ -2,7 +2,6 @@
 use Prim.Native.Nat.{_+_}
 use native.Mathlib.Omega.{arith}
 use borrow.Author.Needs.{needs}
-use denote.Ref.{now}
 use Rattle.vrf_words.proofs.Copies.{next-part}
 use Rattle.vrf_words.proofs.put_many.Statement.{statement}
 use Rattle.vrf_words.proofs.put_many.Tie as tie
@@ -11,9 +10,8 @@ returns : tie.Need-returns
 returns c =
     let after-put-sixteen2 = c .before .before in
     let after-put-sixteen = after-put-sixteen2 .before .before .before .before in
-    let start = after-put-sixteen .before .before .before .before in
-    let x = start .args in
-    next-part (now (x .m)) (now (x .t)) (x .at + x .k) (x .k) 16 16 (omega arith) (omega arith) (after-put-sixteen .put-sixteen .ensures) _ _ (after-put-sixteen2 .put-sixteen2 .ensures) (omega arith) (omega arith)
+    let a = after-put-sixteen .before .before .before .before .args in
+    next-part _ _ (a .at + a .k) _ 16 16 (omega arith) (omega arith) (after-put-sixteen .put-sixteen .ensures) _ _ (after-put-sixteen2 .put-sixteen2 .ensures) (omega arith) (omega arith)
 
 pub put-many-spec : {M : Type 1} → statement M
 put-many-spec =

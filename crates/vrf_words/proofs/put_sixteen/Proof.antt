@@ -3,7 +3,6 @@ use mathlib.Core.Path.{ap, _∙_}
 use Prim.Native.Nat.{_+_}
 use native.Mathlib.Omega.{arith}
 use borrow.Author.Needs.{needs}
-use denote.Ref.{now}
 use Rattle.vrf_bitio.specs.Pasted.{pasted}
 use Rattle.vrf_words.proofs.Copies.{next-part}
 use Rattle.vrf_words.proofs.put_sixteen.Statement.{statement}
@@ -14,13 +13,10 @@ returns c =
     let after-put-eight-bytes2 = c .before .before in
     let after-put-eight-bytes = after-put-eight-bytes2 .before .before .before .before in
     let after-eight-of2 = after-put-eight-bytes .before .before in
-    let after-eight-of = after-eight-of2 .before in
-    let start = after-eight-of .before .before .before in
-    let x = start .args in
-    let one = after-put-eight-bytes .put-eight-bytes in
-    let first = one .ensures ∙ ap (pasted (now (x .m)) (x .at + x .k)) (after-eight-of .eight-of .ensures) in
-    let second = after-put-eight-bytes2 .put-eight-bytes2 .ensures ∙ ap (pasted (one .last .0) (x .at + x .k + 8)) (after-eight-of2 .eight-of2 .ensures) in
-    next-part (now (x .m)) (now (x .t)) (x .at + x .k) (x .k) 8 8 (omega arith) (omega arith) first _ _ second (omega arith) (omega arith)
+    let a = after-eight-of2 .before .before .before .before .args in
+    let first = after-put-eight-bytes .put-eight-bytes .ensures ∙ ap (pasted _ (a .at + a .k)) (after-eight-of2 .before .eight-of .ensures) in
+    let second = after-put-eight-bytes2 .put-eight-bytes2 .ensures ∙ ap (pasted (after-put-eight-bytes .put-eight-bytes .last .0) (a .at + a .k + 8)) (after-eight-of2 .eight-of2 .ensures) in
+    next-part _ _ (a .at + a .k) _ 8 8 (omega arith) (omega arith) first _ _ second (omega arith) (omega arith)
 
 pub put-sixteen-spec : {M : Type 1} → statement M
 put-sixteen-spec =

@@ -3,7 +3,6 @@ use mathlib.Core.Path.{_≡_, refl, _∙_}
 use Prim.Native.Nat.{_-_, _*_, _≤_}
 use native.Mathlib.Omega.{arith}
 use lib.ListN.{length, replicate}
-use denote.Ref.{now}
 use Rattle.vrf_bitio.specs.Pasted.{pasted}
 use Rattle.vrf_words.proofs.Writes.{zero-start, zero-step}
 use Rattle.vrf_words.proofs.zero_words.Statement.{statement}
@@ -16,17 +15,13 @@ abbrev μ-loop : tie.MeasureT-loop
 μ-loop m₀ i n k₀ m k = n - k
 
 loop-holds : tie.Need-loop-holds Inv-loop μ-loop
-loop-holds c = (omega arith, refl, zero-start (now (c .before .args .m)) (4 * c .before .args .i))
+loop-holds c = (omega arith, refl, zero-start _ (4 * c .before .args .i))
 
 loop-again : tie.Need-loop-again Inv-loop μ-loop
 loop-again c =
     let after-put32 = c .before .before in
-    let at-loop = after-put32 .before .before .before in
-    let start = at-loop .before .before in
-    let put = after-put32 .put32 in
-    let l = at-loop .loop in
-    let x = start .args in
-    (omega arith, put .kept .0 ∙ l .inv .1, put .ensures ∙ zero-step (now (x .m)) (l .m) (x .i) (l .k) (l .inv .2) (omega arith))
+    let l = after-put32 .before .before .before .loop in
+    (omega arith, after-put32 .put32 .kept .0 ∙ l .inv .1, after-put32 .put32 .ensures ∙ zero-step _ (l .m) _ (l .k) (l .inv .2) (omega arith))
 
 same-length : tie.Need-same-length Inv-loop μ-loop
 same-length c = c .before .loop .inv .1
@@ -36,19 +31,7 @@ returns c =
     let all : c .before .loop .k ≡ c .before .before .before .args .n = omega arith in
     rw all at (c .before .loop .inv .2)
 
-add-put32 : tie.Need-add-put32 Inv-loop μ-loop
-add-put32 c = omega arith
-
-put32-requires : tie.Need-put32-requires Inv-loop μ-loop
-put32-requires c κs = omega arith
-
-add-k : tie.Need-add-k Inv-loop μ-loop
-add-k c = omega arith
-
-loop-less : tie.Need-loop-less Inv-loop μ-loop
-loop-less c = omega arith
-
 pub zero-words-spec : {M : Type 1} → statement M
 zero-words-spec =
     tie.close
-    (tie.spec Inv-loop μ-loop loop-holds add-put32 put32-requires add-k loop-less loop-again same-length returns)
+    (tie.spec Inv-loop μ-loop loop-holds (λ c. omega arith) (λ c κs. omega arith) (λ c. omega arith) (λ c. omega arith) loop-again same-length returns)

@@ -13,7 +13,7 @@ use Rattle.vrf_bitio.specs.Bits.{Bytes}
 use Rattle.vrf_bitio.specs.Number.{lowBytes}
 use Rattle.vrf_bitio.specs.Pasted.{pasted}
 use Rattle.vrf_bitio.specs.Laws.Pasted.{pasted-length, Outside, before, following, getD-pasted-out, getD-pasted-in}
-use Rattle.vrf_bitio.specs.Laws.Number.{lowBytes-length}
+use Rattle.vrf_bitio.specs.Laws.Number.{lowBytes-length, digits}
 use Rattle.vrf_words.specs.Words.{part, word}
 use Rattle.vrf_words.specs.Inner.Words.{setWord, Apart, below, above}
 
@@ -144,21 +144,12 @@ module _ (s : List ℕ) (i v : ℕ) where
   unfolding setWord
   length-setWord h = pasted-length (lowBytes 4 v) s (4 * i) (space h)
 
-  -- the four base-256 digits of a number add up to the number again
-  digits : (q r t : ℕ) → q ≡ v / 256 → r ≡ q / 256 → t ≡ r / 256 → v < 2 ^ 32 → v % 256 + 256 * (q % 256 + 256 * (r % 256 + 256 * (t % 256))) ≡ v
-  digits q r t a b c h =
-      let e0 : v ≡ v % 256 + 256 * q = omega arith in
-      let e1 : q ≡ q % 256 + 256 * r = omega arith in
-      let e2 : r ≡ r % 256 + 256 * t = omega arith in
-      let e3 : t % 256 ≡ t = omega arith in
-      omega arith
-
   pub word-setWord-same : 4 * i + 4 ≤ length s → v < 2 ^ 32 → word (setWord s i v) i ≡ v
   unfolding word setWord lowBytes
   word-setWord-same h small =
       let at0 : getD (pasted s (4 * i) (lowBytes 4 v)) (4 * i) 0 ≡ v % 256 = simp add-zero at (getD-pasted-in (lowBytes 4 v) s (4 * i) 0 (space h) (omega arith)) in
       rw (at0, getD-pasted-in (lowBytes 4 v) s (4 * i) 1 (space h) (omega arith), getD-pasted-in (lowBytes 4 v) s (4 * i) 2 (space h) (omega arith), getD-pasted-in (lowBytes 4 v) s (4 * i) 3 (space h) (omega arith))
-      (digits (v / 256) (v / 256 / 256) (v / 256 / 256 / 256) refl refl refl small)
+      (omega (arith, digits v small))
 
   pub word-setWord-other : (j : ℕ) → 4 * i + 4 ≤ length s → j ≢ i → word (setWord s i v) j ≡ word s j
   unfolding setWord

@@ -3,6 +3,7 @@ use mathlib.Core.List.{List}
 use Prim.Native.Nat.{ℕ, _+_, _*_, _^_, _<_, _≤_}
 use lib.ListN.{length}
 use Rattle.vrf_model.specs.Book.{Guid}
+use Rattle.vrf_model.specs.Setting.{newGuid}
 use Rattle.vrf_table.specs.Table.{key, at, len, info, text}
 
 -- row i is in r, and its text is in x and has at most 4,096 bytes
@@ -18,4 +19,4 @@ pub record GuidRow (r x : List ℕ) (i : ℕ) : Type 0 where
 
 -- the record in row i
 abbrev pub guidIn : List ℕ → List ℕ → ℕ → Guid
-guidIn r x i = record { guid = key r i; path = text r x i; outer = info r i }
+guidIn r x i = newGuid (key r i) (text r x i) (info r i)

@@ -8,7 +8,7 @@ use Prim.Native.Nat.{ℕ, _*_, _<_, _≤_, zero, suc, _+_, _-_, _/_, _%_, min}
 use native.Mathlib.Nat.{not-suc-le-zero, add-zero}
 use native.Mathlib.Omega.{arith}
 use lib.ListN.{length}
-use Rattle.vrf_text.specs.Laws.Cases.{by-order, clash}
+use Rattle.vrf_bitio.specs.Laws.Cases.{by-order, clash}
 use Rattle.vrf_path.specs.Text.{same}
 use Rattle.vrf_path.specs.Keys.{hasKey, keyIs, defaultAlias, coreAlias}
 use Rattle.vrf_path.specs.Laws.Text.{same-true, same-refl}

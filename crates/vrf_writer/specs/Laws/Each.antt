@@ -35,11 +35,11 @@ pub record Sent {A : Type 0} (f : A → List ℕ) (g : ℕ → A) (n : ℕ) (bef
   pub within : i ≤ n
   pub fits : length (encodeAll f (upTo g n)) ≤ length before
 
-pub sent-start : {A : Type 0} (f : A → List ℕ) (g : ℕ → A) (n : ℕ) (l : List ℕ) → length (encodeAll f (upTo g n)) ≤ length l → Sent f g n l l 0 0
+pub sent-start : {A : Type 0} {f : A → List ℕ} {g : ℕ → A} {n : ℕ} {l : List ℕ} → length (encodeAll f (upTo g n)) ≤ length l → Sent f g n l l 0 0
 unfolding upTo encodeAll
-sent-start f g n l h = record { put = under-end (under-start {code = []} refl (omega arith)) refl; within = omega arith; fits = h }
+sent-start h = record { put = under-end (under-start {code = []} refl (omega arith)) refl; within = omega arith; fits = h }
 
-module _ {A : Type 0} (f : A → List ℕ) (g : ℕ → A) {n : ℕ} {l xs : List ℕ} {at i : ℕ} (s : Sent f g n l xs at i) where
+module _ {A : Type 0} {f : A → List ℕ} {g : ℕ → A} {n : ℕ} {l xs : List ℕ} {at i : ℕ} (s : Sent f g n l xs at i) where
   pub sent-long : length xs ≡ length l
   sent-long = ap length (s .put .bytes) ∙ pasted-length (encodeAll f (upTo g i)) l 0 (omega (arith, s .fits, all-within f g i n (s .within)))
 

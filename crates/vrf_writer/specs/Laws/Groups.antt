@@ -23,9 +23,8 @@ use Rattle.vrf_store.specs.Inner.Fields.{fieldFound}
 use Rattle.vrf_store.specs.Laws.Memory.UpTo.{length-upTo}
 use Rattle.vrf_store.specs.Laws.Lookups.{group-at}
 use Rattle.vrf_store.specs.Laws.Fields.Row.{field-known}
-use Rattle.vrf_writer.specs.Inner.Prefix.{WritesPrefix}
 use Rattle.vrf_writer.specs.Inner.Groups.{groupAt, nameCode, RowBelow}
-use Rattle.vrf_writer.specs.Laws.Prefix.{under-start, first-lent, first-put, PartlyWritten}
+use Rattle.vrf_writer.specs.Laws.Prefix.{under-start, PartlyWritten}
 use Rattle.vrf_writer.specs.Laws.Each.{all-next}
 
 -- a slot of a group, with all fields of the store
@@ -111,14 +110,9 @@ slotsOn g = encodePacked (length (g .slots)) ++ encodeSlots 0 (g .slots)
 abbrev pub indexOn : Group → List ℕ
 indexOn g = encodePacked (g .index) ++ slotsOn g
 
-module _ (g : Group) (l : List ℕ) (fits : length (encodeGroup g) ≤ length l) {t : List ℕ} (e : t ≡ g .path) where
-  pub path-lent : length (encodeText t) ≤ length l
-  unfolding encodeGroup
-  path-lent = first-lent l (encodeText (g .path)) (indexOn g) refl fits (ap encodeText e)
-
-  pub path-put : {ys : List ℕ} {a : ℕ} → WritesPrefix (encodeText t) l ys a → PartlyWritten (encodeGroup g) l ys a (indexOn g)
-  unfolding encodeGroup
-  path-put p = first-put l (encodeText (g .path)) (indexOn g) refl fits (ap encodeText e) p
+pub group-code : (g : Group) → encodeGroup g ≡ encodeText (g .path) ++ indexOn g
+unfolding encodeGroup
+group-code g = refl
 
 -- all groups
 pub groups-code : (s : Store) {n : ℕ} → n ≡ s .header .groups → encodeAll encodeGroup (upTo (groupAt s) n) ≡ encodeAll encodeGroup (contentOf s .groups)

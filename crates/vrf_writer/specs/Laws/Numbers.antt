@@ -12,7 +12,7 @@ use Rattle.vrf_bitio.specs.Number.{lowBytes, encodeWord32, encodeChunks, encode
 use Rattle.vrf_bitio.specs.Pasted.{pasted}
 use Rattle.vrf_bitio.specs.Laws.Number.{lowBytes-length}
 use Rattle.vrf_text.specs.Text.{encodeText}
-use Rattle.vrf_text.specs.Laws.Cases.{by-cond}
+use Rattle.vrf_bitio.specs.Laws.Cases.{by-cond}
 use Rattle.vrf_words.specs.Inner.Words.{setWord}
 use Rattle.vrf_writer.specs.Inner.Prefix.{WritesPrefix}
 use Rattle.vrf_writer.specs.Laws.Prefix.{under-start, under-space, under-end, first-put, under-pasted, under-byte, PartlyWritten}

@@ -17,13 +17,13 @@ use Rattle.vrf_store.specs.Store.{Store, fieldAt, guidAt, orEmpty, slotBy, grou
 use Rattle.vrf_store.specs.Check.{textSum}
 use Rattle.vrf_store.specs.Inner.Valid.{Valid}
 use Rattle.vrf_store.specs.Laws.Memory.UpTo.{length-upTo, sumBelow-ext, sumBelow-set}
+use Rattle.vrf_store.specs.Laws.Check.Steps.{sum-next}
 use Rattle.vrf_store.specs.Laws.Check.Accepted.{sumBelow-nil, sumBelow-one, sumBelow-plus, slotBy-other, slotBy-before, slotBy-after}
 use Rattle.vrf_writer.specs.Inner.Rows.{GuidRow, guidIn}
 use Rattle.vrf_writer.specs.Inner.Groups.{groupAt}
 use Rattle.vrf_writer.specs.Inner.Size.{beyond, groupBytes, fieldBytes}
 use Rattle.vrf_writer.specs.Laws.Numbers.{word-length}
 use Rattle.vrf_writer.specs.Laws.Each.{all-next}
-use Rattle.vrf_writer.specs.Laws.Rows.{guid-good}
 use Rattle.vrf_writer.specs.Laws.Guids.{outerOn, pathOn}
 use Rattle.vrf_writer.specs.Laws.Groups.{slotAt, slots-code}
 use Rattle.vrf_writer.specs.Laws.Block.{block-length}
@@ -137,8 +137,27 @@ unfolding sumBelow
 sum-within f g most zero h = omega arith
 sum-within f g most (suc n) h = rw (mul-suc most n) (omega (arith, sum-within f g most n (λ e k. h e (omega (arith, k))), h n (omega arith)))
 
-pub sum-short : (f : ℕ → ℕ) (most n : ℕ) → ((e : ℕ) → e < n → f e ≤ most) → sumBelow f n ≤ most * n
+sum-short : (f : ℕ → ℕ) (most n : ℕ) → ((e : ℕ) → e < n → f e ≤ most) → sumBelow f n ≤ most * n
 sum-short f most n h = omega (arith, sum-within f (λ e. 0) most n (λ e k. omega (arith, h e k)), sumBelow-nil (λ e. 0) n (λ e. refl))
+
+-- a loop over n numbers has added up the first i of them
+pub record Summed (f : ℕ → ℕ) (n sum i : ℕ) : Type 0 where
+  pub within : i ≤ n
+  pub total : sum ≡ sumBelow f i
+
+pub summed-start : {f : ℕ → ℕ} {n : ℕ} → Summed f n 0 0
+unfolding sumBelow
+summed-start = record { within = omega arith; total = refl }
+
+module _ {f : ℕ → ℕ} {n sum i : ℕ} (s : Summed f n sum i) where
+  pub summed-step : i < n → {more : ℕ} → more ≡ sum + f i → Summed f n more (i + 1)
+  summed-step h e = record { within = omega (arith, h); total = omega (arith, e, s .total, sum-next f i) }
+
+  pub summed-end : n ≤ i → {all : ℕ} → n ≡ all → sum ≡ sumBelow f all
+  summed-end h {all} e = let same : i ≡ all = omega (arith, h, s .within, e) in s .total ∙ ap (sumBelow f) same
+
+  pub summed-short : (most : ℕ) → ((e : ℕ) → e < n → f e ≤ most) → sum ≤ most * i
+  summed-short most h = omega (arith, s .total, sum-short f most i (λ e k. h e (omega (arith, k, s .within))))
 
 module _ (r : Guid) where
   pub guid-length : length (encodeGuid r) ≡ length (encodePacked (r .guid)) + length (encodePacked (r .outer)) + 2 + length (encodeText (r .path))
@@ -150,10 +169,11 @@ module _ (r : Guid) where
     length-append (encodeText (r .path)) (0 ∷ []),
   )
 
+  pub guid-within : length (encodeGuid r) ≤ 17 + length (r .path)
+  guid-within = omega (arith, guid-length, packed-short (r .guid), packed-short (r .outer), text-short (r .path))
+
 pub guid-short : {r x : List ℕ} {i : ℕ} → GuidRow r x i → length (encodeGuid (guidIn r x i)) ≤ 4113
-guid-short {r} {x} {i} g =
-    let it : Guid = guidIn r x i in
-    omega (arith, guid-length it, packed-short (it .guid), packed-short (it .outer), text-short (it .path), g .texts .short)
+guid-short {r} {x} {i} g = omega (arith, guid-within (guidIn r x i), g .texts .short)
 
 module _ {s : Store} (v : Valid s) where
   pub group-short : (g : ℕ) → g < s .header .groups → groupBytes (groupAt s g) ≤ 69647
@@ -167,24 +187,12 @@ module _ {s : Store} (v : Valid s) where
   pub groups-short : sumBelow (λ g. groupBytes (groupAt s g)) (s .header .groups) ≤ 69647 * s .header .groups
   groups-short = sum-short (λ g. groupBytes (groupAt s g)) 69647 (s .header .groups) group-short
 
-  pub field-short : (e : ℕ) → e < s .header .fields → fieldBytes s e ≤ 4115
+  field-within : (e : ℕ) → fieldBytes s e ≤ 19 + length (text (s .fieldRows) (s .texts) e)
   unfolding beyond fieldAt
-  field-short e h =
-      let t : List ℕ = text (s .fieldRows) (s .texts) e in
-      let name : length t ≤ 4096 = v .fieldTable .texts e h .isText .short in
-      omega (arith, packed-short (key (s .fieldRows) e % 65536), text-short t, name)
+  field-within e = omega (arith, packed-short (key (s .fieldRows) e % 65536), text-short (text (s .fieldRows) (s .texts) e))
 
-  pub block-short : length (encodeBook (contentOf s)) < 2 ^ 64
-  unfolding contentOf guidAt
-  block-short = omega (
-    arith,
-    block-bytes v,
-    all-length encodeGuid (guidAt s) (s .header .guids),
-    sum-short (λ e. length (encodeGuid (guidAt s e))) 4113 (s .header .guids) (λ e h. guid-short (guid-good v refl refl h)),
-    groups-short,
-    sum-short (fieldBytes s) 4115 (s .header .fields) field-short,
-    v .header .tops,
-  )
+  pub field-short : (e : ℕ) → e < s .header .fields → fieldBytes s e ≤ 4115
+  field-short e h = omega (arith, field-within e, v .fieldTable .texts e h .isText .short)
 
 -- ---- the upper bound
 
@@ -195,13 +203,7 @@ text-most r x e = omega (arith, length-take (len r e) (drop (at r e) x))
 module _ {s : Store} (v : Valid s) where
   guid-most : (e : ℕ) → length (encodeGuid (guidAt s e)) ≤ 17 + len (s .guidRows) e
   unfolding guidAt
-  guid-most e =
-      let it : Guid = guidAt s e in
-      omega (arith, guid-length it, packed-short (it .guid), packed-short (it .outer), text-short (it .path), text-most (s .guidRows) (s .texts) e)
-
-  field-most : (e : ℕ) → fieldBytes s e ≤ 19 + len (s .fieldRows) e
-  unfolding beyond fieldAt
-  field-most e = omega (arith, packed-short (key (s .fieldRows) e % 65536), text-short (text (s .fieldRows) (s .texts) e), text-most (s .fieldRows) (s .texts) e)
+  guid-most e = omega (arith, guid-within (guidAt s e), text-most (s .guidRows) (s .texts) e)
 
   pub block-most : length (encodeBook (contentOf s)) ≤ most s
   unfolding contentOf textSum
@@ -210,9 +212,12 @@ module _ {s : Store} (v : Valid s) where
     block-bytes v,
     all-length encodeGuid (guidAt s) (s .header .guids),
     sum-within (λ e. length (encodeGuid (guidAt s e))) (len (s .guidRows)) 17 (s .header .guids) (λ e h. guid-most e),
-    sum-within (fieldBytes s) (len (s .fieldRows)) 19 (s .header .fields) (λ e h. field-most e),
+    sum-within (fieldBytes s) (len (s .fieldRows)) 19 (s .header .fields) (λ e h. omega (arith, field-within v e, text-most (s .fieldRows) (s .texts) e)),
     v .total,
   )
 
   pub most-short : most s < 2 ^ 64
   most-short = omega (arith, groups-short v, v .header .tops, v .header .guids, v .header .groups, v .header .fields, v .header .held)
+
+  pub block-short : length (encodeBook (contentOf s)) < 2 ^ 64
+  block-short = omega (arith, block-most, most-short)

@@ -5,37 +5,33 @@ use Rattle.vrf_cache.specs.Laws.Fields.{new-full, new-space, new-field, 
 use Rattle.vrf_cache.proofs.fields.add_field.Statement.{statement}
 use Rattle.vrf_cache.proofs.fields.add_field.Tie as tie
 
+-- the function's entry state, and the places after the calls
+abbrev start : tie.After-passes → tie.Start
+start c = c .before .before .before .before
+
+abbrev fit : tie.After-keep-text → tie.Else1
+fit c = c .before .before
+
 returns : tie.Need-returns
 returns c =
-    let at-if1 = c .before in
-    let after-passes = at-if1 .before in
-    let start = after-passes .before .before .before .before in
-    rw (c .full .ensures) (new-full (start .args .checksum) (start .pre) (after-passes .passes .ensures) (at-if1 .if1 .taken) refl)
+    let p = c .before .before in
+    rw (c .full .ensures) (new-full (start p .args .checksum) (start p .pre) (p .passes .ensures) (c .before .if1 .taken) refl)
 
 keep-text-requires : tie.Need-keep-text-requires
-keep-text-requires c κs =
-    let at-if1 = c .before in
-    let after-passes = at-if1 .before in
-    let start = after-passes .before .before .before .before in
-    new-space (start .args .checksum) (start .pre) (after-passes .passes .ensures) (at-if1 .if1 .left)
+keep-text-requires c κs = let p = c .before .before in new-space (start p .args .checksum) (start p .pre) (p .passes .ensures) (c .before .if1 .left)
 
 push-field-requires : tie.Need-push-field-requires
 push-field-requires c κs =
-    let after-keep-text = c .before .before .before in
-    let at-if1 = after-keep-text .before .before in
-    let after-passes = at-if1 .before in
-    let start = after-passes .before .before .before .before in
-    (after-keep-text .keep-text .ensures .stepped .good, new-field (start .args .checksum) (start .pre) (after-passes .passes .ensures) (at-if1 .if1 .left) (after-keep-text .keep-text .ensures))
+    let k = c .before .before .before in
+    let p = fit k .before in
+    (k .keep-text .ensures .stepped .good, new-field (start p .args .checksum) (start p .pre) (p .passes .ensures) (fit k .if1 .left) (k .keep-text .ensures))
 
 returns-2 : tie.Need-returns-2
 returns-2 c =
-    let after-push-field = c .before .before in
-    let after-keep-text = after-push-field .before .before .before .before in
-    let at-if1 = after-keep-text .before .before in
-    let after-passes = at-if1 .before in
-    let at-slice-known = after-passes .before .before .before in
-    let start = at-slice-known .before in
-    new-taken (start .args .checksum) (start .pre) (after-passes .passes .ensures) (at-if1 .if1 .left) (after-keep-text .keep-text .ensures) (λ i. at-slice-known .slice-known .given i .fits) (after-push-field .push-field .ensures)
+    let n = c .before .before in
+    let k = n .before .before .before .before in
+    let p = fit k .before in
+    new-taken (start p .args .checksum) (start p .pre) (p .passes .ensures) (fit k .if1 .left) (k .keep-text .ensures) (λ i. p .before .before .before .slice-known .given i .fits) (n .push-field .ensures)
 
 pub add-field-spec : {M : Type 1} → statement M
 add-field-spec =

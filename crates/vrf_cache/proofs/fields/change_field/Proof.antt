@@ -5,36 +5,30 @@ use Rattle.vrf_cache.specs.Laws.Fields.{same-taken}
 use Rattle.vrf_cache.proofs.fields.change_field.Statement.{statement}
 use Rattle.vrf_cache.proofs.fields.change_field.Tie as tie
 
-set-checksum-requires : tie.Need-set-checksum-requires
-set-checksum-requires c κs =
-    let back = c .before .before .before .before in
-    let start = back .before .before .before in
-    (start .pre .good, start .pre .known)
+-- the places before, and the function's entry state
+abbrev name : tie.After-same → tie.After-row-name
+name c = c .before
+
+abbrev start : tie.After-row-name → tie.Start
+start c = c .before .before .before .before
 
 returns : tie.Need-returns
 returns c =
-    let after-set-checksum = c .before .before in
-    let at-if1 = after-set-checksum .before .before in
-    let after-same = at-if1 .before in
-    let after-row-name = after-same .before in
-    let at-slice-known = after-row-name .before .before .before in
-    let start = at-slice-known .before in
-    same-taken (start .args .checksum) (start .pre) (rw (after-row-name .row-name .ensures) at (sym (after-same .same .ensures) ∙ at-if1 .if1 .taken)) (λ i. at-slice-known .slice-known .given i .fits) (after-set-checksum .set-checksum .ensures)
+    let set = c .before .before in
+    let t = set .before .before in
+    let n = name (t .before) in
+    same-taken (start n .args .checksum) (start n .pre) (rw (n .row-name .ensures) at (sym (t .before .same .ensures) ∙ t .if1 .taken)) (λ i. n .before .before .before .slice-known .given i .fits) (set .set-checksum .ensures)
 
 rename-field-requires : tie.Need-rename-field-requires
 rename-field-requires c κs =
-    let at-if1 = c .before in
-    let after-same = at-if1 .before in
-    let after-row-name = after-same .before in
-    let start = after-row-name .before .before .before .before in
-    (start .pre, rw (after-row-name .row-name .ensures) at (sym (after-same .same .ensures) ∙ at-if1 .if1 .left))
-
-returns-2 : tie.Need-returns-2
-returns-2 c = c .before .before .rename-field .ensures
+    let e = c .before in
+    let n = name (e .before) in
+    (start n .pre, rw (n .row-name .ensures) at (sym (e .before .same .ensures) ∙ e .if1 .left))
 
 pub change-field-spec : {M : Type 1} → statement M
 change-field-spec =
     tie.close
     (tie.spec
-    (λ c κs. search needs) (λ c κs. search needs) set-checksum-requires (λ c. search needs) returns
-    rename-field-requires (λ c. search needs) returns-2)
+    (λ c κs. search needs) (λ c κs. search needs)
+    (λ c κs. let p = start (name (c .before .before)) .pre in (p .good, p .known)) (λ c. search needs) returns
+    rename-field-requires (λ c. search needs) (λ c. c .before .before .rename-field .ensures))

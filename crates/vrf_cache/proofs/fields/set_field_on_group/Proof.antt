@@ -8,25 +8,25 @@ use Rattle.vrf_cache.specs.Laws.Fields.{set-unknown, set-known}
 use Rattle.vrf_cache.proofs.fields.set_field_on_group.Statement.{statement}
 use Rattle.vrf_cache.proofs.fields.set_field_on_group.Tie as tie
 
+-- the function's entry state
+abbrev start : tie.After-find-index → tie.Start
+start c = c .before .before .before .before
+
 returns : tie.Need-returns
 returns c =
-    let after-set-slot = c .before .before in
-    let at-place = after-set-slot .before .before .before in
-    let after-find-index = at-place .before .before in
-    let start = after-find-index .before .before .before .before in
-    let args = start .args in
-    let book = held (now (args .m)) in
-    rw (set-known book (args .handle) (args .checksum) (now (args .name)) (args .index) (sym (after-find-index .find-index .ensures) ∙ ap entry (at-place .place .given .1))) (after-set-slot .set-slot .ensures)
+    let set = c .before .before in
+    let p = set .before .before .before in
+    let first = p .before .before in
+    let x = start first .args in
+    rw (set-known (held (now (x .m))) (x .handle) (x .checksum) (now (x .name)) (x .index) (sym (first .find-index .ensures) ∙ ap entry (p .place .given .1))) (set .set-slot .ensures)
 
 returns-2 : tie.Need-returns-2
 returns-2 c =
-    let after-drop-field = c .before .before in
-    let at-enum-told = after-drop-field .before .before in
-    let after-find-index = at-enum-told .before .before in
-    let start = after-find-index .before .before .before .before in
-    let args = start .args in
-    let book = held (now (args .m)) in
-    rw (set-unknown book (args .handle) (args .checksum) (now (args .name)) (args .index) (sym (after-find-index .find-index .ensures) ∙ ap entry (at-enum-told .enum-told .given .1))) (after-drop-field .drop-field .ensures)
+    let drop = c .before .before in
+    let told = drop .before .before in
+    let first = told .before .before in
+    let x = start first .args in
+    rw (set-unknown (held (now (x .m))) (x .handle) (x .checksum) (now (x .name)) (x .index) (sym (first .find-index .ensures) ∙ ap entry (told .enum-told .given .1))) (drop .drop-field .ensures)
 
 pub set-field-on-group-spec : {M : Type 1} → statement M
 set-field-on-group-spec =

@@ -8,28 +8,31 @@ use Rattle.vrf_cache.specs.Laws.Groups.Added.{path-found, added-by}
 use Rattle.vrf_cache.proofs.groups.add_export_group.Statement.{statement}
 use Rattle.vrf_cache.proofs.groups.add_export_group.Tie as tie
 
+-- the function's entry state
+abbrev start : tie.After-find-path-place → tie.Start
+start c = c .before .before .before .before
+
 merge-at-requires : tie.Need-merge-at-requires
 merge-at-requires c κs =
-    let at-e = c .before .before in
-    let after-find-path-place = at-e .before .before in
-    let start = after-find-path-place .before .before .before .before in
-    path-found (start .pre) (sym (ap entry (at-e .e .given .1)) ∙ after-find-path-place .find-path-place .ensures)
+    let e = c .before .before in
+    let first = e .before .before in
+    path-found (start first .pre) (sym (ap entry (e .e .given .1)) ∙ first .find-path-place .ensures)
 
 returns : tie.Need-returns
 returns c =
-    let after-merge-at = c .before .before in
-    let at-e = after-merge-at .before .before .before in
-    let after-find-path-place = at-e .before .before in
-    let start = after-find-path-place .before .before .before .before in
-    rw (added-by (now (start .args .path)) (start .args .index) (start .args .slots) (held (now (start .args .m))) (sym (ap entry (at-e .e .given .1)) ∙ after-find-path-place .find-path-place .ensures)) (after-merge-at .merge-at .ensures)
+    let merge = c .before .before in
+    let e = merge .before .before .before in
+    let first = e .before .before in
+    let x = start first .args in
+    rw (added-by (now (x .path)) (x .index) (x .slots) (held (now (x .m))) (sym (ap entry (e .e .given .1)) ∙ first .find-path-place .ensures)) (merge .merge-at .ensures)
 
 returns-2 : tie.Need-returns-2
 returns-2 c =
-    let after-add-unknown = c .before .before in
-    let at-enum-told = after-add-unknown .before .before in
-    let after-find-path-place = at-enum-told .before .before in
-    let start = after-find-path-place .before .before .before .before in
-    rw (added-by (now (start .args .path)) (start .args .index) (start .args .slots) (held (now (start .args .m))) (sym (ap entry (at-enum-told .enum-told .given .1)) ∙ after-find-path-place .find-path-place .ensures)) (after-add-unknown .add-unknown .ensures)
+    let add = c .before .before in
+    let told = add .before .before in
+    let first = told .before .before in
+    let x = start first .args in
+    rw (added-by (now (x .path)) (x .index) (x .slots) (held (now (x .m))) (sym (ap entry (told .enum-told .given .1)) ∙ first .find-path-place .ensures)) (add .add-unknown .ensures)
 
 pub add-export-group-spec : {M : Type 1} → statement M
 add-export-group-spec =

@@ -5,42 +5,44 @@ use Rattle.vrf_cache.specs.Laws.Groups.Steps.{new-full, new-space, new-g
 use Rattle.vrf_cache.proofs.groups.append_group.Statement.{statement}
 use Rattle.vrf_cache.proofs.groups.append_group.Tie as tie
 
-returns : tie.Need-returns
-returns c =
-    let at-if1 = c .before in
-    let after-passes = at-if1 .before in
-    let start = after-passes .before .before .before .before in
-    rw (c .full .ensures) (new-full (start .pre) (after-passes .passes .ensures) (at-if1 .if1 .taken) refl)
+-- the function's entry state, and the places after the calls
+abbrev start : tie.After-passes → tie.Start
+start c = c .before .before .before .before
+
+abbrev fit : tie.After-keep-text → tie.Else1
+fit c = c .before .before .before .before
+
+abbrev kept : tie.After-push-group → tie.After-keep-text
+kept c = c .before .before .before .before
+
+abbrev pushed : tie.After-step-schema → tie.After-push-group
+pushed c = c .before .before .before .before
 
 keep-text-requires : tie.Need-keep-text-requires
 keep-text-requires c κs =
-    let at-if1 = c .before .before .before in
-    let after-passes = at-if1 .before in
-    let start = after-passes .before .before .before .before in
-    (start .pre .good, new-space (start .pre) (after-passes .passes .ensures) (at-if1 .if1 .left))
+    let f = c .before .before .before in
+    let asked = start (f .before) .pre in
+    (asked .good, new-space asked (f .before .passes .ensures) (f .if1 .left))
 
 push-group-requires : tie.Need-push-group-requires
 push-group-requires c κs =
-    let after-keep-text = c .before .before .before in
-    let at-if1 = after-keep-text .before .before .before .before in
-    let after-passes = at-if1 .before in
-    let start = after-passes .before .before .before .before in
-    new-group (start .pre) (after-passes .passes .ensures) (at-if1 .if1 .left) (after-keep-text .keep-text .ensures)
+    let k = c .before .before .before in
+    let f = fit k in
+    new-group (start (f .before) .pre) (f .before .passes .ensures) (f .if1 .left) (k .keep-text .ensures)
 
 returns-2 : tie.Need-returns-2
 returns-2 c =
-    let after-step-schema = c .before .before in
-    let after-push-group = after-step-schema .before .before .before .before in
-    let after-keep-text = after-push-group .before .before .before .before in
-    let after-groups = after-keep-text .before .before in
-    let at-if1 = after-groups .before .before in
-    let after-passes = at-if1 .before in
-    let start = after-passes .before .before .before .before in
-    new-taken (start .pre) (after-passes .passes .ensures) (at-if1 .if1 .left) (after-keep-text .keep-text .ensures) (after-groups .groups .ensures) (after-push-group .push-group .ensures) (after-step-schema .step-schema .ensures)
+    let p = pushed (c .before .before) in
+    let k = kept p in
+    let f = fit k in
+    let e = f .before in
+    new-taken (start e .pre) (e .passes .ensures) (f .if1 .left) (k .keep-text .ensures) (k .before .before .groups .ensures) (p .push-group .ensures) (c .before .before .step-schema .ensures)
 
 pub append-group-spec : {M : Type 1} → statement M
 append-group-spec =
     tie.close
     (tie.spec
-    (λ c κs. search needs) (λ c κs. search needs) (λ c. search needs) returns (λ c κs. search needs) keep-text-requires
-    (λ c. search needs) push-group-requires (λ c κs. search needs) (λ c. search needs) returns-2)
+    (λ c κs. search needs) (λ c κs. search needs) (λ c. search needs)
+    (λ c. let p = c .before .before in rw (c .full .ensures) (new-full (start p .pre) (p .passes .ensures) (c .before .if1 .taken) refl))
+    (λ c κs. search needs) keep-text-requires (λ c. search needs) push-group-requires (λ c κs. search needs)
+    (λ c. search needs) returns-2)

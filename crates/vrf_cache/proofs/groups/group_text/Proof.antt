@@ -15,32 +15,25 @@ Inv-loop m e n total₀ q₀ total q = (q ≤ n) × (total ≡ textUpTo (held m)
 abbrev μ-loop : tie.MeasureT-loop
 μ-loop m e n total₀ q₀ total q = n - q
 
-loop-holds : tie.Need-loop-holds Inv-loop μ-loop
-loop-holds c =
-    let start = c .before .before .before in
-    (omega arith, text-first (held (now (start .args .m))) (start .args .e) (c .group-path .ensures))
+-- the function's entry state, seen from the loop
+abbrev start : tie.At-loop Inv-loop μ-loop → tie.Start Inv-loop μ-loop
+start c = c .before .before .before .before
 
 add-total : tie.Need-add-total Inv-loop μ-loop
 add-total c =
-    let at-loop = c .before .before in
-    let start = at-loop .before .before .before .before in
-    omega (arith, text-fits (start .pre .0) (start .pre .1) (at-loop .loop .inv .1) (c .field-name .ensures) (omega arith))
+    let l = c .before .before in
+    omega (arith, text-fits (start l .pre .0) (start l .pre .1) (l .loop .inv .1) (c .field-name .ensures) (omega arith))
 
 loop-again : tie.Need-loop-again Inv-loop μ-loop
 loop-again c =
-    let at-loop = c .before .before in
-    let start = at-loop .before .before .before .before in
-    (omega arith, text-next (held (now (start .args .m))) (start .args .e) (at-loop .loop .q) (at-loop .loop .inv .1) (c .field-name .ensures))
-
-returns : tie.Need-returns Inv-loop μ-loop
-returns c =
-    let at-loop = c .before in
-    let start = at-loop .before .before .before .before in
-    text-all (start .pre .0) (start .pre .1) (at-loop .loop .inv .1) (omega arith)
+    let l = c .before .before in
+    (omega arith, text-next (held (now (start l .args .m))) (start l .args .e) (l .loop .q) (l .loop .inv .1) (c .field-name .ensures))
 
 pub group-text-spec : {M : Type 1} → statement M
 group-text-spec =
     tie.close
     (tie.spec
-    Inv-loop μ-loop (λ c κs. search needs) (λ c κs. search needs) loop-holds (λ c κs. search needs) add-total
-    (λ c. search needs) (λ c. search needs) loop-again returns)
+    Inv-loop μ-loop (λ c κs. search needs) (λ c κs. search needs)
+    (λ c. let x = c .before .before .before .args in (omega arith, text-first (held (now (x .m))) (x .e) (c .group-path .ensures)))
+    (λ c κs. search needs) add-total (λ c. search needs) (λ c. search needs) loop-again
+    (λ c. let p = start (c .before) .pre in text-all (p .0) (p .1) (c .before .loop .inv .1) (omega arith)))

@@ -5,30 +5,29 @@ use Rattle.vrf_cache.specs.Laws.Groups.Steps.{still, release-path, gone}
 use Rattle.vrf_cache.proofs.groups.release_path.Statement.{statement}
 use Rattle.vrf_cache.proofs.groups.release_path.Tie as tie
 
-returns : tie.Need-returns
-returns c =
-    let back = c .before .before .before .before in
-    let start = back .before .before in
-    still (start .pre) (omega arith)
+-- the function's entry state
+abbrev start : tie.After-text-allowed → tie.Start
+start c =
+    let h = c .before .before in
+    h .before .before .before
 
 set-group-requires : tie.Need-set-group-requires
 set-group-requires c κs =
-    let after-group-index = c .before in
-    let back = after-group-index .before .before .before .before in
-    let start = back .before .before .before .before in
-    release-path (start .pre) (after-group-index .group-index .ensures)
+    let i = c .before in
+    let e = i .before .before in
+    release-path (start (e .before) .pre) (i .group-index .ensures)
 
 returns-2 : tie.Need-returns-2
 returns-2 c =
-    let after-set-group = c .before .before in
-    let after-group-index = after-set-group .before .before in
-    let back = after-group-index .before .before .before .before in
-    let start = back .before .before .before .before in
-    gone (start .pre) (after-group-index .group-index .ensures) (after-set-group .set-group .ensures)
+    let set = c .before .before in
+    let i = set .before .before in
+    let e = i .before .before in
+    gone (start (e .before) .pre) (i .group-index .ensures) (set .set-group .ensures)
 
 pub release-path-spec : {M : Type 1} → statement M
 release-path-spec =
     tie.close
     (tie.spec
-    (λ c κs. search needs) (λ c. search needs) (λ c. search needs) (λ c κs. search needs) (λ c. search needs) returns
-    (λ c κs. search needs) set-group-requires (λ c. search needs) returns-2)
+    (λ c κs. search needs) (λ c. search needs) (λ c. search needs) (λ c κs. search needs) (λ c. search needs)
+    (λ c. still (start (c .before) .pre) (omega arith)) (λ c κs. search needs) set-group-requires (λ c. search needs)
+    returns-2)

@@ -1,80 +1,81 @@
 -- `vrf_cache::groups::replace_at` satisfies its contract, by the laws about a replaced group.
-use mathlib.Core.Path.{refl, _∙_}
+use mathlib.Core.Path.{_≡_, refl, _∙_}
 use native.Mathlib.Omega.{arith}
+use lib.ListN.{length}
 use borrow.Author.Needs.{needs}
+use denote.Ref.{now}
+use Rattle.vrf_model.specs.Book.{groupText}
+use Rattle.vrf_store.specs.Inner.Stepped.{held}
+use Rattle.vrf_cache.specs.Inner.Passed.{passesBy}
+use Rattle.vrf_cache.specs.Inner.Groups.{groupAt}
 use Rattle.vrf_cache.specs.Laws.Groups.Held.{texts-held}
 use Rattle.vrf_cache.specs.Laws.Groups.Replaced.{replace-full, replace-fits, replace-old, replace-taken}
 use Rattle.vrf_cache.proofs.groups.replace_at.Statement.{statement}
 use Rattle.vrf_cache.proofs.groups.replace_at.Tie as tie
 
+-- the place after the call before, and the function's entry state
+abbrev start : tie.After-group-text → tie.Start
+start c = c .before .before .before .before
+
+abbrev begin : tie.After-passes → tie.Start
+begin c = start (c .before .before)
+
+abbrev fit : tie.After-drop-fields → tie.Else1
+fit c = c .before .before
+
+abbrev dropped : tie.After-put-path → tie.After-drop-fields
+dropped c = c .before .before .before .before
+
+abbrev put : tie.After-replace-group → tie.After-put-path
+put c = c .before .before .before .before
+
+abbrev replaced : tie.After-step-schema → tie.After-replace-group
+replaced c = c .before .before .before .before
+
+abbrev counted : tie.After-step-replaced → tie.After-step-schema
+counted c = c .before .before .before .before
+
+-- the allowance that the step would pass
+which : (c : tie.After-passes) → c .passes .result ≡ passesBy (now (begin c .args .m)) 0 0 0 (groupText (groupAt (held (now (begin c .args .m))) (begin c .args .e))) (length (now (begin c .args .path)))
+which c = rw (c .before .before .group-text .ensures) at (c .passes .ensures)
+
 passes-requires : tie.Need-passes-requires
 passes-requires c κs =
-    let after-group-text = c .before in
-    let start = after-group-text .before .before .before .before in
-    (start .pre .good, omega arith, omega arith, omega arith, rw (after-group-text .group-text .ensures) (texts-held (start .pre .good) (start .pre .known)), start .pre .isText .short)
-
-returns : tie.Need-returns
-returns c =
-    let at-if1 = c .before in
-    let after-passes = at-if1 .before in
-    let after-group-text = after-passes .before .before in
-    let start = after-group-text .before .before .before .before in
-    rw (c .full .ensures) (replace-full (start .pre) (rw (after-group-text .group-text .ensures) at (after-passes .passes .ensures)) (at-if1 .if1 .taken) refl)
+    let p = start (c .before) .pre in
+    (p .good, omega arith, omega arith, omega arith, rw (c .before .group-text .ensures) (texts-held (p .good) (p .known)), p .isText .short)
 
 put-path-requires : tie.Need-put-path-requires
 put-path-requires c κs =
-    let after-drop-fields = c .before .before .before in
-    let at-if1 = after-drop-fields .before .before in
-    let after-passes = at-if1 .before in
-    let after-group-text = after-passes .before .before in
-    let start = after-group-text .before .before .before .before in
-    replace-fits (start .pre) (rw (after-group-text .group-text .ensures) at (after-passes .passes .ensures)) (at-if1 .if1 .left) (after-drop-fields .drop-fields .ensures)
+    let d = c .before .before .before in
+    let f = fit d in
+    replace-fits (begin (f .before) .pre) (which (f .before)) (f .if1 .left) (d .drop-fields .ensures)
 
 replace-group-requires : tie.Need-replace-group-requires
 replace-group-requires c κs =
-    let after-put-path = c .before .before .before in
-    let after-drop-fields = after-put-path .before .before .before .before in
-    let at-if1 = after-drop-fields .before .before in
-    let after-passes = at-if1 .before in
-    let after-group-text = after-passes .before .before in
-    let start = after-group-text .before .before .before .before in
-    replace-old (start .pre) (rw (after-group-text .group-text .ensures) at (after-passes .passes .ensures)) (at-if1 .if1 .left) (after-drop-fields .drop-fields .ensures) (after-put-path .put-path .ensures)
-
-step-schema-requires : tie.Need-step-schema-requires
-step-schema-requires c κs = omega (arith, c .before .before .before .replace-group .ensures .good .enough)
-
-step-replaced-requires : tie.Need-step-replaced-requires
-step-replaced-requires c κs =
-    let after-step-schema = c .before .before .before in
-    let after-replace-group = after-step-schema .before .before .before .before in
-    omega (arith, after-step-schema .step-schema .ensures .long, after-replace-group .replace-group .ensures .good .enough)
+    let p = c .before .before .before in
+    let f = fit (dropped p) in
+    replace-old (begin (f .before) .pre) (which (f .before)) (f .if1 .left) (dropped p .drop-fields .ensures) (p .put-path .ensures)
 
 same-length-2 : tie.Need-same-length-2
 same-length-2 c =
-    let after-step-replaced = c .before .before in
-    let after-step-schema = after-step-replaced .before .before .before .before in
-    let after-replace-group = after-step-schema .before .before .before .before in
-    let after-put-path = after-replace-group .before .before .before .before in
-    let after-drop-fields = after-put-path .before .before .before .before in
-    after-step-replaced .step-replaced .ensures .long ∙ after-step-schema .step-schema .ensures .long ∙ after-replace-group .replace-group .ensures .long ∙ after-put-path .put-path .ensures .freed .stepped .long ∙ after-drop-fields .drop-fields .ensures .long
+    let r = replaced (counted (c .before .before)) in
+    c .before .before .step-replaced .ensures .long ∙ counted (c .before .before) .step-schema .ensures .long ∙ r .replace-group .ensures .long ∙ put r .put-path .ensures .freed .stepped .long ∙ dropped (put r) .drop-fields .ensures .long
 
 returns-2 : tie.Need-returns-2
 returns-2 c =
-    let after-step-replaced = c .before .before in
-    let after-step-schema = after-step-replaced .before .before .before .before in
-    let after-replace-group = after-step-schema .before .before .before .before in
-    let after-put-path = after-replace-group .before .before .before .before in
-    let after-drop-fields = after-put-path .before .before .before .before in
-    let at-if1 = after-drop-fields .before .before in
-    let after-passes = at-if1 .before in
-    let after-group-text = after-passes .before .before in
-    let start = after-group-text .before .before .before .before in
-    replace-taken (start .pre) (rw (after-group-text .group-text .ensures) at (after-passes .passes .ensures)) (at-if1 .if1 .left) (after-drop-fields .drop-fields .ensures) (after-put-path .put-path .ensures) (after-replace-group .replace-group .ensures) (after-step-schema .step-schema .ensures) (after-step-replaced .step-replaced .ensures)
+    let s = counted (c .before .before) in
+    let r = replaced s in
+    let d = dropped (put r) in
+    let f = fit d in
+    replace-taken (begin (f .before) .pre) (which (f .before)) (f .if1 .left) (d .drop-fields .ensures) (put r .put-path .ensures) (r .replace-group .ensures) (s .step-schema .ensures) (c .before .before .step-replaced .ensures)
 
 pub replace-at-spec : {M : Type 1} → statement M
 replace-at-spec =
     tie.close
     (tie.spec
-    (λ c κs. search needs) passes-requires (λ c κs. search needs) (λ c. search needs) returns (λ c κs. search needs)
-    put-path-requires (λ c. search needs) replace-group-requires step-schema-requires step-replaced-requires
+    (λ c κs. search needs) passes-requires (λ c κs. search needs) (λ c. search needs)
+    (λ c. let p = c .before .before in rw (c .full .ensures) (replace-full (begin p .pre) (which p) (c .before .if1 .taken) refl))
+    (λ c κs. search needs) put-path-requires (λ c. search needs) replace-group-requires
+    (λ c κs. omega (arith, c .before .before .before .replace-group .ensures .good .enough))
+    (λ c κs. let s = c .before .before .before in omega (arith, s .step-schema .ensures .long, replaced s .replace-group .ensures .good .enough))
     same-length-2 returns-2)

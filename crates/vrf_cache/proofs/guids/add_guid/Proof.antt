@@ -5,37 +5,39 @@ use Rattle.vrf_cache.specs.Laws.Guids.{new-full, new-space, new-guid, ne
 use Rattle.vrf_cache.proofs.guids.add_guid.Statement.{statement}
 use Rattle.vrf_cache.proofs.guids.add_guid.Tie as tie
 
+-- the function's entry state, and the places after the calls
+abbrev start : tie.After-passes → tie.Start
+start c = c .before .before .before .before
+
+abbrev fit : tie.After-keep-text → tie.Else1
+fit c = c .before .before
+
+abbrev kept : tie.After-push-guid → tie.After-keep-text
+kept c = c .before .before .before .before
+
 returns : tie.Need-returns
 returns c =
-    let at-if1 = c .before in
-    let after-passes = at-if1 .before in
-    let start = after-passes .before .before .before .before in
-    rw (c .full .ensures) (new-full (start .args .guid) (start .args .outer) (start .pre) (after-passes .passes .ensures) (at-if1 .if1 .taken) refl)
+    let p = c .before .before in
+    rw (c .full .ensures) (new-full (start p .args .guid) (start p .args .outer) (start p .pre) (p .passes .ensures) (c .before .if1 .taken) refl)
 
 keep-text-requires : tie.Need-keep-text-requires
 keep-text-requires c κs =
-    let at-if1 = c .before in
-    let after-passes = at-if1 .before in
-    let start = after-passes .before .before .before .before in
-    (start .pre .good, new-space (start .args .guid) (start .args .outer) (start .pre) (after-passes .passes .ensures) (at-if1 .if1 .left))
+    let p = c .before .before in
+    (start p .pre .good, new-space (start p .args .guid) (start p .args .outer) (start p .pre) (p .passes .ensures) (c .before .if1 .left))
 
 push-guid-requires : tie.Need-push-guid-requires
 push-guid-requires c κs =
-    let after-keep-text = c .before .before .before in
-    let at-if1 = after-keep-text .before .before in
-    let after-passes = at-if1 .before in
-    let start = after-passes .before .before .before .before in
-    new-guid (start .args .guid) (start .args .outer) (start .pre) (after-passes .passes .ensures) (at-if1 .if1 .left) (after-keep-text .keep-text .ensures)
+    let k = c .before .before .before in
+    let p = fit k .before in
+    new-guid (start p .args .guid) (start p .args .outer) (start p .pre) (p .passes .ensures) (fit k .if1 .left) (k .keep-text .ensures)
 
 returns-2 : tie.Need-returns-2
 returns-2 c =
-    let after-step-guid = c .before .before in
-    let after-push-guid = after-step-guid .before .before .before .before in
-    let after-keep-text = after-push-guid .before .before .before .before in
-    let at-if1 = after-keep-text .before .before in
-    let after-passes = at-if1 .before in
-    let start = after-passes .before .before .before .before in
-    new-taken (start .args .guid) (start .args .outer) (start .pre) (after-passes .passes .ensures) (at-if1 .if1 .left) (after-keep-text .keep-text .ensures) (after-push-guid .push-guid .ensures) (after-step-guid .step-guid .ensures)
+    let s = c .before .before in
+    let n = s .before .before .before .before in
+    let f = fit (kept n) in
+    let p = f .before in
+    new-taken (start p .args .guid) (start p .args .outer) (start p .pre) (p .passes .ensures) (f .if1 .left) (kept n .keep-text .ensures) (n .push-guid .ensures) (s .step-guid .ensures)
 
 pub add-guid-spec : {M : Type 1} → statement M
 add-guid-spec =

@@ -11,41 +11,36 @@ use Rattle.vrf_cache.specs.Laws.Resolve.{alias-turn, default-fits, core-
 use Rattle.vrf_cache.proofs.resolve.find_aliases.Statement.{statement}
 use Rattle.vrf_cache.proofs.resolve.find_aliases.Tie as tie
 
+-- the function's entry state
+abbrev start : tie.After-default-object-alias → tie.Start
+start c = c .before .before .before
+
 find-alias-requires : tie.Need-find-alias-requires
-find-alias-requires c κs =
-    let start = c .before .before .before in
-    (start .pre .0, omega (arith, default-fits (now (start .args .path)) (c .default-object-alias .result) (c .default-object-alias .ensures .text)))
+find-alias-requires c κs = (start c .pre .0, omega (arith, default-fits (now (start c .args .path)) (c .default-object-alias .result) (c .default-object-alias .ensures .text)))
 
 find-alias-requires-2 : tie.Need-find-alias-requires-2
 find-alias-requires-2 c κs =
-    let back = c .before .before .before .before in
-    let start = back .before .before .before in
-    (start .pre .0, omega (arith, core-fits (now (start .args .path)) (c .core-alias .result) (c .core-alias .ensures .text)))
+    let first = c .before .before .before in
+    let s = start (first .before) in
+    (s .pre .0, omega (arith, core-fits (now (s .args .path)) (c .core-alias .result) (c .core-alias .ensures .text)))
 
 returns : tie.Need-returns
 unfolding foundOrNext
 returns c =
-    let at-e = c .before in
-    let after-find-alias = at-e .before .before in
-    let after-default-object-alias = after-find-alias .before in
-    let start = after-default-object-alias .before .before .before in
-    let args = start .args in
-    let found = sym (after-find-alias .find-alias .ensures) ∙ ap entry (at-e .e .given .1) in
-    sym (alias-turn (held (now (args .m)) .groups) (now (args .path)) (after-default-object-alias .default-object-alias .ensures .text) found)
+    let first = c .before .before .before in
+    let d = first .before in
+    let x = start d .args in
+    sym (alias-turn (held (now (x .m)) .groups) (now (x .path)) (d .default-object-alias .ensures .text) (sym (first .find-alias .ensures) ∙ ap entry (c .before .e .given .1)))
 
 returns-2 : tie.Need-returns-2
 unfolding foundOrNext
 returns-2 c =
-    let after-core-alias = c .before in
-    let at-enum-told = after-core-alias .before in
-    let after-find-alias = at-enum-told .before .before in
-    let after-default-object-alias = after-find-alias .before in
-    let start = after-default-object-alias .before .before .before in
-    let args = start .args in
-    let groups = held (now (args .m)) .groups in
-    let missing = sym (after-find-alias .find-alias .ensures) ∙ ap entry (at-enum-told .enum-told .given .1) in
-    let turn = alias-turn groups (now (args .path)) (after-default-object-alias .default-object-alias .ensures .text) missing in
-    c .find-alias2 .ensures ∙ ap (withToggle groups) (after-core-alias .core-alias .ensures .text) ∙ sym turn
+    let told = c .before .before in
+    let first = told .before .before in
+    let x = start (first .before) .args in
+    let groups = held (now (x .m)) .groups in
+    let turn = alias-turn groups (now (x .path)) (first .before .default-object-alias .ensures .text) (sym (first .find-alias .ensures) ∙ ap entry (told .enum-told .given .1)) in
+    c .find-alias2 .ensures ∙ ap (withToggle groups) (c .before .core-alias .ensures .text) ∙ sym turn
 
 pub find-aliases-spec : {M : Type 1} → statement M
 find-aliases-spec =

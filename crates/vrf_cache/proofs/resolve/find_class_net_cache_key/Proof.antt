@@ -12,24 +12,16 @@ use Rattle.vrf_cache.proofs.resolve.find_class_net_cache_key.Tie as tie
 returns : tie.Need-returns
 unfolding foundOrNext
 returns c =
-    let at-e = c .before in
-    let after-find-or-toggled = at-e .before .before in
-    let start = after-find-or-toggled .before .before .before in
-    let args = start .args in
-    let turn = keys-turn (held (now (args .m)) .groups) (now (args .path)) in
-    let found = sym (after-find-or-toggled .find-or-toggled .ensures) ∙ ap entry (at-e .e .given .1) in
-    sym (rw found at turn)
+    let first = c .before .before .before in
+    let x = first .before .before .before .args in
+    sym (rw (sym (first .find-or-toggled .ensures) ∙ ap entry (c .before .e .given .1)) at (keys-turn (held (now (x .m)) .groups) (now (x .path))))
 
 returns-2 : tie.Need-returns-2
 unfolding foundOrNext
 returns-2 c =
-    let at-enum-told = c .before in
-    let after-find-or-toggled = at-enum-told .before .before in
-    let start = after-find-or-toggled .before .before .before in
-    let args = start .args in
-    let turn = keys-turn (held (now (args .m)) .groups) (now (args .path)) in
-    let missing = sym (after-find-or-toggled .find-or-toggled .ensures) ∙ ap entry (at-enum-told .enum-told .given .1) in
-    c .find-aliases .ensures ∙ sym (rw missing at turn)
+    let first = c .before .before .before in
+    let x = first .before .before .before .args in
+    c .find-aliases .ensures ∙ sym (rw (sym (first .find-or-toggled .ensures) ∙ ap entry (c .before .enum-told .given .1)) at (keys-turn (held (now (x .m)) .groups) (now (x .path))))
 
 pub find-class-net-cache-key-spec : {M : Type 1} → statement M
 find-class-net-cache-key-spec =

@@ -12,24 +12,16 @@ use Rattle.vrf_cache.proofs.resolve.find_or_toggled.Tie as tie
 returns : tie.Need-returns
 unfolding foundOrNext
 returns c =
-    let at-e = c .before in
-    let after-find-path-place = at-e .before .before in
-    let start = after-find-path-place .before .before .before in
-    let args = start .args in
-    let turn = toggle-turn (held (now (args .m)) .groups) (now (args .key)) in
-    let found = sym (after-find-path-place .find-path-place .ensures) ∙ ap entry (at-e .e .given .1) in
-    sym (rw found at turn)
+    let first = c .before .before .before in
+    let x = first .before .before .before .args in
+    sym (rw (sym (first .find-path-place .ensures) ∙ ap entry (c .before .e .given .1)) at (toggle-turn (held (now (x .m)) .groups) (now (x .key))))
 
 returns-2 : tie.Need-returns-2
 unfolding foundOrNext
 returns-2 c =
-    let at-enum-told = c .before in
-    let after-find-path-place = at-enum-told .before .before in
-    let start = after-find-path-place .before .before .before in
-    let args = start .args in
-    let turn = toggle-turn (held (now (args .m)) .groups) (now (args .key)) in
-    let missing = sym (after-find-path-place .find-path-place .ensures) ∙ ap entry (at-enum-told .enum-told .given .1) in
-    c .find-toggled .ensures ∙ sym (rw missing at turn)
+    let first = c .before .before .before in
+    let x = first .before .before .before .args in
+    c .find-toggled .ensures ∙ sym (rw (sym (first .find-path-place .ensures) ∙ ap entry (c .before .enum-told .given .1)) at (toggle-turn (held (now (x .m)) .groups) (now (x .key))))
 
 pub find-or-toggled-spec : {M : Type 1} → statement M
 find-or-toggled-spec =

@@ -8,31 +8,31 @@ use Rattle.vrf_cache.specs.Laws.Resolve.{match-path, match-name, name-in
 use Rattle.vrf_cache.proofs.resolve.unique_leaf_match.Statement.{statement}
 use Rattle.vrf_cache.proofs.resolve.unique_leaf_match.Tie as tie
 
-returns : tie.Need-returns
-returns c = let x = c .before .before .before .before .args in match-path (now (x .name)) (held (now (x .m)) .groups) (cc)
+-- the function's entry state
+abbrev start : tie.Else1 → tie.Start
+start c = c .before .before .before .before
 
 claim-of-requires : tie.Need-claim-of-requires
 unfolding component underscoreC
 claim-of-requires c κs =
-    let after-leaf-base = c .before .before .before in
-    let back = after-leaf-base .before .before .before .before in
-    let s = back .before in
-    (s .pre .0, name-leaves (now (s .args .name)) (cc) (s .pre .1) (after-leaf-base .leaf-base .ensures))
+    let base = c .before .before .before in
+    let s = start (base .before) in
+    (s .pre .0, name-leaves (now (s .args .name)) (cc) (s .pre .1) (base .leaf-base .ensures))
 
 returns-2 : tie.Need-returns-2
 unfolding component underscoreC
 returns-2 c =
-    let after-claim-of = c .before in
-    let back = after-claim-of .before .before .before .before in
-    let back2 = back .before .before .before .before in
-    let start = back2 .before in
-    let x = start .args in
+    let claim = c .before in
+    let base = claim .before .before .before .before in
+    let x = start (base .before) .args in
     let groups = held (now (x .m)) .groups in
-    c .claimed .ensures ∙ match-name (now (x .name)) groups (cc) (name-in-turn groups (now (x .name)) (after-claim-of .claim-of .ensures))
+    c .claimed .ensures ∙ match-name (now (x .name)) groups (cc) (name-in-turn groups (now (x .name)) (claim .claim-of .ensures))
 
 pub unique-leaf-match-spec : {M : Type 1} → statement M
 unique-leaf-match-spec =
     tie.close
     (tie.spec
-    (λ c κs. search needs) returns (λ c κs. search needs) (λ c. search needs) (λ c. search needs) (λ c. search needs)
-    claim-of-requires (λ c κs. search needs) returns-2)
+    (λ c κs. search needs)
+    (λ c. let x = c .before .before .before .before .args in match-path (now (x .name)) (held (now (x .m)) .groups) (cc))
+    (λ c κs. search needs) (λ c. search needs) (λ c. search needs) (λ c. search needs) claim-of-requires
+    (λ c κs. search needs) returns-2)

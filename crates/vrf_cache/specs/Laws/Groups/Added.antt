@@ -1,24 +1,22 @@
 -- The cases of `addGroup` on a well-formed memory, by where path and index are found. Used by the proofs of `merge_at`, `add_unknown` and
 -- `add_export_group`.
-use mathlib.Core.Path.{_≡_, refl, sym, ap, subst, _∙_}
+use mathlib.Core.Path.{_≡_, refl, sym, subst}
 use mathlib.Core.Logic.{_≢_}
 use mathlib.Core.List.{List}
 use mathlib.Core.Option.{Option, none, some}
 use Prim.Native.Nat.{ℕ, _≤_}
 use native.Mathlib.Omega.{arith}
-use lib.ListN.{set}
 use borrow.Author.Tests.{eq-eqb, ne-eqb}
 use Rattle.vrf_text.specs.Text.{IsText}
-use Rattle.vrf_model.specs.Book.{Group, Content}
+use Rattle.vrf_model.specs.Book.{Content}
 use Rattle.vrf_model.specs.Lookup.{pathPlace, indexPlace}
-use Rattle.vrf_model.specs.Setting.{Step, refuses, keep, schemaStep, withGroups, newGroup, mergedGroup, merge, addGroupAt, addGroup, noGroup}
+use Rattle.vrf_model.specs.Setting.{Step, refuses, newGroup, merge, addGroupAt, addGroup}
 use Rattle.vrf_model.specs.Laws.Places.{lastPlace-some}
 use Rattle.vrf_store.specs.Inner.WellFormed.{WellFormed}
 use Rattle.vrf_store.specs.Inner.Stepped.{held}
 use Rattle.vrf_store.specs.Inner.Groups.{Only}
 use Rattle.vrf_cache.specs.Inner.Groups.{replacing, GroupRequest, GroupToAdd, merging, appending, MergeRequest}
 use Rattle.vrf_cache.specs.Laws.Numbers.{counts}
-use Rattle.vrf_cache.specs.Laws.Groups.Held.{at-place, listed}
 
 pub path-found : {m path : List ℕ} {e slots : ℕ} → WellFormed m × IsText path × (slots ≤ 65536) → some e ≡ pathPlace path (held m .groups) → MergeRequest m path e slots
 unfolding pathPlace
@@ -32,20 +30,13 @@ module _ {m path : List ℕ} {e slots : ℕ} (index : ℕ) (x : MergeRequest m p
   abbrev wanted : Step ℕ
   wanted = addGroupAt path index slots (held m) (some e) (indexPlace index (held m .groups))
 
-  same-merge : merge path index slots (held m) e ≡ merging (held m) e path index slots
-  unfolding merge
-  same-merge =
-      let at = listed (x .good) (x .known) in
-      ap (λ (g : Group). keep e (withGroups (held m) (set (held m .groups) e g)) schemaStep)
-      (at-place (held m) e at (mergedGroup path index slots) (newGroup path index slots) ∙ sym (at-place (held m) e at (mergedGroup path index slots) noGroup))
-
   pub merged-by : Only e (indexPlace index (held m .groups)) → wanted ≡ merging (held m) e path index slots
-  unfolding addGroupAt
+  unfolding addGroupAt merge
   merged-by = go (indexPlace index (held m .groups))
     where
       go : (o : Option ℕ) → Only e o → addGroupAt path index slots (held m) (some e) o ≡ merging (held m) e path index slots
-      go none only = same-merge
-      go (some j) only = rw (eq-eqb e j (sym only)) same-merge
+      go none only = refl
+      go (some j) only = rw (eq-eqb e j (sym only))
 
   -- another group has the index
   pub crossed-by : {j : ℕ} → some j ≡ indexPlace index (held m .groups) → e ≢ j → wanted ≡ refuses 23 index 0

@@ -12,7 +12,7 @@ use borrow.Author.Tests.{le-ltb}
 use Rattle.vrf_words.specs.Words.{part}
 use Rattle.vrf_model.specs.Book.{Slot, empty, filled, Group, Allowances, Content, sum, slotFields, slotText, groupFields, groupText}
 use Rattle.vrf_model.specs.Lookup.{placeOr, indexPlace, slotName, slotAt}
-use Rattle.vrf_model.specs.Setting.{schemaStep, replacedStep, withGroups, newGroup, noGroup}
+use Rattle.vrf_model.specs.Setting.{schemaStep, replacedStep, withGroups, newGroup}
 use Rattle.vrf_model.specs.Laws.Held.{sum-none}
 use Rattle.vrf_store.specs.UpTo.{sumBelow}
 use Rattle.vrf_store.specs.Store.{allowancesOf, headerOf, storeOf}
@@ -27,7 +27,7 @@ use Rattle.vrf_store.specs.Laws.Counters.{counted-replacing}
 use Rattle.vrf_store.specs.Laws.Groups.Replaced.{stepped-as}
 use Rattle.vrf_cache.specs.Inner.Taken.{Taken, NotTaken}
 use Rattle.vrf_cache.specs.Inner.Passed.{passedBy, passesBy}
-use Rattle.vrf_cache.specs.Inner.Groups.{groupAt, pathBytes, repath, GroupRequest, PathFits, PathWritten, replacing}
+use Rattle.vrf_cache.specs.Inner.Groups.{noGroup, groupAt, pathBytes, repath, GroupRequest, PathFits, PathWritten, replacing}
 use Rattle.vrf_cache.specs.Laws.Taken.{then, counted-then}
 use Rattle.vrf_cache.specs.Laws.Passed.{HeldCounts, counts-group-set}
 use Rattle.vrf_cache.specs.Laws.Keeping.{allows, kept, full}

@@ -1,18 +1,20 @@
 -- A slot of a group, and the content with that slot set. Used by the laws of `set_field_on_group`.
-use mathlib.Core.Path.{_≡_, ap, _∙_}
+use mathlib.Core.Path.{_≡_, ap}
 use mathlib.Core.List.{List, [], _∷_}
 use Prim.Native.Nat.{ℕ, zero, suc, _+_, _<_, suc-le-suc, zero-le}
 use native.Mathlib.Nat.{not-suc-le-zero}
 use native.Mathlib.Omega.{arith}
-use lib.ListN.{length, getD, set}
-use lib.Seq.{getD-set-same, set-set, lt-length-set}
+use lib.ListN.{length, getD}
+use lib.Seq.{set-set}
 use Rattle.vrf_model.specs.Book.{Slot, empty, Group, Content, slotFields, slotText, groupFields, groupText}
 use Rattle.vrf_model.specs.Lookup.{placeOr, slotAt}
-use Rattle.vrf_model.specs.Setting.{withGroups, withSlot, noGroup}
+use Rattle.vrf_model.specs.Setting.{withSlot}
 use Rattle.vrf_model.specs.Laws.Places.{placeOr-at}
 use Rattle.vrf_store.specs.Inner.Fields.{withField}
+use Rattle.vrf_cache.specs.Inner.Groups.{noGroup}
 use Rattle.vrf_cache.specs.Inner.Slots.{slotsAt}
 use Rattle.vrf_cache.specs.Laws.Passed.{HeldCounts, sum-set, counts-group-set}
+use Rattle.vrf_cache.specs.Laws.Groups.Held.{altered, changed-twice}
 
 -- a place that has a slot is the place of a group
 pub slot-place : (groups : List Group) (place : ℕ) {slot : ℕ} → slot < slotsAt groups place → place < length groups
@@ -35,26 +37,16 @@ module _ (c : Content) (place : ℕ) {slot : ℕ} (h : slot < slotsAt (c .groups
   unfolding slotAt
   its-slot = placeOr-at (λ (g : Group). getD (g .slots) slot empty) empty (c .groups) place noGroup there
 
-  changed : (w : Slot) → placeOr (withSlot slot w) noGroup (c .groups) place ≡ withSlot slot w group
-  changed w = placeOr-at (withSlot slot w) noGroup (c .groups) place noGroup there
-
   -- the counts change by the fields and the text of this slot
   pub slot-counts : {guids groups fields text : ℕ} → HeldCounts c guids groups fields text → (w : Slot) (f t : ℕ) → f + slotFields (slotAt (c .groups) place slot) ≡ fields + slotFields w → t + slotText (slotAt (c .groups) place slot) ≡ text + slotText w → HeldCounts (withField c place slot w) guids groups f t
   unfolding groupFields groupText withSlot
   slot-counts k w f t ef et =
-      rw (changed w)
+      rw (altered c place there (withSlot slot w))
       (counts-group-set c k place (withSlot slot w group) noGroup there f t
       (omega (arith, ef, ap slotFields its-slot, sum-set slotFields (group .slots) slot w empty slot-there))
       (omega (arith, et, ap slotText its-slot, sum-set slotText (group .slots) slot w empty slot-there)))
 
   -- a slot set twice holds what was set last
-  changed-again : (v w : Slot) → placeOr (withSlot slot w) noGroup (set (c .groups) place (withSlot slot v group)) place ≡ withSlot slot w group
-  unfolding withSlot
-  changed-again v w =
-      placeOr-at (withSlot slot w) noGroup (set (c .groups) place (withSlot slot v group)) place noGroup (lt-length-set (c .groups) place (withSlot slot v group) there)
-      ∙ ap (withSlot slot w) (getD-set-same (c .groups) place (withSlot slot v group) noGroup there)
-      ∙ rw (set-set (group .slots) slot v w)
-
   pub set-again : (v w : Slot) → withField (withField c place slot v) place slot w ≡ withField c place slot w
-  unfolding withGroups
-  set-again v w = rw (changed v, changed-again v w, changed w, set-set (c .groups) place (withSlot slot v group) (withSlot slot w group))
+  unfolding withSlot
+  set-again v w = changed-twice c place there (withSlot slot v) (withSlot slot w) (withSlot slot w) (rw (set-set (group .slots) slot v w))

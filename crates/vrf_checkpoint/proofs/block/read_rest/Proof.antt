@@ -1,72 +1,64 @@
 -- `vrf_checkpoint::block::read_rest` satisfies its contract: the groups, then the end.
-use mathlib.Core.Path.{subst}
-use Prim.Native.Nat.{_*_}
+use mathlib.Core.Path.{_≡_, subst}
 use borrow.Author.Needs.{needs}
 use denote.Ref.{now}
-use Rattle.vrf_bitio.specs.declared.Word.{Word}
-use Rattle.vrf_model.specs.Block.{countUpTo, blockGroups, blockEnd}
-use Rattle.vrf_reader.specs.Inner.Simulates.{RefinesReading, wordOutcome}
-use Rattle.vrf_checkpoint.specs.Inner.Groups.{CountReads}
+use Rattle.vrf_model.specs.Block.{countUpTo}
+use Rattle.vrf_reader.specs.Inner.Simulates.{RefinesReading, numberOutcome}
+use Rattle.vrf_reader.specs.declared.ReadNumber.{ReadNumber}
 use Rattle.vrf_checkpoint.specs.Inner.Block.{UpTo}
 use Rattle.vrf_checkpoint.specs.Laws.Block.{rest-no-count, rest-no-groups, rest-no-end, rest-read}
 use Rattle.vrf_checkpoint.proofs.block.read_rest.Statement.{statement}
 use Rattle.vrf_checkpoint.proofs.block.read_rest.Tie as tie
 
+-- the function's entry state, and how many groups follow
+abbrev start : tie.After-read-count → tie.Start
+start c = c .before .before .before .before
+
+many : (c : tie.After-read-count) {x : ReadNumber} → c .read-count .result ≡ x → RefinesReading (now (start c .args .s)) (countUpTo 2 100000) (start c .args .c) (numberOutcome x)
+many c e = rw e at (c .read-count .ensures .0)
+
 read-groups-requires : tie.Need-read-groups-requires
 read-groups-requires c κs =
-    let at-groups = c .before .before .before in
-    let after-read-count = at-groups .before .before in
-    let start = after-read-count .before .before .before .before in
-    (start .pre .0, start .pre .1, subst (UpTo 100000) (at-groups .groups .given .1) (after-read-count .read-count .ensures .1))
+    let n = c .before .before .before in
+    let k = n .before .before in
+    (start k .pre .0, start k .pre .1, subst (UpTo 100000) (n .groups .given .1) (k .read-count .ensures .1))
 
 returns : tie.Need-returns
-returns c =
-    let at-r = c .before in
-    let after-read-count = at-r .before .before in
-    let start = after-read-count .before .before .before .before in
-    λ table z. rest-no-count (start .args .w) (start .args .guids) table (start .pre .0) (at-r .r .given .0 .0) (subst (λ (x : Word). RefinesReading (now (start .args .s)) (countUpTo 2 100000) (start .args .c) (wordOutcome x)) (at-r .r .given .1) (after-read-count .read-count .ensures .0))
+returns c table z =
+    let r = c .before in
+    let s = start (r .before .before) in
+    rest-no-count (s .args .w) (s .args .guids) table (s .pre .0) (r .r .given .0 .0) (many (r .before .before) (r .r .given .1))
 
 returns-2 : tie.Need-returns-2
-returns-2 c =
-    let at-r2 = c .before in
-    let back = at-r2 .before .before .before .before in
-    let after-read-groups = back .before .before in
-    let at-groups = after-read-groups .before .before .before .before in
-    let after-read-count = at-groups .before .before in
-    let start = after-read-count .before .before .before .before in
-    λ table z. rest-no-groups (start .args .w) (start .args .guids) table (start .pre .0)
-    (subst (λ (x : Word). RefinesReading (now (start .args .s)) (countUpTo 2 100000) (start .args .c) (wordOutcome x)) (at-groups .groups .given .1) (after-read-count .read-count .ensures .0))
-    (at-r2 .r2 .given .0 .0) (subst (CountReads (now (start .args .s)) (blockGroups (at-groups .groups .given .0 .0) 0) (at-groups .groups .given .0 .1 .0) (now (start .args .m)) (after-read-groups .read-groups .last .1 .1 .0) (65536 * (at-groups .groups .given .0 .0))) (at-r2 .r2 .given .1) (after-read-groups .read-groups .ensures))
+returns-2 c table z =
+    let r = c .before in
+    let known = r .before .before .before .before in
+    let g = known .before .before in
+    let n = g .before .before .before .before in
+    let s = start (n .before .before) in
+    rest-no-groups (s .args .w) (s .args .guids) table (s .pre .0) (many (n .before .before) (n .groups .given .1)) (r .r2 .given .0 .0) (rw (r .r2 .given .1) at (g .read-groups .ensures))
 
 returns-3 : tie.Need-returns-3
-returns-3 c =
-    let at-r3 = c .before in
-    let after-read-end = at-r3 .before .before in
-    let at-fields = after-read-end .before .before in
-    let back = at-fields .before .before .before .before in
-    let after-read-groups = back .before .before in
-    let at-groups = after-read-groups .before .before .before .before in
-    let after-read-count = at-groups .before .before in
-    let start = after-read-count .before .before .before .before in
-    λ table z. rest-no-end (start .args .w) (start .args .guids) table (start .pre .0)
-    (subst (λ (x : Word). RefinesReading (now (start .args .s)) (countUpTo 2 100000) (start .args .c) (wordOutcome x)) (at-groups .groups .given .1) (after-read-count .read-count .ensures .0)) _
-    ((subst (CountReads (now (start .args .s)) (blockGroups (at-groups .groups .given .0 .0) 0) (at-groups .groups .given .0 .1 .0) (now (start .args .m)) (after-read-groups .read-groups .last .1 .1 .0) (65536 * (at-groups .groups .given .0 .0))) (at-fields .fields .given .1) (after-read-groups .read-groups .ensures)) .0)
-    (at-r3 .r3 .given .0 .0) (subst (λ (x : Word). RefinesReading (now (start .args .s)) (blockEnd (start .args .w)) (at-fields .fields .given .0 .1 .0) (wordOutcome x)) (at-r3 .r3 .given .1) (after-read-end .read-end .ensures (now (start .args .s))))
+returns-3 c table z =
+    let r = c .before in
+    let f = r .before .before .before .before in
+    let known = f .before .before .before .before in
+    let g = known .before .before in
+    let n = g .before .before .before .before in
+    let s = start (n .before .before) in
+    let end = rw (r .r3 .given .1) at (r .before .before .read-end .ensures (now (s .args .s))) in
+    rest-no-end (s .args .w) (s .args .guids) table (s .pre .0) (many (n .before .before) (n .groups .given .1)) _ ((rw (f .fields .given .1) at (g .read-groups .ensures)) .0) (r .r3 .given .0 .0) end
 
 returns-4 : tie.Need-returns-4
-returns-4 c =
-    let at-frame = c .before in
-    let after-read-end = at-frame .before .before in
-    let at-fields = after-read-end .before .before in
-    let back = at-fields .before .before .before .before in
-    let after-read-groups = back .before .before in
-    let at-groups = after-read-groups .before .before .before .before in
-    let after-read-count = at-groups .before .before in
-    let start = after-read-count .before .before .before .before in
-    λ table z. rest-read (start .args .w) (start .args .guids) table (start .pre .0)
-    (subst (λ (x : Word). RefinesReading (now (start .args .s)) (countUpTo 2 100000) (start .args .c) (wordOutcome x)) (at-groups .groups .given .1) (after-read-count .read-count .ensures .0)) _
-    ((subst (CountReads (now (start .args .s)) (blockGroups (at-groups .groups .given .0 .0) 0) (at-groups .groups .given .0 .1 .0) (now (start .args .m)) (after-read-groups .read-groups .last .1 .1 .0) (65536 * (at-groups .groups .given .0 .0))) (at-fields .fields .given .1) (after-read-groups .read-groups .ensures)) .0)
-    (subst (λ (x : Word). RefinesReading (now (start .args .s)) (blockEnd (start .args .w)) (at-fields .fields .given .0 .1 .0) (wordOutcome x)) (at-frame .frame .given .1) (after-read-end .read-end .ensures (now (start .args .s)))) z
+returns-4 c table z =
+    let r = c .before in
+    let f = r .before .before .before .before in
+    let known = f .before .before .before .before in
+    let g = known .before .before in
+    let n = g .before .before .before .before in
+    let s = start (n .before .before) in
+    let end = rw (r .frame .given .1) at (r .before .before .read-end .ensures (now (s .args .s))) in
+    rest-read (s .args .w) (s .args .guids) table (s .pre .0) (many (n .before .before) (n .groups .given .1)) _ ((rw (f .fields .given .1) at (g .read-groups .ensures)) .0) end z
 
 pub read-rest-spec : {M : Type 1} → statement M
 read-rest-spec =

@@ -11,17 +11,15 @@ returns c = index-found _ _ (sym (ap entry (c .enum-told .given .1)) ∙ c .befo
 
 returns-2 : tie.Need-returns-2
 returns-2 c =
-    let after-find-path-place = c .before .before in
-    let at-enum-told2 = after-find-path-place .before in
-    let after-find-index = at-enum-told2 .before .before in
-    path-found _ _ (sym (ap entry (at-enum-told2 .enum-told2 .given .1)) ∙ after-find-index .find-index .ensures) (sym (ap entry (c .enum-told3 .given .1)) ∙ after-find-path-place .find-path-place .ensures)
+    let call = c .before .before in
+    let t = call .before in
+    path-found _ _ (sym (ap entry (t .enum-told2 .given .1)) ∙ t .before .before .find-index .ensures) (sym (ap entry (c .enum-told3 .given .1)) ∙ call .find-path-place .ensures)
 
 returns-3 : tie.Need-returns-3
 returns-3 c =
-    let after-find-path-place = c .before .before in
-    let at-enum-told2 = after-find-path-place .before in
-    let after-find-index = at-enum-told2 .before .before in
-    none-found _ _ (sym (ap entry (at-enum-told2 .enum-told2 .given .1)) ∙ after-find-index .find-index .ensures) (sym (ap entry (c .enum-told4 .given .1)) ∙ after-find-path-place .find-path-place .ensures)
+    let call = c .before .before in
+    let t = call .before in
+    none-found _ _ (sym (ap entry (t .enum-told2 .given .1)) ∙ t .before .before .find-index .ensures) (sym (ap entry (c .enum-told4 .given .1)) ∙ call .find-path-place .ensures)
 
 pub is-found-spec : {M : Type 1} → statement M
 is-found-spec =

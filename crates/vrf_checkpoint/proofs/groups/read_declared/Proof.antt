@@ -4,53 +4,47 @@ use Rattle.vrf_checkpoint.specs.Laws.Groups.{no-index, no-count, too-man
 use Rattle.vrf_checkpoint.proofs.groups.read_declared.Statement.{statement}
 use Rattle.vrf_checkpoint.proofs.groups.read_declared.Tie as tie
 
+-- the function's entry state
+abbrev start : tie.After-read-int-packed → tie.Start
+start c = c .before .before .before .before
+
 returns : tie.Need-returns
 returns c =
-    let at-slots = c .before .before in
-    let after-read-int-packed2 = at-slots .before .before in
-    let at-index = after-read-int-packed2 .before .before in
-    let after-read-int-packed = at-index .before .before in
-    let start = after-read-int-packed .before .before .before .before in
-    too-many _ (start .pre .0) (rw (at-index .index .given .1) at (after-read-int-packed .read-int-packed .ensures)) (rw (at-slots .slots .given .1) at (after-read-int-packed2 .read-int-packed2 .ensures)) (c .if1 .taken)
+    let n = c .before .before in
+    let w = n .before .before in
+    let i = w .before .before in
+    too-many _ (start (i .before .before) .pre .0) (rw (i .index .given .1) at (i .before .before .read-int-packed .ensures)) (rw (n .slots .given .1) at (w .read-int-packed2 .ensures)) (c .if1 .taken)
 
 returns-2 : tie.Need-returns-2
 returns-2 c =
-    let at-r = c .before in
-    let after-read-int-packed = at-r .before .before in
-    let start = after-read-int-packed .before .before .before .before in
-    no-index _ (start .pre .0) (at-r .r .given .0 .0) (rw (at-r .r .given .1) at (after-read-int-packed .read-int-packed .ensures))
+    let r = c .before in
+    no-index _ (start (r .before .before) .pre .0) (r .r .given .0 .0) (rw (r .r .given .1) at (r .before .before .read-int-packed .ensures))
 
 returns-3 : tie.Need-returns-3
 returns-3 c =
-    let at-r2 = c .before in
-    let after-read-int-packed2 = at-r2 .before .before in
-    let at-index = after-read-int-packed2 .before .before in
-    let after-read-int-packed = at-index .before .before in
-    let start = after-read-int-packed .before .before .before .before in
-    no-count _ (start .pre .0) (rw (at-index .index .given .1) at (after-read-int-packed .read-int-packed .ensures)) (at-r2 .r2 .given .0 .0) (rw (at-r2 .r2 .given .1) at (after-read-int-packed2 .read-int-packed2 .ensures))
+    let r = c .before in
+    let w = r .before .before in
+    let i = w .before .before in
+    no-count _ (start (i .before .before) .pre .0) (rw (i .index .given .1) at (i .before .before .read-int-packed .ensures)) (r .r2 .given .0 .0) (rw (r .r2 .given .1) at (w .read-int-packed2 .ensures))
 
 returns-4 : tie.Need-returns-4
 returns-4 c =
-    let at-r3 = c .before in
-    let after-add-first = at-r3 .before .before .before .before in
-    let at-if1 = after-add-first .before .before in
-    let at-slots = at-if1 .before .before in
-    let after-read-int-packed2 = at-slots .before .before in
-    let at-index = after-read-int-packed2 .before .before in
-    let after-read-int-packed = at-index .before .before in
-    let start = after-read-int-packed .before .before .before .before in
-    not-added _ (start .pre .0) (rw (at-index .index .given .1) at (after-read-int-packed .read-int-packed .ensures)) (rw (at-slots .slots .given .1) at (after-read-int-packed2 .read-int-packed2 .ensures)) (at-if1 .if1 .left) (at-r3 .r3 .given .0 .0) (rw (at-r3 .r3 .given .1) at (after-add-first .add-first .ensures))
+    let r = c .before in
+    let add = r .before .before .before .before in
+    let e = add .before .before in
+    let n = e .before .before in
+    let w = n .before .before in
+    let i = w .before .before in
+    not-added _ (start (i .before .before) .pre .0) (rw (i .index .given .1) at (i .before .before .read-int-packed .ensures)) (rw (n .slots .given .1) at (w .read-int-packed2 .ensures)) (e .if1 .left) (r .r3 .given .0 .0) (rw (r .r3 .given .1) at (add .add-first .ensures))
 
 returns-5 : tie.Need-returns-5
 returns-5 c =
-    let after-add-first = c .before .before .before .before in
-    let at-if1 = after-add-first .before .before in
-    let at-slots = at-if1 .before .before in
-    let after-read-int-packed2 = at-slots .before .before in
-    let at-index = after-read-int-packed2 .before .before in
-    let after-read-int-packed = at-index .before .before in
-    let start = after-read-int-packed .before .before .before .before in
-    (added _ (start .pre .0) (rw (at-index .index .given .1) at (after-read-int-packed .read-int-packed .ensures)) (rw (at-slots .slots .given .1) at (after-read-int-packed2 .read-int-packed2 .ensures)) (at-if1 .if1 .left) (rw (c .enum-told .given .1) at (after-add-first .add-first .ensures)), at-if1 .if1 .left)
+    let add = c .before .before .before .before in
+    let e = add .before .before in
+    let n = e .before .before in
+    let w = n .before .before in
+    let i = w .before .before in
+    (added _ (start (i .before .before) .pre .0) (rw (i .index .given .1) at (i .before .before .read-int-packed .ensures)) (rw (n .slots .given .1) at (w .read-int-packed2 .ensures)) (e .if1 .left) (rw (c .enum-told .given .1) at (add .add-first .ensures)), e .if1 .left)
 
 pub read-declared-spec : {M : Type 1} → statement M
 read-declared-spec =

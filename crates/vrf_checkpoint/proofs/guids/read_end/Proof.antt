@@ -1,47 +1,41 @@
 -- `vrf_checkpoint::guids::read_end` satisfies its contract: the flags byte, then the setting.
-use mathlib.Core.Path.{subst}
+use mathlib.Core.Path.{_≡_}
 use borrow.Author.Needs.{needs}
 use denote.Ref.{now}
 use Rattle.vrf_bitio.specs.Number.{byte}
 use Rattle.vrf_bitio.specs.Answers.{readAt, ByteAnswer}
-use Rattle.vrf_model.specs.Setting.{setGuid}
-use Rattle.vrf_store.specs.Inner.Stepped.{held}
-use Rattle.vrf_cache.specs.Inner.Taken.{ActedBy}
-use Rattle.vrf_checkpoint.specs.Inner.Guids.{named}
+use Rattle.vrf_bitio.specs.declared.Byte.{Byte}
 use Rattle.vrf_checkpoint.specs.Laws.Guids.{no-flags, set-taken, set-refused}
 use Rattle.vrf_checkpoint.proofs.guids.read_end.Statement.{statement}
 use Rattle.vrf_checkpoint.proofs.guids.read_end.Tie as tie
 
+-- the function's entry state, and the flags byte
+abbrev start : tie.After-read-u8 → tie.Start
+start c = c .before .before .before .before
+
+flags : (c : tie.After-read-u8) {x : Byte} → c .read-u8 .result ≡ x → let a = start c .args in ByteAnswer (now (a .s)) (a .c) (readAt (now (a .s)) (a .c) byte) x
+flags c e = rw e at (c .read-u8 .ensures)
+
 returns : tie.Need-returns
 returns c =
-    let at-r = c .before in
-    let after-read-u8 = at-r .before .before in
-    let start = after-read-u8 .before .before .before .before in
-    let a = start .args in
-    no-flags (start .pre .0) (named (a .guid) (a .outer) (now (a .path))) (subst (ByteAnswer (now (a .s)) (a .c) (readAt (now (a .s)) (a .c) byte)) (at-r .r .given .1) (after-read-u8 .read-u8 .ensures))
+    let f = c .before .before .before in
+    let a = start f .args in
+    no-flags (start f .pre .0) (a .guid) (now (a .path)) (a .outer) (flags f (c .before .r .given .1))
 
 returns-2 : tie.Need-returns-2
 returns-2 c =
-    let at-r2 = c .before in
-    let after-set-net-guid-path = at-r2 .before .before .before .before in
-    let at-next = after-set-net-guid-path .before .before .before in
-    let after-read-u8 = at-next .before .before in
-    let start = after-read-u8 .before .before .before .before in
-    let a = start .args in
-    let call = after-set-net-guid-path .set-net-guid-path in
-    let guid = named (a .guid) (a .outer) (now (a .path)) in
-    set-refused (start .pre .0) guid (subst (ByteAnswer (now (a .s)) (a .c) (readAt (now (a .s)) (a .c) byte)) (at-next .next .given .1) (after-read-u8 .read-u8 .ensures)) (subst (ActedBy (setGuid guid (held (now (a .m)))) (now (a .m)) (call .last .0)) (at-r2 .r2 .given .1) (call .ensures))
+    let r = c .before in
+    let set = r .before .before .before .before in
+    let n = set .before .before .before in
+    let s = start (n .before .before) in
+    set-refused (s .pre .0) (s .args .guid) (now (s .args .path)) (s .args .outer) (flags (n .before .before) (n .next .given .1)) (rw (r .r2 .given .1) at (set .set-net-guid-path .ensures))
 
 returns-3 : tie.Need-returns-3
 returns-3 c =
-    let after-set-net-guid-path = c .before .before .before .before in
-    let at-next = after-set-net-guid-path .before .before .before in
-    let after-read-u8 = at-next .before .before in
-    let start = after-read-u8 .before .before .before .before in
-    let a = start .args in
-    let call = after-set-net-guid-path .set-net-guid-path in
-    let guid = named (a .guid) (a .outer) (now (a .path)) in
-    set-taken (start .pre .0) guid (subst (ByteAnswer (now (a .s)) (a .c) (readAt (now (a .s)) (a .c) byte)) (at-next .next .given .1) (after-read-u8 .read-u8 .ensures)) (subst (ActedBy (setGuid guid (held (now (a .m)))) (now (a .m)) (call .last .0)) (c .enum-told .given .1) (call .ensures))
+    let set = c .before .before .before .before in
+    let n = set .before .before .before in
+    let s = start (n .before .before) in
+    set-taken (s .pre .0) (s .args .guid) (now (s .args .path)) (s .args .outer) (flags (n .before .before) (n .next .given .1)) (rw (c .enum-told .given .1) at (set .set-net-guid-path .ensures))
 
 pub read-end-spec : {M : Type 1} → statement M
 read-end-spec =

@@ -1,47 +1,48 @@
 -- `vrf_checkpoint::guids::read_literal` satisfies its contract: a text, then allowance 5.
-use mathlib.Core.Path.{subst}
+use mathlib.Core.Path.{_≡_}
 use native.Mathlib.Omega.{arith}
 use borrow.Author.Needs.{needs}
 use denote.Ref.{now}
 use Rattle.vrf_bitio.specs.Answers.{readAt}
 use Rattle.vrf_text.specs.Text.{fstring}
+use Rattle.vrf_text.specs.declared.Text.{Text}
 use Rattle.vrf_reader.specs.Inner.Texts.{TextIn}
 use Rattle.vrf_checkpoint.specs.Laws.Guids.{no-literal, literal-passed, literal-taken}
 use Rattle.vrf_checkpoint.proofs.guids.read_literal.Statement.{statement}
 use Rattle.vrf_checkpoint.proofs.guids.read_literal.Tie as tie
 
+-- the places before, and the text
+abbrev start : tie.After-read-text → tie.Start
+start c =
+    let known = c .before .before in
+    known .before .before .before
+
+abbrev read : tie.After-n → tie.After-read-text
+read c = c .before .before .before .before
+
+text : (c : tie.After-read-text) {x : Text} → c .read-text .result ≡ x → let a = start c .args in TextIn (now (a .s)) (a .c) (readAt (now (a .s)) (a .c) fstring) (c .read-text .last .1 .1 .0) x
+text c e = rw e at (c .read-text .ensures)
+
 returns : tie.Need-returns
 returns c table represents =
-    let after-literals-allowed = c .before .before in
-    let at-n = after-literals-allowed .before .before .before in
-    let after-read-text = at-n .before .before .before .before in
-    let back = after-read-text .before .before .before .before in
-    let start = back .before in
-    let a = start .args in
-    let text = subst (TextIn (now (a .s)) (a .c) (readAt (now (a .s)) (a .c) fstring) (after-read-text .read-text .last .1 .1 .0)) (at-n .n .given .1) (after-read-text .read-text .ensures) in
-    literal-passed (start .pre .good) represents (text .gave) (omega (arith, c .if1 .taken, after-literals-allowed .literals-allowed .ensures .0))
+    let l = c .before .before in
+    let n = l .before .before .before in
+    literal-passed (start (read n) .pre .good) represents (text (read n) (n .n .given .1) .gave) (omega (arith, c .if1 .taken, l .literals-allowed .ensures .0))
 
 returns-2 : tie.Need-returns-2
 returns-2 c table represents =
-    let at-r = c .before in
-    let after-read-text = at-r .before .before .before .before in
-    let back = after-read-text .before .before .before .before in
-    let start = back .before in
-    let a = start .args in
-    no-literal (start .pre .good) represents (subst (TextIn (now (a .s)) (a .c) (readAt (now (a .s)) (a .c) fstring) (after-read-text .read-text .last .1 .1 .0)) (at-r .r .given .1) (after-read-text .read-text .ensures))
+    let r = c .before in
+    let t = r .before .before .before .before in
+    no-literal (start t .pre .good) represents (text t (r .r .given .1))
 
 returns-3 : tie.Need-returns-3
 returns-3 c table represents =
-    let after-put-literal = c .before .before .before in
-    let at-if1 = after-put-literal .before .before in
-    let after-literals-allowed = at-if1 .before .before in
-    let at-n = after-literals-allowed .before .before .before in
-    let after-read-text = at-n .before .before .before .before in
-    let back = after-read-text .before .before .before .before in
-    let start = back .before in
-    let a = start .args in
-    let text = subst (TextIn (now (a .s)) (a .c) (readAt (now (a .s)) (a .c) fstring) (after-read-text .read-text .last .1 .1 .0)) (at-n .n .given .1) (after-read-text .read-text .ensures) in
-    literal-taken (start .pre .good) represents text (start .pre .few) (omega (arith, at-if1 .if1 .left, after-literals-allowed .literals-allowed .ensures .0)) (omega (arith, start)) (after-put-literal .put-literal .ensures)
+    let put = c .before .before .before in
+    let e = put .before .before in
+    let l = e .before .before in
+    let n = l .before .before .before in
+    let s = start (read n) in
+    literal-taken (s .pre .good) represents (text (read n) (n .n .given .1)) (s .pre .few) (omega (arith, e .if1 .left, l .literals-allowed .ensures .0)) (omega (arith, s)) (put .put-literal .ensures)
 
 pub read-literal-spec : {M : Type 1} → statement M
 read-literal-spec =

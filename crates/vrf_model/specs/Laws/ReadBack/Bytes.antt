@@ -10,7 +10,7 @@ use borrow.Author.Tests.{ltb-true}
 use Rattle.vrf_bitio.specs.Bits.{Bytes}
 use Rattle.vrf_bitio.specs.Number.{lowBytes, encodeWord32, encodeChunks, encodePacked}
 use Rattle.vrf_text.specs.Text.{IsText, encodeText}
-use Rattle.vrf_text.specs.Laws.Cases.{by-cond}
+use Rattle.vrf_bitio.specs.Laws.Cases.{by-cond}
 use Rattle.vrf_text.specs.Laws.Utf8.{utf8-byte}
 use Rattle.vrf_model.specs.Book.{Guid, Slot, empty, filled, Group, Allowances, Content}
 use Rattle.vrf_model.specs.Writer.{encodeGuid, encodeSlot, encodeSlots, encodeGroup, encodeAll, encodeTables, encodeBook}

@@ -10,16 +10,17 @@ use lib.ListN.{length}
 use lib.Seq.{append-snoc}
 use borrow.Author.Tests.{le-ltb}
 use Rattle.vrf_path.specs.Keys.{hasKey}
-use Rattle.vrf_model.specs.Book.{Guid, Group, Allowances, Content, fresh, groupFields}
+use Rattle.vrf_model.specs.Book.{Guid, Group, Allowances, Content, fresh}
 use Rattle.vrf_model.specs.Lookup.{nextPlace, restOrHead, lastPlace, placeOr, pathPlace, indexPlace, indexAt}
 use Rattle.vrf_model.specs.Setting.{refuses}
-use Rattle.vrf_model.specs.Block.{isFound, addFirst, blockGroup, blockGroups, block}
+use Rattle.vrf_model.specs.Parser.{sumFrom}
+use Rattle.vrf_model.specs.Block.{byTable, isFound, addFirst, blockGroup, block}
 use Rattle.vrf_model.specs.Writer.{encodeSlots, encodeGroup, encodeAll, encodeTables, encodeBook, isKeyOf, firstClash, hereOrLater}
 use Rattle.vrf_model.specs.Clash.{FirstClash}
 use Rattle.vrf_model.specs.Lawful.{Each, cons, Distinct, LawfulGroup, WithinAllowances, Lawful}
 use Rattle.vrf_model.specs.Laws.Clash.{first-clash}
 use Rattle.vrf_model.specs.Laws.Held.{listed}
-use Rattle.vrf_model.specs.Laws.Parser.{parses-word, parses-packed, parses-text, FailsWith, stops-step, stops-first, stops-then}
+use Rattle.vrf_model.specs.Laws.Parser.{parses-word, parses-number, parses-text, FailsWith, stops-step, stops-first, stops-then}
 use Rattle.vrf_model.specs.Laws.ReadBack.Groups.{group-parses}
 use Rattle.vrf_model.specs.Laws.ReadBack.Block.{wordOf, word-32, zero-parses, all-within, guid-count, group-count, guids-part}
 
@@ -43,45 +44,45 @@ module _ (a : Allowances) (guids : List Guid) where
   unfolding addFirst
   refused-34 p path index slots key = rw (has-key path p key, or-true (isFound (indexPlace index p)))
 
-  group-stops : (p : List Group) (g : Group) (fields : ℕ) → LawfulGroup g → isKeyOf (g .path) p ≡ true → FailsWith (blockGroup fields) (encodeGroup g) (listed a guids p) 34 (g .index) 0
+  group-stops : (p : List Group) (g : Group) → LawfulGroup g → isKeyOf (g .path) p ≡ true → FailsWith blockGroup (encodeGroup g) (listed a guids p) 34 (g .index) 0
   unfolding blockGroup encodeGroup
-  group-stops p g fields good key =
+  group-stops p g good key =
       let few : length (g .slots) ≤ 65536 = good .few in
       stops-then _ (parses-text (g .path) (good .path) _)
-      (stops-then _ (parses-packed (g .index) (good .index) _)
-      (stops-then _ (parses-packed (length (g .slots)) (omega arith) _)
+      (stops-then _ (parses-number (g .index) (good .index) _)
+      (stops-then _ (parses-number (length (g .slots)) (omega arith) _)
       (rw (le-ltb 65536 (length (g .slots)) few)
       (stops-first _ (encodeSlots 0 (g .slots)) (stops-step (addFirst (g .path) (g .index) (length (g .slots))) _ (refused-34 p (g .path) (g .index) (length (g .slots)) key))))))
 
   -- reading the groups l after the groups p is refused at place j of l
   abbrev GroupsStop : List Group → List Group → ℕ → ℕ → Type 0
-  GroupsStop p l fields j = FailsWith (blockGroups (length l) fields) (encodeAll encodeGroup l) (listed a guids p) 34 (indexAt l j) 0
+  GroupsStop p l i j = FailsWith (sumFrom (length l) i (λ _. blockGroup)) (encodeAll encodeGroup l) (listed a guids p) 34 (indexAt l j) 0
 
-  stop-here : (p : List Group) (g : Group) (l : List Group) (fields : ℕ) → LawfulGroup g → isKeyOf (g .path) p ≡ true → GroupsStop p (g ∷ l) fields 0
-  unfolding blockGroups encodeAll placeOr
-  stop-here p g l fields good key = stops-first _ (encodeAll encodeGroup l) (group-stops p g fields good key)
+  stop-here : (p : List Group) (g : Group) (l : List Group) (i : ℕ) → LawfulGroup g → isKeyOf (g .path) p ≡ true → GroupsStop p (g ∷ l) i 0
+  unfolding sumFrom encodeAll placeOr
+  stop-here p g l i good key = stops-first _ (encodeAll encodeGroup l) (group-stops p g good key)
 
-  stop-later : (p : List Group) (g : Group) (l : List Group) (fields j : ℕ) → LawfulGroup g → isKeyOf (g .path) p ≡ false → Distinct (λ x. x .index) (p ++ (g ∷ l))
-      → WithinAllowances (listed a guids ((p ++ (g ∷ [])) ++ l)) → GroupsStop (p ++ (g ∷ [])) l (fields + groupFields g) j → GroupsStop p (g ∷ l) fields (suc j)
-  unfolding blockGroups encodeAll placeOr
-  stop-later p g l fields j good key d w rest = stops-then _ (group-parses a guids p g l fields good key d w) rest
+  stop-later : (p : List Group) (g : Group) (l : List Group) (i j : ℕ) → LawfulGroup g → isKeyOf (g .path) p ≡ false → Distinct (λ x. x .index) (p ++ (g ∷ l))
+      → WithinAllowances (listed a guids ((p ++ (g ∷ [])) ++ l)) → GroupsStop (p ++ (g ∷ [])) l (i + 1) j → GroupsStop p (g ∷ l) i (suc j)
+  unfolding sumFrom encodeAll placeOr
+  stop-later p g l i j good key d w rest = stops-then _ (group-parses a guids p g l good key d w) (rw (← append-nil (encodeAll encodeGroup l)) (stops-first _ [] rest))
 
-  groups-stop : (p l : List Group) (fields j : ℕ) → Each LawfulGroup l → Distinct (λ x. x .index) (p ++ l) → firstClash p l ≡ some j → WithinAllowances (listed a guids (p ++ l)) → GroupsStop p l fields j
+  groups-stop : (p l : List Group) (i j : ℕ) → Each LawfulGroup l → Distinct (λ x. x .index) (p ++ l) → firstClash p l ≡ some j → WithinAllowances (listed a guids (p ++ l)) → GroupsStop p l i j
   unfolding firstClash hereOrLater nextPlace
-  groups-stop p [] fields j good d clash w = absurd (none-some clash)
-  groups-stop p (g ∷ l) fields j (cons h hs) d clash w =
+  groups-stop p [] i j good d clash w = absurd (none-some clash)
+  groups-stop p (g ∷ l) i j (cons h hs) d clash w =
       let e : (p ++ (g ∷ [])) ++ l ≡ p ++ (g ∷ l) = append-snoc p g l in
       let w′ : WithinAllowances (listed a guids ((p ++ (g ∷ [])) ++ l)) = rw e w in
-      here-or-later w′ (isKeyOf (g .path) p) refl (firstClash (p ++ (g ∷ [])) l) refl clash (λ i clash′. groups-stop (p ++ (g ∷ [])) l (fields + groupFields g) i hs (rw e d) clash′ w′)
+      here-or-later w′ (isKeyOf (g .path) p) refl (firstClash (p ++ (g ∷ [])) l) refl clash (λ k clash′. groups-stop (p ++ (g ∷ [])) l (i + 1) k hs (rw e d) clash′ w′)
     where
       here-or-later : WithinAllowances (listed a guids ((p ++ (g ∷ [])) ++ l)) → (b : Bool) → isKeyOf (g .path) p ≡ b → (x : Option ℕ) → firstClash (p ++ (g ∷ [])) l ≡ x → hereOrLater b x ≡ some j
-          → ((i : ℕ) → firstClash (p ++ (g ∷ [])) l ≡ some i → GroupsStop (p ++ (g ∷ [])) l (fields + groupFields g) i) → GroupsStop p (g ∷ l) fields j
-      here-or-later w′ true key x ex at rest = let first : 0 ≡ j = cc in subst (GroupsStop p (g ∷ l) fields) first (stop-here p g l fields h key)
+          → ((k : ℕ) → firstClash (p ++ (g ∷ [])) l ≡ some k → GroupsStop (p ++ (g ∷ [])) l (i + 1) k) → GroupsStop p (g ∷ l) i j
+      here-or-later w′ true key x ex at rest = let first : 0 ≡ j = cc in subst (GroupsStop p (g ∷ l) i) first (stop-here p g l i h key)
       here-or-later w′ false key none ex at rest = absurd (none-some at)
-      here-or-later w′ false key (some i) ex at rest = let next : suc i ≡ j = cc in subst (GroupsStop p (g ∷ l) fields) next (stop-later p g l fields i h key d w′ (rest i ex))
+      here-or-later w′ false key (some k) ex at rest = let next : suc k ≡ j = cc in subst (GroupsStop p (g ∷ l) i) next (stop-later p g l i k h key d w′ (rest k ex))
 
 pub stops-34 : {a : Allowances} (c : Content) → Lawful a c → {place : ℕ} → FirstClash (c .groups) place → length (encodeBook c) ≤ 268435456 → a .guids ≤ a .literals
-    → FailsWith block (encodeBook c) (fresh a) 34 (indexAt (c .groups) place) 0
+    → FailsWith (block byTable) (encodeBook c) (fresh a) 34 (indexAt (c .groups) place) 0
 unfolding block encodeBook encodeTables
 stops-34 {a} c law {place} clash size space =
     let groups = groups-stop a (c .guids) [] (c .groups) 0 place (law .groups) (law .indices-distinct) (first-clash (c .groups) place .1 clash) (all-within c law) in

@@ -4,12 +4,12 @@ use mathlib.Core.Path.{_≡_, refl, sym, ap, _∙_}
 use mathlib.Core.Bool.{true}
 use mathlib.Core.List.{List, [], _∷_, _++_, append-nil}
 use Prim.Native.Nat.{ℕ, suc, _+_, _<_}
-use native.Mathlib.Nat.{add-zero, add-assoc}
+use native.Mathlib.Nat.{add-zero}
 use native.Mathlib.Omega.{arith}
 use lib.Dec.{eqb}
 use lib.IntN.{ℤ}
-use lib.ListN.{length, set, replicate, length-append, length-replicate}
-use lib.Seq.{set-append-seam, append-snoc}
+use lib.ListN.{length, getD, set, replicate, length-append, length-replicate}
+use lib.Seq.{getD-append-seam, set-append-seam, append-snoc}
 use borrow.Author.Tests.{lt-ltb, le-ltb, eq-eqb}
 use Rattle.vrf_bitio.specs.Number.{byte, word32, int32, signed, encodeWord32, encodePacked}
 use Rattle.vrf_bitio.specs.Laws.Reading.{Decodes, decodes-return, decodes-then, decodes-last}
@@ -17,17 +17,17 @@ use Rattle.vrf_bitio.specs.Laws.Number.{word32-decodes}
 use Rattle.vrf_text.specs.Text.{IsText, fstring, encodeText}
 use Rattle.vrf_text.specs.Laws.Text.{fstring-encodeText}
 use Rattle.vrf_names.specs.Names.{rendered, suffix}
-use Rattle.vrf_model.specs.Book.{Guid, Slot, empty, filled, Group, Allowances, Content, Counters, sum, groupText, groupFields, slotText, slotFields, heldText, heldFields}
+use Rattle.vrf_model.specs.Book.{Guid, Slot, empty, filled, Group, Allowances, Content, noIncrement, sum, groupText, groupFields, slotText, slotFields, heldText, heldFields}
 use Rattle.vrf_model.specs.Lookup.{placeOr, indexPlace, slotAt}
-use Rattle.vrf_model.specs.Setting.{done, setFieldAt, setField, withGroups, withSlot, renames, renamedStep, noGroup}
+use Rattle.vrf_model.specs.Setting.{done, alter, withGroups, withSlot, renames, renamedStep, setFieldAt, setField}
 use Rattle.vrf_model.specs.Names.{fname, textName, limited}
-use Rattle.vrf_model.specs.Block.{sameHandle, blockField, blockSlot, blockSlots}
+use Rattle.vrf_model.specs.Parser.{sumFrom}
+use Rattle.vrf_model.specs.Block.{sameHandle, blockField, blockSlot}
 use Rattle.vrf_model.specs.Writer.{encodeSlot, encodeSlots}
 use Rattle.vrf_model.specs.Lawful.{Each, cons, Is32, LawfulSlot, WithinAllowances}
-use Rattle.vrf_model.specs.Laws.Places.{lastPlace-hit, placeOr-last}
-use Rattle.vrf_model.specs.Laws.Held.{sum-append, sum-last, sum-none, listed}
-use Rattle.vrf_model.specs.Laws.Lawful.Setting.{keep-within}
-use Rattle.vrf_model.specs.Laws.Parser.{ParsesTo, parses-return, parses-step, parses-then, parses-last, parses-read, byte-decodes, parses-byte, parses-word, parses-packed}
+use Rattle.vrf_model.specs.Laws.Places.{lastPlace-hit, placeOr-last, alter-last}
+use Rattle.vrf_model.specs.Laws.Held.{sum-append, sum-last, sum-none, keep-within, listed}
+use Rattle.vrf_model.specs.Laws.Parser.{none-add, ParsesTo, parses-return, parses-step, quiet-then, parses-last, then-return, parses-read, byte-decodes, parses-byte, parses-word, parses-number}
 
 -- ---- a name as the writer sends it: kind 0, the text, the number 0
 
@@ -63,7 +63,7 @@ partial-text : (path : List ℕ) (index : ℕ) (b : List Slot) (n : ℕ) → gro
 unfolding groupText partial slotText
 partial-text path index b n = rw (sum-append slotText b (replicate n empty), sum-none slotText n refl, add-zero)
 
-handle-parses : (h : ℕ) (c : Content) → ParsesTo (sameHandle h h) [] tt c c
+handle-parses : (h : ℕ) (c : Content) → ParsesTo (sameHandle h h) [] tt c c noIncrement
 unfolding sameHandle
 handle-parses h c = rw (eq-eqb h h refl) (parses-return tt c)
 
@@ -92,11 +92,20 @@ module _ (a : Allowances) (guids : List Guid) (p : List Group) (path : List ℕ)
   unfolding partial
   still-empty b n = rw (append-snoc b empty (replicate n empty))
 
-  -- a field is set in its slot
+  -- a field is set in its slot. The slot is empty, so nothing is renamed
   field-set : (checksum : ℕ) (name : List ℕ) (b : List Slot) (n : ℕ) → WithinAllowances (with-slots (b ++ (filled checksum name ∷ [])) n)
-      → (t : Counters) × (setField index (length b) checksum name (with-slots b (suc n)) ≡ done true (with-slots (b ++ (filled checksum name ∷ [])) n) t)
-  unfolding setField setFieldAt indexPlace withGroups withSlot partial
-  field-set checksum name b n w = (renamedStep (renames (slotAt (p ++ (g ∷ [])) (length p) (length b)) name), proof)
+      → setField index (length b) checksum name (with-slots b (suc n)) ≡ done true (with-slots (b ++ (filled checksum name ∷ [])) n) noIncrement
+  unfolding setField setFieldAt indexPlace withGroups withSlot partial slotAt renames renamedStep noIncrement
+  field-set checksum name b n w =
+      rw (
+        lastPlace-hit (λ x. eqb (x .index) index) g p (eq-eqb index index refl),
+        placeOr-last (λ (x : Group). length (x .slots)) 0 p g,
+        lt-ltb _ _ inside,
+        groups-set,
+        placeOr-last (λ (x : Group). getD (x .slots) (length b) empty) empty p g,
+        getD-append-seam b empty (replicate n empty) empty,
+      )
+      (keep-within true (with-slots (b ++ (s ∷ [])) n) _ w)
     where
       s : Slot
       s = filled checksum name
@@ -110,51 +119,46 @@ module _ (a : Allowances) (guids : List Guid) (p : List Group) (path : List ℕ)
       slots-set : set (b ++ replicate (suc n) empty) (length b) s ≡ (b ++ (s ∷ [])) ++ replicate n empty
       slots-set = set-append-seam b empty (replicate n empty) s ∙ sym (append-snoc b s (replicate n empty))
 
-      groups-set : set (p ++ (g ∷ [])) (length p) (placeOr (withSlot (length b) s) noGroup (p ++ (g ∷ [])) (length p)) ≡ p ++ (partial path index (b ++ (s ∷ [])) n ∷ [])
-      groups-set = rw (placeOr-last (withSlot (length b) s) noGroup p g, set-append-seam p g []) (ap (λ (l : List Slot). p ++ (record { path = path; index = index; slots = l } ∷ [])) slots-set)
-
-      proof : setField index (length b) checksum name (with-slots b (suc n)) ≡ done true (with-slots (b ++ (s ∷ [])) n) (renamedStep (renames (slotAt (p ++ (g ∷ [])) (length p) (length b)) name))
-      proof =
-          rw (lastPlace-hit (λ x. eqb (x .index) index) g p (eq-eqb index index refl), placeOr-last (λ (x : Group). length (x .slots)) 0 p g, lt-ltb _ _ inside, groups-set)
-          (keep-within true (with-slots (b ++ (s ∷ [])) n) _ w)
+      groups-set : alter (withSlot (length b) s) (p ++ (g ∷ [])) (length p) ≡ p ++ (partial path index (b ++ (s ∷ [])) n ∷ [])
+      groups-set = rw (alter-last (withSlot (length b) s) p g) (ap (λ (l : List Slot). p ++ (record { path = path; index = index; slots = l } ∷ [])) slots-set)
 
   field-parses : (checksum : ℕ) (name : List ℕ) (b : List Slot) (n : ℕ) → Is32 (length b) → Is32 checksum → IsText name → WithinAllowances (with-slots (b ++ (filled checksum name ∷ [])) n)
       → ParsesTo (blockField index (length b)) (encodePacked (length b) ++ (encodeWord32 checksum ++ (0 ∷ (encodeText name ++ encodeWord32 0)))) 1
-      (with-slots b (suc n)) (with-slots (b ++ (filled checksum name ∷ [])) n)
+      (with-slots b (suc n)) (with-slots (b ++ (filled checksum name ∷ [])) n) noIncrement
   unfolding blockField
   field-parses checksum name b n hb hc hn w =
       let c = with-slots b (suc n) in
-      parses-then _ (parses-packed (length b) hb c)
-      (parses-then _ (handle-parses (length b) c)
-      (parses-then _ (parses-word checksum hc c)
-      (parses-last _ (parses-read fname (name-decodes name hn) c)
-      (parses-then _ (parses-step (setField index (length b) checksum name) c (field-set checksum name b n w .1)) (parses-return 1 _)))))
+      quiet-then _ (parses-number (length b) hb c)
+      (quiet-then _ (handle-parses (length b) c)
+      (quiet-then _ (parses-word checksum hc c)
+      (rw (← none-add noIncrement) (parses-last _ (parses-read fname (name-decodes name hn) c)
+      (then-return _ (parses-step (setField index (length b) checksum name) c (field-set checksum name b n w)))))))
 
   slot-parses : (b : List Slot) (s : Slot) (n : ℕ) → Is32 (length b) → LawfulSlot s → WithinAllowances (with-slots (b ++ (s ∷ [])) n)
-      → ParsesTo (blockSlot index (length b)) (encodeSlot (length b) s) (slotFields s) (with-slots b (suc n)) (with-slots (b ++ (s ∷ [])) n)
+      → ParsesTo (blockSlot index (length b)) (encodeSlot (length b) s) (slotFields s) (with-slots b (suc n)) (with-slots (b ++ (s ∷ [])) n) noIncrement
   unfolding blockSlot encodeSlot slotFields
-  slot-parses b empty n hb good w = rw (← still-empty b n) (parses-then _ (parses-byte 0 _) (parses-return 0 _))
-  slot-parses b (filled checksum name) n hb good w = parses-then _ (parses-byte 1 _) (field-parses checksum name b n hb (good .0) (good .1) w)
+  slot-parses b empty n hb good w = rw (← still-empty b n) (quiet-then _ (parses-byte 0 _) (parses-return 0 _))
+  slot-parses b (filled checksum name) n hb good w = quiet-then _ (parses-byte 1 _) (field-parses checksum name b n hb (good .0) (good .1) w)
 
   -- ---- all slots
 
   -- the slots l are read after the slots b
-  abbrev SlotsBrought : List Slot → List Slot → ℕ → Type 0
-  SlotsBrought b l fields = ParsesTo (blockSlots (length l) index (length b) fields) (encodeSlots (length b) l) (fields + sum slotFields l) (with-slots b (length l)) (with-slots (b ++ l) 0)
+  abbrev SlotsBrought : List Slot → List Slot → Type 0
+  SlotsBrought b l = ParsesTo (sumFrom (length l) (length b) (blockSlot index)) (encodeSlots (length b) l) (sum slotFields l) (with-slots b (length l)) (with-slots (b ++ l) 0) noIncrement
 
-  no-slots : (b : List Slot) (fields : ℕ) → SlotsBrought b [] fields
-  unfolding blockSlots encodeSlots sum
-  no-slots b fields = rw (append-nil b, add-zero) (parses-return fields _)
+  no-slots : (b : List Slot) → SlotsBrought b []
+  unfolding sumFrom encodeSlots sum
+  no-slots b = rw (append-nil b) (parses-return 0 _)
 
-  one-slot : (b : List Slot) (s : Slot) (l : List Slot) (fields : ℕ) → Is32 (length b) → LawfulSlot s
-      → WithinAllowances (with-slots ((b ++ (s ∷ [])) ++ l) 0) → SlotsBrought (b ++ (s ∷ [])) l (fields + slotFields s) → SlotsBrought b (s ∷ l) fields
-  unfolding blockSlots encodeSlots sum
-  one-slot b s l fields hb good w rest =
+  one-slot : (b : List Slot) (s : Slot) (l : List Slot) → Is32 (length b) → LawfulSlot s
+      → WithinAllowances (with-slots ((b ++ (s ∷ [])) ++ l) 0) → SlotsBrought (b ++ (s ∷ [])) l → SlotsBrought b (s ∷ l)
+  unfolding sumFrom encodeSlots sum
+  one-slot b s l hb good w rest =
       let this = slot-parses b s (length l) hb good (fewer-within (b ++ (s ∷ [])) l 0 (length l) w) in
-      rw (← append-snoc b s l, ← add-assoc fields (slotFields s) (sum slotFields l)) (parses-then _ this (rw (length-append b (s ∷ [])) at rest))
+      rw (← append-snoc b s l) (quiet-then _ this (then-return (λ n. slotFields s + n) (rw (length-append b (s ∷ [])) at rest)))
 
-  pub slots-parse : (b l : List Slot) (fields : ℕ) → Is32 (length b + length l) → Each LawfulSlot l → WithinAllowances (with-slots (b ++ l) 0) → SlotsBrought b l fields
-  slots-parse b [] fields few good w = no-slots b fields
-  slots-parse b (s ∷ l) fields few (cons g gs) w =
+  pub slots-parse : (b l : List Slot) → Is32 (length b + length l) → Each LawfulSlot l → WithinAllowances (with-slots (b ++ l) 0) → SlotsBrought b l
+  slots-parse b [] few good w = no-slots b
+  slots-parse b (s ∷ l) few (cons g gs) w =
       let w′ : WithinAllowances (with-slots ((b ++ (s ∷ [])) ++ l) 0) = rw (append-snoc b s l) w in
-      one-slot b s l fields (omega arith) g w′ (slots-parse (b ++ (s ∷ [])) l (fields + slotFields s) (rw length-append (omega arith)) gs w′)
+      one-slot b s l (omega arith) g w′ (slots-parse (b ++ (s ∷ [])) l (rw length-append (omega arith)) gs w′)

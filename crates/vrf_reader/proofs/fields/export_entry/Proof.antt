@@ -9,63 +9,50 @@ use Rattle.vrf_reader.specs.Laws.Fields.{no-flag, group-refused, group-t
 use Rattle.vrf_reader.proofs.fields.export_entry.Statement.{statement}
 use Rattle.vrf_reader.proofs.fields.export_entry.Tie as tie
 
+-- the function's entry state
+abbrev start : tie.After-read-int-packed → tie.Start
+start c = c .before .before .before .before
+
 field-of-requires : tie.Need-field-of-requires
 field-of-requires c κs =
-    let at-at-field = c .before .before .before in
-    let back = at-at-field .before .before .before .before in
-    let after-group-of = back .before .before in
-    let back2 = after-group-of .before .before .before .before in
-    let back3 = back2 .before .before .before .before in
-    let back4 = back3 .before .before .before .before in
-    let start = back4 .before .before in
-    let group = rw (at-at-field .at-field .given .1) at (after-group-of .group-of .ensures) in
-    (group .good, omega (arith, after-group-of .group-of .kept .1 .1 .1 .0, start .pre .1))
+    let f = c .before .before .before in
+    let known = f .before .before .before .before in
+    let g = known .before .before in
+    let flag = g .before .before .before .before in
+    let i = flag .before .before .before .before in
+    ((rw (f .at-field .given .1) at (g .group-of .ensures)) .good, omega (arith, g .group-of .kept .1 .1 .1 .0, start (i .before .before) .pre .1))
 
 returns : tie.Need-returns
 unfolding exportEntry
-returns c =
-    let c3 = c .before .before .before in
-    let c7 = c3 .before .before .before .before in
-    read-stops packed _ (c7 .pre .0) (rw (c .before .r .given .1) at (c3 .read-int-packed .ensures))
+returns c = let w = c .before .before .before in read-stops packed _ (start w .pre .0) (rw (c .before .r .given .1) at (w .read-int-packed .ensures))
 
 returns-2 : tie.Need-returns-2
 returns-2 c =
-    let c3 = c .before .before .before in
-    let c5 = c3 .before .before in
-    let c7 = c5 .before .before in
-    let c11 = c7 .before .before .before .before in
-    let index = rw (c5 .index .given .1) at (c7 .read-int-packed .ensures) in
-    no-flag (c11 .pre .0) index (rw (c .before .r2 .given .1) at (c3 .read-int-packed2 .ensures))
+    let r = c .before in
+    let w = r .before .before in
+    let i = w .before .before in
+    no-flag (start (i .before .before) .pre .0) (rw (i .index .given .1) at (i .before .before .read-int-packed .ensures)) (rw (r .r2 .given .1) at (w .read-int-packed2 .ensures))
 
 returns-3 : tie.Need-returns-3
 returns-3 c =
-    let at-r3 = c .before in
-    let back = at-r3 .before .before .before .before in
-    let after-group-of = back .before .before in
-    let at-flag = after-group-of .before .before .before .before in
-    let after-read-int-packed2 = at-flag .before .before in
-    let at-index = after-read-int-packed2 .before .before in
-    let after-read-int-packed = at-index .before .before in
-    let start = after-read-int-packed .before .before .before .before in
-    let index = rw (at-index .index .given .1) at (after-read-int-packed .read-int-packed .ensures) in
-    let flag = rw (at-flag .flag .given .1) at (after-read-int-packed2 .read-int-packed2 .ensures) in
-    group-refused (start .pre .0) index flag _ (rw (at-r3 .r3 .given .1) at (after-group-of .group-of .ensures))
+    let r = c .before in
+    let known = r .before .before .before .before in
+    let g = known .before .before in
+    let f = g .before .before .before .before in
+    let i = f .before .before .before .before in
+    let flag = rw (f .flag .given .1) at (f .before .before .read-int-packed2 .ensures) in
+    group-refused (start (i .before .before) .pre .0) (rw (i .index .given .1) at (i .before .before .read-int-packed .ensures)) flag _ (rw (r .r3 .given .1) at (g .group-of .ensures))
 
 returns-4 : tie.Need-returns-4
 returns-4 c =
-    let after-field-of = c .before .before .before .before in
-    let at-at-field = after-field-of .before .before .before .before in
-    let back = at-at-field .before .before .before .before in
-    let after-group-of = back .before .before in
-    let at-flag = after-group-of .before .before .before .before in
-    let after-read-int-packed2 = at-flag .before .before in
-    let at-index = after-read-int-packed2 .before .before in
-    let after-read-int-packed = at-index .before .before in
-    let start = after-read-int-packed .before .before .before .before in
-    let index = rw (at-index .index .given .1) at (after-read-int-packed .read-int-packed .ensures) in
-    let flag = rw (at-flag .flag .given .1) at (after-read-int-packed2 .read-int-packed2 .ensures) in
-    let group = rw (at-at-field .at-field .given .1) at (after-group-of .group-of .ensures) in
-    group-then (start .pre .0) index flag group _ (cursorOutcome (after-field-of .field-of .result)) (after-field-of .field-of .ensures)
+    let field = c .before .before .before .before in
+    let o = field .before .before .before .before in
+    let known = o .before .before .before .before in
+    let g = known .before .before in
+    let f = g .before .before .before .before in
+    let i = f .before .before .before .before in
+    let flag = rw (f .flag .given .1) at (f .before .before .read-int-packed2 .ensures) in
+    group-then (start (i .before .before) .pre .0) (rw (i .index .given .1) at (i .before .before .read-int-packed .ensures)) flag (rw (o .at-field .given .1) at (g .group-of .ensures)) _ (cursorOutcome (field .field-of .result)) (field .field-of .ensures)
 
 pub export-entry-spec : {M : Type 1} → statement M
 export-entry-spec =

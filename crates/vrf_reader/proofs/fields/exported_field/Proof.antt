@@ -7,22 +7,21 @@ use Rattle.vrf_reader.specs.Laws.Simulates.{read-on, read-stops, reads}
 use Rattle.vrf_reader.proofs.fields.exported_field.Statement.{statement}
 use Rattle.vrf_reader.proofs.fields.exported_field.Tie as tie
 
+-- the function's entry state
+abbrev start : tie.After-read-int-packed → tie.Start
+start c = c .before .before .before .before
+
 returns : tie.Need-returns
 unfolding exportedField
-returns c =
-    let c3 = c .before .before .before in
-    let c7 = c3 .before .before .before .before in
-    read-stops packed _ (c7 .pre .0) (rw (c .before .r .given .1) at (c3 .read-int-packed .ensures))
+returns c = let w = c .before .before .before in read-stops packed _ (start w .pre .0) (rw (c .before .r .given .1) at (w .read-int-packed .ensures))
 
 returns-2 : tie.Need-returns-2
 unfolding exportedField
 returns-2 c =
-    let c4 = c .before .before .before .before in
-    let c8 = c4 .before .before .before .before in
-    let c10 = c8 .before .before in
-    let c14 = c10 .before .before .before .before in
-    let handle = rw (c8 .handle .given .1) at (c10 .read-int-packed .ensures) in
-    reads (read-on packed _ (c14 .pre .0) handle) _ (cursorOutcome (c4 .named-field .result)) (c4 .named-field .ensures)
+    let call = c .before .before .before .before in
+    let h = call .before .before .before .before in
+    let handle = rw (h .handle .given .1) at (h .before .before .read-int-packed .ensures) in
+    reads (read-on packed _ (start (h .before .before) .pre .0) handle) _ (cursorOutcome (call .named-field .result)) (call .named-field .ensures)
 
 pub exported-field-spec : {M : Type 1} → statement M
 exported-field-spec =

@@ -8,28 +8,25 @@ use Rattle.vrf_reader.specs.Laws.Fields.{field-absent, field-present}
 use Rattle.vrf_reader.proofs.fields.field_of.Statement.{statement}
 use Rattle.vrf_reader.proofs.fields.field_of.Tie as tie
 
+-- the function's entry state
+abbrev start : tie.After-read-u8 → tie.Start
+start c = c .before .before .before .before
+
 returns : tie.Need-returns
 returns c =
-    let c4 = c .before .before .before .before in
-    let c8 = c4 .before .before .before .before in
-    field-absent _ (c8 .pre .0) (rw (c .before .before .has-field .given .1) at (c4 .read-u8 .ensures)) (c .if1 .taken)
+    let u = c .before .before .before .before in
+    field-absent _ (start u .pre .0) (rw (c .before .before .has-field .given .1) at (u .read-u8 .ensures)) (c .if1 .taken)
 
 returns-2 : tie.Need-returns-2
 unfolding fieldOf
-returns-2 c =
-    let c3 = c .before .before .before in
-    let c7 = c3 .before .before .before .before in
-    read-stops byte _ (c7 .pre .0) (rw (c .before .r .given .1) at (c3 .read-u8 .ensures))
+returns-2 c = let u = c .before .before .before in read-stops byte _ (start u .pre .0) (rw (c .before .r .given .1) at (u .read-u8 .ensures))
 
 returns-3 : tie.Need-returns-3
 returns-3 c =
-    let c4 = c .before .before .before .before in
-    let c7 = c4 .before .before .before in
-    let c9 = c7 .before .before in
-    let c11 = c9 .before .before in
-    let c15 = c11 .before .before .before .before in
-    let byte = rw (c9 .has-field .given .1) at (c11 .read-u8 .ensures) in
-    field-present _ (c15 .pre .0) byte (c7 .if1 .left) _ (cursorOutcome (c4 .exported-field .result)) (c4 .exported-field .ensures)
+    let call = c .before .before .before .before in
+    let e = call .before .before .before in
+    let h = e .before .before in
+    field-present _ (start (h .before .before) .pre .0) (rw (h .has-field .given .1) at (h .before .before .read-u8 .ensures)) (e .if1 .left) _ (cursorOutcome (call .exported-field .result)) (call .exported-field .ensures)
 
 pub field-of-spec : {M : Type 1} → statement M
 field-of-spec =

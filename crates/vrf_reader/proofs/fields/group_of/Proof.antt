@@ -9,9 +9,8 @@ use Rattle.vrf_reader.proofs.fields.group_of.Tie as tie
 
 returns : tie.Need-returns
 returns c =
-    let c4 = c .before .before .before .before in
-    let c7 = c4 .before .before .before in
-    group-declared _ (c7 .if1 .taken) _ _ _ _ (cursorOutcome (c4 .declared-group .result)) (c4 .declared-group .ensures)
+    let call = c .before .before .before .before in
+    group-declared _ (call .before .before .before .if1 .taken) _ _ _ _ (cursorOutcome (call .declared-group .result)) (call .declared-group .ensures)
 
 returns-2 : tie.Need-returns-2
 returns-2 c =
@@ -23,17 +22,15 @@ returns-3 : tie.Need-returns-3
 returns-3 c =
     let after-find-index = c .before .before in
     let at-if2 = after-find-index .before .before in
-    let back = at-if2 .before .before .before .before in
-    let start = back .before in
-    index-known _ (start .pre .0) (at-if2 .if2 .left) (sym (ap entry (c .enum-told .given .1)) ∙ after-find-index .find-index .ensures)
+    let e = at-if2 .before .before .before .before in
+    index-known _ (e .before .pre .0) (at-if2 .if2 .left) (sym (ap entry (c .enum-told .given .1)) ∙ after-find-index .find-index .ensures)
 
 returns-4 : tie.Need-returns-4
 returns-4 c =
     let after-find-index = c .before .before in
     let at-if2 = after-find-index .before .before in
-    let back = at-if2 .before .before .before .before in
-    let start = back .before in
-    index-unknown _ (start .pre .0) (at-if2 .if2 .left) (sym (ap entry (c .enum-told2 .given .1)) ∙ after-find-index .find-index .ensures)
+    let e = at-if2 .before .before .before .before in
+    index-unknown _ (e .before .pre .0) (at-if2 .if2 .left) (sym (ap entry (c .enum-told2 .given .1)) ∙ after-find-index .find-index .ensures)
 
 pub group-of-spec : {M : Type 1} → statement M
 group-of-spec =

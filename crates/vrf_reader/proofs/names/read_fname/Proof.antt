@@ -9,11 +9,9 @@ use Rattle.vrf_reader.proofs.names.read_fname.Tie as tie
 
 returns : tie.Need-returns
 returns c =
-    let c4 = c .before .before .before .before in
-    let c6 = c4 .before .before in
-    let c8 = c6 .before .before in
-    let kind = rw (c6 .kind .given .1) at (c8 .read-u8 .ensures) in
-    text-kind kind _ (c .before .before .read-text-name .result) (c4 .if1 .taken) (c .before .before .read-text-name .ensures)
+    let call = c .before .before in
+    let k = call .before .before .before .before in
+    text-kind (rw (k .kind .given .1) at (k .before .before .read-u8 .ensures)) _ (call .read-text-name .result) (call .before .before .if1 .taken) (call .read-text-name .ensures)
 
 returns-2 : tie.Need-returns-2
 unfolding fname
@@ -21,11 +19,9 @@ returns-2 c = refused-first _ _ byte _ (rw (c .before .r .given .1) at (c .befor
 
 returns-3 : tie.Need-returns-3
 returns-3 c =
-    let c4 = c .before .before .before .before in
-    let c6 = c4 .before .before in
-    let c8 = c6 .before .before in
-    let kind = rw (c6 .kind .given .1) at (c8 .read-u8 .ensures) in
-    index-kind kind _ (c .before .before .read-index-name .result) (c4 .if1 .left) (c .before .before .read-index-name .ensures)
+    let call = c .before .before in
+    let k = call .before .before .before .before in
+    index-kind (rw (k .kind .given .1) at (k .before .before .read-u8 .ensures)) _ (call .read-index-name .result) (call .before .before .if1 .left) (call .read-index-name .ensures)
 
 pub read-fname-spec : {M : Type 1} → statement M
 read-fname-spec =

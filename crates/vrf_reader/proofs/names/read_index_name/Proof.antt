@@ -17,12 +17,11 @@ returns c = refused-first _ _ packed _ (rw (c .before .r .given .1) at (c .befor
 
 returns-2 : tie.Need-returns-2
 returns-2 c =
-    let c3 = c .before .before .before in
-    let c6 = c3 .before .before .before in
-    let c8 = c6 .before .before in
-    let c11 = c8 .before .before .before in
-    let index = rw (c6 .index .given .1) at (c8 .read-int-packed .ensures) in
-    index-in _ _ (c11 .pre) (c3 .render-index .result) (c .named .ensures) (omega arith) index (c3 .render-index .ensures)
+    let call = c .before .before .before in
+    let i = call .before .before .before in
+    let w = i .before .before in
+    let start = w .before .before .before in
+    index-in _ _ (start .pre) (call .render-index .result) (c .named .ensures) (omega arith) (rw (i .index .given .1) at (w .read-int-packed .ensures)) (call .render-index .ensures)
 
 pub read-index-name-spec : {M : Type 1} → statement M
 read-index-name-spec =

@@ -15,14 +15,12 @@ returns c = refused-first _ _ int32 _ (rw (c .before .r .given .1) at (c .before
 
 returns-2 : tie.Need-returns-2
 returns-2 c =
-    let c3 = c .before .before .before in
-    let c5 = c3 .before .before in
-    let c6 = c5 .before in
-    let c8 = c6 .before .before in
-    let c11 = c8 .before .before .before in
-    let number = rw (c6 .number .given .1) at (c8 .read-i32 .ensures) in
-    let same = toZ-ofZ (record { sfits = c5 .known-told2 .given .0 .1 }) in
-    numbered-in _ _ (c11 .pre .0) (c3 .render-fname .result) (c .named .ensures) _ number same (c3 .render-fname .ensures)
+    let call = c .before .before .before in
+    let told = call .before .before in
+    let n = told .before in
+    let w = n .before .before in
+    let same = toZ-ofZ (record { sfits = told .known-told2 .given .0 .1 }) in
+    numbered-in _ _ (w .before .before .before .pre .0) (call .render-fname .result) (c .named .ensures) _ (rw (n .number .given .1) at (w .read-i32 .ensures)) same (call .render-fname .ensures)
 
 pub read-number-spec : {M : Type 1} → statement M
 read-number-spec =

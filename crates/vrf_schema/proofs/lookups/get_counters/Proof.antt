@@ -10,10 +10,10 @@ read-counters-requires : tie.Need-read-counters-requires
 read-counters-requires c κs = omega (arith, admitted-good (c .before .before .check-book .ensures) (c .enum-told .given .1) .enough)
 
 returns : tie.Need-returns
-returns c = counters-refused (c .before .before .before .check-book .ensures) (c .before .r .given .1)
+returns c = search counters-refused
 
 returns-2 : tie.Need-returns-2
-returns-2 c = counters-read (c .before .before .before .check-book .ensures) (c .before .enum-told .given .1) (c .read-counters .ensures)
+returns-2 c = search counters-read
 
 pub get-counters-spec : {M : Type 1} → statement M
 get-counters-spec = tie.close (tie.spec (λ c κs. search needs) (λ c. search needs) (λ c. search needs) read-counters-requires returns returns-2)

@@ -1,30 +1,19 @@
 -- `vrf_schema::lookups::get_gameplay_tag_name` satisfies its contract.
-use mathlib.Core.Path.{refl, ap, _∙_}
 use borrow.Author.Needs.{needs}
-use Rattle.vrf_model.specs.Calls.{found, ifTextAccepted, run}
-use Rattle.vrf_schema.specs.Laws.Checked.{refused-by-checks, admitted, admitted-good, looked}
+use Rattle.vrf_model.specs.Calls.{ifTextAccepted, lookGroups, look}
+use Rattle.vrf_schema.specs.Laws.Checked.{call-refused, admitted-good, looked}
 use Rattle.vrf_schema.proofs.lookups.get_gameplay_tag_name.Statement.{statement}
 use Rattle.vrf_schema.proofs.lookups.get_gameplay_tag_name.Tie as tie
 
 get-gameplay-tag-name-requires : tie.Need-get-gameplay-tag-name-requires
-get-gameplay-tag-name-requires c κs = admitted-good (c .before .before .check-book .ensures) (c .enum-told .given .1)
+get-gameplay-tag-name-requires c κs = search admitted-good
 
 returns : tie.Need-returns
-unfolding run ifTextAccepted
-returns c =
-    let at-r = c .before in
-    let after-check-book = at-r .before .before in
-    let at-shared-slice-known = after-check-book .before in
-    refused-by-checks _ (λ i. at-shared-slice-known .shared-slice-known .given i .fits) (after-check-book .check-book .ensures) (at-r .r .given .1) refl
+returns c = search call-refused
 
 returns-2 : tie.Need-returns-2
-unfolding run ifTextAccepted
-returns-2 c =
-    let after-get-gameplay-tag-name = c .before in
-    let at-enum-told = after-get-gameplay-tag-name .before in
-    let after-check-book = at-enum-told .before .before in
-    let at-shared-slice-known = after-check-book .before in
-    looked (admitted (after-check-book .check-book .ensures) (at-enum-told .enum-told .given .1)) (λ i. at-shared-slice-known .shared-slice-known .given i .fits) (c .place .ensures ∙ ap found (after-get-gameplay-tag-name .get-gameplay-tag-name .ensures)) refl
+unfolding ifTextAccepted lookGroups look
+returns-2 c = search (looked, c .place .ensures, c .before .get-gameplay-tag-name .ensures)
 
 pub get-gameplay-tag-name-spec : {M : Type 1} → statement M
 get-gameplay-tag-name-spec = tie.close (tie.spec (λ c κs. search needs) (λ c. search needs) (λ c. search needs) get-gameplay-tag-name-requires (λ c κs. search needs) returns returns-2)

@@ -1,30 +1,19 @@
 -- `vrf_schema::lookups::get_path_by_guid` satisfies its contract.
-use mathlib.Core.Path.{refl, ap, _∙_}
 use borrow.Author.Needs.{needs}
-use Rattle.vrf_model.specs.Calls.{found, ifTextAccepted, run}
-use Rattle.vrf_schema.specs.Laws.Checked.{refused-by-checks, admitted, admitted-good, looked}
+use Rattle.vrf_model.specs.Calls.{ifTextAccepted, lookGuids, look}
+use Rattle.vrf_schema.specs.Laws.Checked.{call-refused, admitted-good, looked}
 use Rattle.vrf_schema.proofs.lookups.get_path_by_guid.Statement.{statement}
 use Rattle.vrf_schema.proofs.lookups.get_path_by_guid.Tie as tie
 
 find-guid-requires : tie.Need-find-guid-requires
-find-guid-requires c κs = admitted-good (c .before .before .check-book .ensures) (c .enum-told .given .1)
+find-guid-requires c κs = search admitted-good
 
 returns : tie.Need-returns
-unfolding run ifTextAccepted
-returns c =
-    let at-r = c .before in
-    let after-check-book = at-r .before .before in
-    let at-shared-slice-known = after-check-book .before in
-    refused-by-checks _ (λ i. at-shared-slice-known .shared-slice-known .given i .fits) (after-check-book .check-book .ensures) (at-r .r .given .1) refl
+returns c = search call-refused
 
 returns-2 : tie.Need-returns-2
-unfolding run ifTextAccepted
-returns-2 c =
-    let after-find-guid = c .before in
-    let at-enum-told = after-find-guid .before in
-    let after-check-book = at-enum-told .before .before in
-    let at-shared-slice-known = after-check-book .before in
-    looked (admitted (after-check-book .check-book .ensures) (at-enum-told .enum-told .given .1)) (λ i. at-shared-slice-known .shared-slice-known .given i .fits) (c .place .ensures ∙ ap found (after-find-guid .find-guid .ensures)) refl
+unfolding ifTextAccepted lookGuids look
+returns-2 c = search (looked, c .place .ensures, c .before .find-guid .ensures)
 
 pub get-path-by-guid-spec : {M : Type 1} → statement M
 get-path-by-guid-spec = tie.close (tie.spec (λ c κs. search needs) (λ c. search needs) (λ c. search needs) find-guid-requires (λ c κs. search needs) returns returns-2)

@@ -1,43 +1,22 @@
 -- `vrf_schema::reading::read_net_field_exports` satisfies its contract.
-use mathlib.Core.Path.{refl, subst}
 use native.Mathlib.Omega.{arith}
 use borrow.Author.Needs.{needs}
-use denote.Ref.{now}
 use Rattle.vrf_model.specs.Runs.{fieldsRun}
 use Rattle.vrf_model.specs.Calls.{ran, readWindow, run}
-use Rattle.vrf_schema.specs.Inner.Reading.{CheckedWindow}
 use Rattle.vrf_schema.specs.Laws.Reading.{window-good, window-refused, run-read}
 use Rattle.vrf_schema.proofs.reading.read_net_field_exports.Statement.{statement}
 use Rattle.vrf_schema.proofs.reading.read_net_field_exports.Tie as tie
 
 read-net-field-exports-requires : tie.Need-read-net-field-exports-requires
-read-net-field-exports-requires c κs =
-    let at-c = c .before .before .before in
-    let after-check-book-window = at-c .before .before in
-    let start = after-check-book-window .before .before .before .before in
-    let met = (subst (CheckedWindow (now (start .args .book)) (now (start .args .window)) (start .args .first) (start .args .count)) (at-c .c .given .1) (after-check-book-window .check-book-window .ensures)) in
-    (window-good met, omega arith)
+read-net-field-exports-requires c κs = (search window-good, omega arith)
 
 returns : tie.Need-returns
 unfolding run readWindow
-returns c =
-    let at-r = c .before in
-    let after-check-book-window = at-r .before .before in
-    let at-slice-known = after-check-book-window .before .before .before in
-    let start = at-slice-known .before in
-    window-refused ran fieldsRun _ refl (λ i. at-slice-known .slice-known .given i .fits) (subst (CheckedWindow (now (start .args .book)) (now (start .args .window)) (start .args .first) (start .args .count)) (at-r .r .given .1) (after-check-book-window .check-book-window .ensures))
+returns c = search (window-refused ran fieldsRun)
 
 returns-2 : tie.Need-returns-2
 unfolding run readWindow
-returns-2 c =
-    let after-read-net-field-exports = c .before .before .before .before in
-    let at-c = after-read-net-field-exports .before .before .before .before in
-    let after-check-book-window = at-c .before .before in
-    let at-slice-known = after-check-book-window .before .before .before in
-    let start = at-slice-known .before in
-    run-read fieldsRun _ refl (λ i. at-slice-known .slice-known .given i .fits)
-    (subst (CheckedWindow (now (start .args .book)) (now (start .args .window)) (start .args .first) (start .args .count)) (at-c .c .given .1) (after-check-book-window .check-book-window .ensures))
-    (after-read-net-field-exports .read-net-field-exports .result) (after-read-net-field-exports .read-net-field-exports .ensures) (c .ended .ensures)
+returns-2 c = search run-read
 
 pub read-net-field-exports-spec : {M : Type 1} → statement M
 read-net-field-exports-spec =

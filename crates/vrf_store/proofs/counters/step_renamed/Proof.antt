@@ -7,10 +7,8 @@ use Rattle.vrf_store.proofs.counters.step_renamed.Tie as tie
 
 returns : tie.Need-returns
 returns c =
-    let after-step = c .before .before in
-    let at-slice-known = after-step .before .before in
-    let start = at-slice-known .before in
-    counted-renamed (now (start .args .m)) (λ i. at-slice-known .slice-known .given i .fits) (start .pre) (after-step .step .ensures)
+    let known = c .before .before .before .before in
+    counted-renamed (now (known .before .args .m)) (λ i. known .slice-known .given i .fits) (known .before .pre) (c .before .before .step .ensures)
 
 pub step-renamed-spec : {M : Type 1} → statement M
 step-renamed-spec = tie.close (tie.spec (λ c κs. search needs) (λ c. search needs) returns)

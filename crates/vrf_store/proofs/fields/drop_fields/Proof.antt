@@ -7,31 +7,30 @@ use Rattle.vrf_store.specs.Laws.Fields.Memory.{dropped-held, drop-fields
 use Rattle.vrf_store.proofs.fields.drop_fields.Statement.{statement}
 use Rattle.vrf_store.proofs.fields.drop_fields.Tie as tie
 
+-- the places where the numbers were read, seen from the pass over the rows
+abbrev held : tie.After-pass-rows → tie.After-held
+held c = c .before .before .before .before
+
+abbrev cap : tie.After-pass-rows → tie.After-fields-allowed
+cap c = held c .before .before .before .before
+
 sub-put32 : tie.Need-sub-put32
 sub-put32 c =
     let back = c .before .before .before .before in
-    let after-pass-rows = back .before .before .before .before in
-    let after-fields-at = after-pass-rows .before .before in
-    let after-held = after-fields-at .before .before in
-    let after-fields = after-held .before .before in
-    let after-fields-allowed = after-fields .before .before in
-    let start = after-fields-allowed .before .before .before in
-    let within = dropped-held (start .pre .0) _ (start .pre .1) (after-fields-allowed .fields-allowed .ensures .0) (after-fields-at .fields-at .ensures) (after-fields .fields .ensures) (after-pass-rows .pass-rows .kept .0) (after-pass-rows .pass-rows .ensures) in
-    omega (arith, within, after-held .held .ensures)
+    let passed = back .before .before .before .before in
+    let start = cap passed .before .before .before in
+    let within = dropped-held (start .pre .0) _ (start .pre .1) (cap passed .fields-allowed .ensures .0) (passed .before .before .fields-at .ensures) (held passed .before .before .fields .ensures) (passed .pass-rows .kept .0) (passed .pass-rows .ensures) in
+    omega (arith, within, held passed .held .ensures)
 
 returns : tie.Need-returns
 returns c =
-    let after-put322 = c .before .before in
-    let back = after-put322 .before .before .before .before in
-    let after-put32 = back .before in
-    let after-pass-rows = after-put32 .before .before .before .before in
-    let after-fields-at = after-pass-rows .before .before in
-    let after-held = after-fields-at .before .before in
-    let after-fields = after-held .before .before in
-    let after-fields-allowed = after-fields .before .before in
-    let start = after-fields-allowed .before .before .before in
-    drop-fields (start .pre .0) _ (start .pre .1) (after-fields-allowed .fields-allowed .ensures .0) (after-fields-at .fields-at .ensures) (after-fields .fields .ensures) (after-pass-rows .pass-rows .kept .0) (after-pass-rows .pass-rows .ensures)
-    (after-held .held .ensures) (after-put32 .put32 .ensures) (after-put322 .put322 .ensures)
+    let total = c .before .before in
+    let back = total .before .before .before .before in
+    let counted = back .before in
+    let passed = counted .before .before .before .before in
+    let start = cap passed .before .before .before in
+    drop-fields (start .pre .0) _ (start .pre .1) (cap passed .fields-allowed .ensures .0) (passed .before .before .fields-at .ensures) (held passed .before .before .fields .ensures) (passed .pass-rows .kept .0) (passed .pass-rows .ensures)
+    (held passed .held .ensures) (counted .put32 .ensures) (total .put322 .ensures)
 
 pub drop-fields-spec : {M : Type 1} → statement M
 drop-fields-spec =

@@ -29,8 +29,7 @@ returns-2 c =
     let at-if1 = after-get32 .before .before in
     let after-text-len = at-if1 .before in
     let after-get64 = after-text-len .before .before in
-    let start = after-get64 .before .before .before in
-    let args = start .args in
+    let args = after-get64 .before .before .before .args in
     (kept-row (now (args .t)) (args .cap) (args .place) (args .e) (args .kept .rows) (args .kept .gone) (after-get64 .get64 .ensures) (after-text-len .text-len .ensures) (at-if1 .if1 .left) (after-get32 .get32 .ensures) (after-get322 .get322 .ensures) (after-push-row .push-row .ensures), omega arith, omega arith)
 
 pub pass-row-spec : {M : Type 1} → statement M

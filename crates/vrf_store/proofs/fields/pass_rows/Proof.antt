@@ -17,8 +17,7 @@ abbrev μ-loop : tie.MeasureT-loop
 loop-holds : tie.Need-loop-holds Inv-loop μ-loop
 loop-holds c =
     let after-zero-words = c .before .before in
-    let start = after-zero-words .before .before .before in
-    (omega arith, omega (arith, after-zero-words .zero-words .kept .0, start .pre), pass-start _ _ _)
+    (omega arith, omega (arith, after-zero-words .zero-words .kept .0, after-zero-words .before .before .before .pre), pass-start _ _ _)
 
 loop-again : tie.Need-loop-again Inv-loop μ-loop
 loop-again c =
@@ -30,8 +29,7 @@ returns : tie.Need-returns Inv-loop μ-loop
 returns c =
     let at-loop = c .before in
     let after-zero-words = at-loop .before .before .before in
-    let start = after-zero-words .before .before .before in
-    let all : at-loop .loop .e ≡ start .args .n = omega arith in
+    let all : at-loop .loop .e ≡ after-zero-words .before .before .before .args .n = omega arith in
     at-loop .loop .inv .2 .state ∙ rw (after-zero-words .zero-words .ensures, all)
 
 pub pass-rows-spec : {M : Type 1} → statement M

@@ -21,34 +21,14 @@ row-text-requires c κs =
 get64-requires : tie.Need-get64-requires
 get64-requires c κs =
     let after-group-rows = c .before .before in
-    let start = after-group-rows .before .before .before in
-    omega (arith, ap length (after-group-rows .group-rows .ensures), row-inside (start .pre))
+    omega (arith, ap length (after-group-rows .group-rows .ensures), row-inside (after-group-rows .before .before .before .pre))
 
-text-bucket-requires : tie.Need-text-bucket-requires
-text-bucket-requires c κs =
-    let after-row-text = c .before .before in
-    let after-texts = after-row-text .before in
-    let after-group-rows = after-texts .before in
-    let start = after-group-rows .before .before .before in
-    let short : length (now (after-row-text .row-text .result)) ≤ 4096 = rw (after-row-text .row-text .ensures, after-group-rows .group-rows .ensures, after-texts .texts .ensures) (path-short (start .pre)) in
-    omega (arith, short)
-
-alias-bucket-requires : tie.Need-alias-bucket-requires
-alias-bucket-requires c κs =
-    let after-row-text = c .before .before .before .before in
-    let after-texts = after-row-text .before in
-    let after-group-rows = after-texts .before in
-    let start = after-group-rows .before .before .before in
-    rw (after-row-text .row-text .ensures, after-group-rows .group-rows .ensures, after-texts .texts .ensures) (path-short (start .pre))
-
-alias-bucket-requires-2 : tie.Need-alias-bucket-requires-2
-alias-bucket-requires-2 c κs =
-    let back = c .before .before .before .before in
-    let after-row-text = back .before .before in
-    let after-texts = after-row-text .before in
-    let after-group-rows = after-texts .before in
-    let start = after-group-rows .before .before .before in
-    rw (after-row-text .row-text .ensures, after-group-rows .group-rows .ensures, after-texts .texts .ensures) (path-short (start .pre))
+-- the path is short
+short : (c : tie.After-row-text) → length (now (c .row-text .result)) ≤ 4096
+short c =
+    let texts = c .before in
+    let rows = texts .before in
+    rw (c .row-text .ensures, rows .group-rows .ensures, texts .texts .ensures) (path-short (rows .before .before .before .pre))
 
 returns : tie.Need-returns
 unfolding key keyNumbered bucketOf
@@ -60,5 +40,7 @@ buckets-of-spec =
     (tie.spec
     (λ c κs. search needs) (λ c. search needs) (λ c. search needs) (λ c. search needs) (λ c κs. search needs)
     (λ c κs. search needs) row-text-requires (λ c. search needs) get64-requires (λ c. search needs)
-    (λ c κs. search needs) text-bucket-requires (λ c κs. search needs) alias-bucket-requires (λ c κs. search needs)
-    alias-bucket-requires-2 (λ c κs. search needs) returns)
+    (λ c κs. search needs) (λ c κs. omega (arith, short (c .before .before))) (λ c κs. search needs)
+    (λ c κs. short (c .before .before .before .before)) (λ c κs. search needs)
+    (λ c κs. let aliased = c .before .before .before .before in
+    short (aliased .before .before)) (λ c κs. search needs) returns)

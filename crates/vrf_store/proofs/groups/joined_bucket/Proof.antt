@@ -18,8 +18,7 @@ returns-2 : tie.Need-returns-2
 returns-2 c =
     let after-leaf-claim = c .before .before in
     let back = after-leaf-claim .before .before .before .before in
-    let start = back .before .before in
-    let x = start .args in
+    let x = back .before .before .args in
     let r = after-leaf-claim .leaf-claim in
     ap some (r .ensures .0) ∙ not-shared (r .result .claim) (leafBucket (x .b) (now (x .l))) (c .if1 .left) ∙ ap (λ (v : Claim). unlessShared v (leafBucket (x .b) (now (x .l)))) (r .ensures .1)
 

@@ -9,8 +9,7 @@ use Rattle.vrf_store.proofs.groups.push_entry.Tie as tie
 get32-requires : tie.Need-get32-requires
 get32-requires c κs =
     let at-b = c .before .before in
-    let start = at-b .before .before .before in
-    let one = rw (at-b .b .given .1) at (start .pre .2) in
+    let one = rw (at-b .b .given .1) at (at-b .before .before .before .pre .2) in
     omega (arith, one)
 
 put32-requires-2 : tie.Need-put32-requires-2

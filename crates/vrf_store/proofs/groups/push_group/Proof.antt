@@ -1,35 +1,48 @@
 -- `vrf_store::groups::push_group` satisfies its contract: it writes the row and two numbers, and adds the group to the indexes.
+use Prim.Native.Nat.{suc, _+_}
 use borrow.Author.Needs.{needs}
 use denote.Ref.{now}
-use Rattle.vrf_store.specs.Laws.Groups.Changes.{push-written, push-indexable, push-stepped}
+use Rattle.vrf_store.specs.Store.{headerOf, storeOf}
+use Rattle.vrf_store.specs.Inner.Memory.{WrittenStore}
+use Rattle.vrf_store.specs.Laws.Groups.Changes.{withGroupRow, push-written, push-indexable, push-stepped}
 use Rattle.vrf_store.proofs.groups.push_group.Statement.{statement}
 use Rattle.vrf_store.proofs.groups.push_group.Tie as tie
 
+abbrev counted : tie.After-put-group → tie.After-held
+counted c = c .before .before
+
+abbrev start : tie.After-put-group → tie.Start
+start c =
+    let groups = counted c .before .before in
+    groups .before .before .before
+
+abbrev row : tie.After-put322 → tie.After-put-group
+row c =
+    let one = c .before .before .before .before in
+    one .before .before .before .before
+
+-- the store after the writes
+written : (c : tie.After-put322) →
+    let x = start (row c) .args in
+    let m = now (x .m) in
+    WrittenStore m (c .put322 .last .0) (withGroupRow (storeOf m) (headerOf m .groups) (x .index) (x .at) (x .len) (x .slots) (suc (headerOf m .groups)) (headerOf m .held + x .len))
+written c =
+    let one = c .before .before .before .before in
+    let s = start (row c) in
+    push-written _ _ _ _ _ (s .pre) (s .fits .index .fits) (counted (row c) .before .before .groups .ensures) (counted (row c) .held .ensures) (row c .put-group .ensures) (one .put32 .ensures) (c .put322 .ensures)
+
 index-group-requires : tie.Need-index-group-requires
 index-group-requires c κs =
-    let after-put322 = c .before .before .before in
-    let after-put32 = after-put322 .before .before .before .before in
-    let after-put-group = after-put32 .before .before .before .before in
-    let after-held = after-put-group .before .before in
-    let after-groups = after-held .before .before in
-    let start = after-groups .before .before .before in
-    let x = start .args in
-    push-indexable (now (x .m)) (x .index) (x .at) (x .len) (x .slots) (start .pre) (start .fits .index .fits) (after-groups .groups .ensures)
-    (push-written (now (x .m)) (x .index) (x .at) (x .len) (x .slots) (start .pre) (start .fits .index .fits) (after-groups .groups .ensures) (after-held .held .ensures) (after-put-group .put-group .ensures) (after-put32 .put32 .ensures) (after-put322 .put322 .ensures))
+    let two = c .before .before .before in
+    let s = start (row two) in
+    push-indexable _ _ _ _ _ (s .pre) (s .fits .index .fits) (counted (row two) .before .before .groups .ensures) (written two)
 
 returns : tie.Need-returns
 returns c =
-    let after-index-group = c .before .before in
-    let after-put322 = after-index-group .before .before .before .before in
-    let after-put32 = after-put322 .before .before .before .before in
-    let after-put-group = after-put32 .before .before .before .before in
-    let after-held = after-put-group .before .before in
-    let after-groups = after-held .before .before in
-    let start = after-groups .before .before .before in
-    let x = start .args in
-    push-stepped (now (x .m)) (x .index) (x .at) (x .len) (x .slots) (start .pre) (start .fits .index .fits) (after-groups .groups .ensures)
-    (push-written (now (x .m)) (x .index) (x .at) (x .len) (x .slots) (start .pre) (start .fits .index .fits) (after-groups .groups .ensures) (after-held .held .ensures) (after-put-group .put-group .ensures) (after-put32 .put32 .ensures) (after-put322 .put322 .ensures))
-    (after-index-group .index-group .ensures)
+    let indexed = c .before .before in
+    let two = indexed .before .before .before .before in
+    let s = start (row two) in
+    push-stepped _ _ _ _ _ (s .pre) (s .fits .index .fits) (counted (row two) .before .before .groups .ensures) (written two) (indexed .index-group .ensures)
 
 pub push-group-spec : {M : Type 1} → statement M
 push-group-spec =

@@ -1,27 +1,21 @@
 -- `vrf_store::groups::push_path` satisfies its contract: the law `path-written` gives the memory after its write.
 use native.Mathlib.Omega.{arith}
 use borrow.Author.Needs.{needs}
-use denote.Ref.{now}
-use Rattle.vrf_store.specs.Inner.Groups.{bucketed}
 use Rattle.vrf_store.specs.Laws.Groups.Memory.{path-written}
 use Rattle.vrf_store.proofs.groups.push_path.Statement.{statement}
 use Rattle.vrf_store.proofs.groups.push_path.Tie as tie
 
 push-entry-requires : tie.Need-push-entry-requires
 push-entry-requires c κs =
-    let after-groups-allowed = c .before in
-    let back = after-groups-allowed .before .before .before .before in
-    let start = back .before in
-    (omega arith, omega arith, rw (after-groups-allowed .groups-allowed .ensures .0) (start .pre .below))
+    let back = c .before .before .before .before in
+    (omega arith, omega arith, rw (c .before .groups-allowed .ensures .0) (back .before .before .pre .below))
 
 returns : tie.Need-returns
 returns c =
-    let after-push-entry = c .before .before in
-    let after-groups-allowed = after-push-entry .before .before in
-    let after-guids-allowed = after-groups-allowed .before .before in
-    let start = after-guids-allowed .before .before .before in
-    let x = start .args in
-    path-written (now (x .m)) _ _ _ (x .e) (bucketed (x .b)) (after-guids-allowed .guids-allowed .ensures .0) (after-groups-allowed .groups-allowed .ensures .0) (start .pre) (after-push-entry .push-entry .ensures)
+    let entered = c .before .before in
+    let groups = entered .before .before in
+    let guids = groups .before .before in
+    path-written _ _ _ _ _ _ (guids .guids-allowed .ensures .0) (groups .groups-allowed .ensures .0) (guids .before .before .before .pre) (entered .push-entry .ensures)
 
 pub push-path-spec : {M : Type 1} → statement M
 push-path-spec =

@@ -29,14 +29,12 @@ index-group-requires c κs =
 loop-again : tie.Need-loop-again Inv-loop μ-loop
 loop-again c =
     let after-index-group = c .before .before in
-    let at-loop = after-index-group .before .before .before in
-    (omega arith, joined-trans (at-loop .loop .inv .1) (after-index-group .index-group .ensures))
+    (omega arith, joined-trans (after-index-group .before .before .before .loop .inv .1) (after-index-group .index-group .ensures))
 
 same-length : tie.Need-same-length Inv-loop μ-loop
 same-length c =
     let at-loop = c .before in
-    let after-clear-heads = at-loop .before .before .before in
-    at-loop .loop .inv .1 .long ∙ after-clear-heads .clear-heads .ensures .long
+    at-loop .loop .inv .1 .long ∙ at-loop .before .before .before .clear-heads .ensures .long
 
 returns : tie.Need-returns Inv-loop μ-loop
 returns c =
@@ -44,8 +42,7 @@ returns c =
     let after-clear-heads = at-loop .before .before .before in
     let after-groups = after-clear-heads .before .before in
     let start = after-groups .before .before .before in
-    let l = at-loop .loop in
-    rebuilt (start .pre .0) (start .pre .1) (joined-trans (after-clear-heads .clear-heads .ensures) (l .inv .1)) (omega (arith, after-groups .groups .ensures))
+    rebuilt (start .pre .0) (start .pre .1) (joined-trans (after-clear-heads .clear-heads .ensures) (at-loop .loop .inv .1)) (omega (arith, after-groups .groups .ensures))
 
 pub rebuild-group-indexes-spec : {M : Type 1} → statement M
 rebuild-group-indexes-spec =

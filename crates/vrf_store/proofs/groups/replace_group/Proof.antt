@@ -10,8 +10,7 @@ set-row-requires c κs = let pre = c .before .before .pre in (pre .0, replace-ha
 returns : tie.Need-returns
 returns c =
     let after-set-row = c .before .before in
-    let start = after-set-row .before .before .before in
-    let pre = start .pre in
+    let pre = after-set-row .before .before .before .pre in
     stepped-as (after-set-row .set-row .ensures) (replace-content (pre .0) (pre .1))
 
 pub replace-group-spec : {M : Type 1} → statement M

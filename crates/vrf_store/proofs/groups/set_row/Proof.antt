@@ -1,52 +1,61 @@
 -- `vrf_store::groups::set_row` satisfies its contract: it writes the row and a number, and rebuilds the indexes.
 use mathlib.Core.Path.{ap, _∙_}
 use mathlib.Core.List.{List}
-use Prim.Native.Nat.{ℕ}
+use Prim.Native.Nat.{ℕ, _+_, _-_}
 use borrow.Author.Needs.{needs}
 use denote.Ref.{now}
 use Rattle.vrf_table.specs.Table.{len}
+use Rattle.vrf_store.specs.Store.{Store, headerOf, storeOf}
+use Rattle.vrf_store.specs.Inner.Memory.{WrittenStore}
+use Rattle.vrf_store.specs.Laws.Groups.Changes.{withGroupRow}
 use Rattle.vrf_store.specs.Laws.Groups.Replaced.{row-in, path-held, set-written, set-ready, set-stepped}
 use Rattle.vrf_store.proofs.groups.set_row.Statement.{statement}
 use Rattle.vrf_store.proofs.groups.set_row.Tie as tie
 
-text-len-requires : tie.Need-text-len-requires
-text-len-requires c κs =
+abbrev start : tie.After-group-rows → tie.Start
+start c =
     let back = c .before .before .before .before in
-    let start = back .before in
-    rw (c .group-rows .ensures) (row-in (start .pre .0 .good .valid) (start .args .e) (start .pre .0 .known))
+    back .before
+
+text-len-requires : tie.Need-text-len-requires
+text-len-requires c κs = let s = start c in rw (c .group-rows .ensures) (row-in (s .pre .0 .good .valid) (s .args .e) (s .pre .0 .known))
 
 sub-total : tie.Need-sub-total
 sub-total c =
-    let after-group-rows = c .before in
-    let after-held = after-group-rows .before .before in
-    let start = after-held .before .before .before in
-    rw (c .text-len .ensures, after-group-rows .group-rows .ensures, after-held .held .ensures) (path-held (start .pre .0 .good .valid) (start .args .e) (start .pre .0 .known))
+    let rows = c .before in
+    let s = start rows in
+    rw (c .text-len .ensures, rows .group-rows .ensures, rows .before .before .held .ensures) (path-held (s .pre .0 .good .valid) (s .args .e) (s .pre .0 .known))
+
+-- the store that the memory is to hold, and that it holds it after the writes
+abbrev new : tie.Start → Store
+new c = let x = c .args in let m = now (x .m) in withGroupRow (storeOf m) (x .e) (x .index) (x .at) (x .len) (x .slots) (headerOf m .groups) (headerOf m .held - len (storeOf m .groupRows) (x .e) + x .len)
+
+abbrev rows : tie.After-put32 → tie.After-group-rows
+rows c =
+    let put = c .before .before .before .before in
+    put .before .before .before
+
+written : (c : tie.After-put32) → WrittenStore (now (start (rows c) .args .m)) (c .put32 .last .0) (new (start (rows c)))
+written c =
+    let put = c .before .before .before .before in
+    let s = start (rows c) in
+    let x = s .args in
+    set-written (now (x .m)) (x .e) (x .index) (x .at) (x .len) (x .slots) (s .pre .0) (s .fits .index .fits) (s .pre .1) (rows c .before .before .held .ensures) (put .before .before .text-len .ensures ∙ ap (λ (r : List ℕ). len r (x .e)) (rows c .group-rows .ensures)) (put .put-group .ensures) (c .put32 .ensures)
 
 rebuild-group-indexes-requires : tie.Need-rebuild-group-indexes-requires
 rebuild-group-indexes-requires c κs =
-    let after-put32 = c .before .before .before in
-    let after-put-group = after-put32 .before .before .before .before in
-    let after-text-len = after-put-group .before .before in
-    let after-group-rows = after-text-len .before in
-    let after-held = after-group-rows .before .before in
-    let start = after-held .before .before .before in
-    let x = start .args in
-    set-ready (now (x .m)) (x .e) (x .index) (x .at) (x .len) (x .slots) (start .pre .0) (start .fits .index .fits) (start .pre .1)
-    (set-written (now (x .m)) (x .e) (x .index) (x .at) (x .len) (x .slots) (start .pre .0) (start .fits .index .fits) (start .pre .1) (after-held .held .ensures) (after-text-len .text-len .ensures ∙ ap (λ (r : List ℕ). len r (x .e)) (after-group-rows .group-rows .ensures)) (after-put-group .put-group .ensures) (after-put32 .put32 .ensures))
+    let put = c .before .before .before in
+    let s = start (rows put) in
+    let x = s .args in
+    set-ready (now (x .m)) (x .e) (x .index) (x .at) (x .len) (x .slots) (s .pre .0) (s .fits .index .fits) (s .pre .1) (written put)
 
 returns : tie.Need-returns
 returns c =
-    let after-rebuild-group-indexes = c .before .before in
-    let after-put32 = after-rebuild-group-indexes .before .before .before .before in
-    let after-put-group = after-put32 .before .before .before .before in
-    let after-text-len = after-put-group .before .before in
-    let after-group-rows = after-text-len .before in
-    let after-held = after-group-rows .before .before in
-    let start = after-held .before .before .before in
-    let x = start .args in
-    set-stepped (now (x .m)) (x .e) (x .index) (x .at) (x .len) (x .slots) (start .pre .0) (start .fits .index .fits) (start .pre .1)
-    (set-written (now (x .m)) (x .e) (x .index) (x .at) (x .len) (x .slots) (start .pre .0) (start .fits .index .fits) (start .pre .1) (after-held .held .ensures) (after-text-len .text-len .ensures ∙ ap (λ (r : List ℕ). len r (x .e)) (after-group-rows .group-rows .ensures)) (after-put-group .put-group .ensures) (after-put32 .put32 .ensures))
-    (after-rebuild-group-indexes .rebuild-group-indexes .ensures)
+    let rebuilt = c .before .before in
+    let put = rebuilt .before .before .before .before in
+    let s = start (rows put) in
+    let x = s .args in
+    set-stepped (now (x .m)) (x .e) (x .index) (x .at) (x .len) (x .slots) (s .pre .0) (s .fits .index .fits) (s .pre .1) (written put) (rebuilt .rebuild-group-indexes .ensures)
 
 pub set-row-spec : {M : Type 1} → statement M
 set-row-spec =

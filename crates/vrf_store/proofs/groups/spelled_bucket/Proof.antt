@@ -13,12 +13,6 @@ spell-requires c κs =
     let start = c .before .before in
     omega (arith, key-short (now (start .args .path)) (start .args .key), start .pre)
 
-array-share-prefix-t : tie.Need-array-share-prefix-t
-array-share-prefix-t c = written-within (c .before .spell .ensures)
-
-slice-aggregate-text-bucket : tie.Need-slice-aggregate-text-bucket
-slice-aggregate-text-bucket c = written-part (c .before .before .spell .ensures)
-
 text-bucket-requires : tie.Need-text-bucket-requires
 text-bucket-requires c κs =
     let after-spell = c .before .before in
@@ -32,4 +26,5 @@ pub spelled-bucket-spec : {M : Type 1} → statement M
 spelled-bucket-spec =
     tie.close
     (tie.spec
-    (λ c. search needs) spell-requires array-share-prefix-t slice-aggregate-text-bucket text-bucket-requires returns)
+    (λ c. search needs) spell-requires (λ c. written-within (c .before .spell .ensures))
+    (λ c. written-part (c .before .before .spell .ensures)) text-bucket-requires returns)

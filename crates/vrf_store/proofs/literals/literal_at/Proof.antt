@@ -10,8 +10,5 @@ use Rattle.vrf_store.proofs.literals.literal_at.Tie as tie
 get32-requires : tie.Need-get32-requires
 get32-requires c κs = omega (arith, ap length (c .literals .ensures), literals-long (c .before .before .pre .0))
 
-returns : tie.Need-returns
-returns c = cc
-
 pub literal-at-spec : {M : Type 1} → statement M
-literal-at-spec = tie.close (tie.spec (λ c κs. search needs) get32-requires returns)
+literal-at-spec = tie.close (tie.spec (λ c κs. search needs) get32-requires (λ c. cc))

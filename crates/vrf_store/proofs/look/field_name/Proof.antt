@@ -1,8 +1,6 @@
 -- `vrf_store::look::field_name` satisfies its contract.
-use mathlib.Core.Path.{sym, ap, _∙_}
 use borrow.Author.Needs.{needs}
 use Rattle.vrf_model.specs.Lookup.{slotName}
-use Rattle.vrf_table.specs.Inner.Answers.{entry}
 use Rattle.vrf_store.specs.Store.{fieldAt}
 use Rattle.vrf_store.specs.Laws.Memory.WellFormed.{field-row, field-text}
 use Rattle.vrf_store.specs.Laws.Fields.Row.{slot-filled, slot-empty, slot-row-below}
@@ -11,31 +9,26 @@ use Rattle.vrf_store.proofs.look.field_name.Tie as tie
 
 row-text-requires : tie.Need-row-text-requires
 row-text-requires c κs =
-    let after-field-rows = c .before in
-    let at-e = after-field-rows .before .before in
-    let after-slot-row = at-e .before .before in
-    let start = after-slot-row .before .before in
-    let there = sym (after-slot-row .slot-row .ensures) ∙ ap entry (at-e .e .given .1) in
-    let below = slot-row-below (start .pre .valid) (start .args .place) (start .args .slot) there in
-    (field-row (start .pre .valid) (after-field-rows .field-rows .ensures) below, field-text (start .pre .valid) (after-field-rows .field-rows .ensures) (c .texts .ensures) below)
+    let rows = c .before in
+    let at-e = rows .before .before in
+    let found = at-e .before .before in
+    let valid = found .before .before .pre .valid in
+    let below = slot-row-below valid _ _ (found .slot-row .ensures) (at-e .e .given .1) in
+    (field-row valid (rows .field-rows .ensures) below, field-text valid (rows .field-rows .ensures) (c .texts .ensures) below)
 
 returns : tie.Need-returns
 unfolding slotName fieldAt
 returns c =
     let at-e = c .before .before .before .before in
-    let after-slot-row = at-e .before .before in
-    let start = after-slot-row .before .before in
-    let there = sym (after-slot-row .slot-row .ensures) ∙ ap entry (at-e .e .given .1) in
-    rw (slot-filled (start .pre .valid) (start .args .place) (start .args .slot) there) cc
+    let found = at-e .before .before in
+    rw (slot-filled (found .before .before .pre .valid) _ _ (found .slot-row .ensures) (at-e .e .given .1)) cc
 
 returns-2 : tie.Need-returns-2
 unfolding slotName
 returns-2 c =
-    let at-enum-told = c .before in
-    let after-slot-row = at-enum-told .before .before in
-    let start = after-slot-row .before .before in
-    let there = sym (after-slot-row .slot-row .ensures) ∙ ap entry (at-enum-told .enum-told .given .1) in
-    rw (slot-empty (start .pre .valid) (start .args .place) (start .args .slot) there)
+    let told = c .before in
+    let found = told .before .before in
+    rw (slot-empty (found .before .before .pre .valid) _ _ (found .slot-row .ensures) (told .enum-told .given .1))
 
 pub field-name-spec : {M : Type 1} → statement M
 field-name-spec =

@@ -1,17 +1,16 @@
 -- `vrf_store::look::find_guid` satisfies its contract.
+use mathlib.Core.Path.{ap}
+use native.Mathlib.Omega.{arith}
+use lib.ListN.{length}
 use borrow.Author.Needs.{needs}
-use Rattle.vrf_store.specs.Laws.Memory.WellFormed.{guid-walk}
 use Rattle.vrf_store.specs.Laws.Lookups.{guid-found}
 use Rattle.vrf_store.proofs.look.find_guid.Statement.{statement}
 use Rattle.vrf_store.proofs.look.find_guid.Tie as tie
 
 find-key-requires : tie.Need-find-key-requires
 find-key-requires c κs =
-    let after-guid-buckets = c .before in
-    let after-guid-heads = after-guid-buckets .before in
-    let after-guid-rows = after-guid-heads .before in
-    let start = after-guid-rows .before .before in
-    guid-walk (start .pre .valid) (after-guid-rows .guid-rows .ensures) (after-guid-heads .guid-heads .ensures) (after-guid-buckets .guid-buckets .ensures) (c .guids .ensures)
+    let heads = c .before .before in
+    omega (arith, ap length (heads .before .guid-rows .ensures), ap length (heads .guid-heads .ensures))
 
 returns : tie.Need-returns
 returns c =

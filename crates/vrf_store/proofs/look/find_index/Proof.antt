@@ -1,17 +1,16 @@
 -- `vrf_store::look::find_index` satisfies its contract.
+use mathlib.Core.Path.{ap}
+use native.Mathlib.Omega.{arith}
+use lib.ListN.{length}
 use borrow.Author.Needs.{needs}
-use Rattle.vrf_store.specs.Laws.Memory.WellFormed.{group-walk}
 use Rattle.vrf_store.specs.Laws.Lookups.{index-found}
 use Rattle.vrf_store.proofs.look.find_index.Statement.{statement}
 use Rattle.vrf_store.proofs.look.find_index.Tie as tie
 
 find-key-requires : tie.Need-find-key-requires
 find-key-requires c κs =
-    let after-group-buckets = c .before in
-    let after-group-heads = after-group-buckets .before in
-    let after-group-rows = after-group-heads .before in
-    let start = after-group-rows .before .before in
-    group-walk (start .pre .valid) (after-group-rows .group-rows .ensures) (after-group-heads .group-heads .ensures) (after-group-buckets .group-buckets .ensures) (c .groups .ensures)
+    let heads = c .before .before in
+    omega (arith, ap length (heads .before .group-rows .ensures), ap length (heads .group-heads .ensures))
 
 returns : tie.Need-returns
 returns c =

@@ -10,8 +10,7 @@ returns : tie.Need-returns
 unfolding gameplayTag thenLookup tagGroupPath
 returns c =
     let at-place = c .before .before in
-    let after-find-path-place = at-place .before .before in
-    let there = sym (after-find-path-place .find-path-place .ensures) ∙ ap entry (at-place .place .given .1) in
+    let there = sym (at-place .before .before .find-path-place .ensures) ∙ ap entry (at-place .place .given .1) in
     rw there (c .if-filled .ensures)
 
 returns-2 : tie.Need-returns-2

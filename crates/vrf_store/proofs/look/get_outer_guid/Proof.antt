@@ -12,8 +12,7 @@ unfolding outerGuid thenLookup
 returns c =
     let after-guid-outer = c .before in
     let at-i = after-guid-outer .before .before in
-    let after-find-guid = at-i .before .before in
-    let there = sym (after-find-guid .find-guid .ensures) ∙ ap entry (at-i .i .given .1) in
+    let there = sym (at-i .before .before .find-guid .ensures) ∙ ap entry (at-i .i .given .1) in
     rw (there, outer-place, ← after-guid-outer .guid-outer .ensures) (c .unless-zero .ensures)
 
 returns-2 : tie.Need-returns-2

@@ -10,8 +10,7 @@ returns : tie.Need-returns
 unfolding outerPath thenLookup
 returns c =
     let at-outer = c .before .before in
-    let after-get-outer-guid = at-outer .before .before in
-    let there = sym (after-get-outer-guid .get-outer-guid .ensures) ∙ ap numberFound (at-outer .outer .given .1) in
+    let there = sym (at-outer .before .before .get-outer-guid .ensures) ∙ ap numberFound (at-outer .outer .given .1) in
     rw there (c .find-guid .ensures)
 
 returns-2 : tie.Need-returns-2

@@ -22,8 +22,7 @@ unfolding textStart
 returns c =
     let after-text-bucket = c .before in
     let after-leaf-heads = after-text-bucket .before in
-    let after-leaf-buckets = after-leaf-heads .before in
-    cc (c .get32 .ensures, after-text-bucket .text-bucket .ensures, after-leaf-heads .leaf-heads .ensures, after-leaf-buckets .leaf-buckets .ensures)
+    cc (c .get32 .ensures, after-text-bucket .text-bucket .ensures, after-leaf-heads .leaf-heads .ensures, after-leaf-heads .before .leaf-buckets .ensures)
 
 pub leaf-start-spec : {M : Type 1} → statement M
 leaf-start-spec =

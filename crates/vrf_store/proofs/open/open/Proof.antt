@@ -34,28 +34,12 @@ returns-2 c =
     let start = after-above-top .before .before in
     (refused-short (asked start) (after-above-top .above-top .ensures) (length (now (start .args .m))) (at-if1 .if1 .left) (after-needed .needed .ensures) (c .if2 .taken), refl)
 
-cast-write-header : tie.Need-cast-write-header
-cast-write-header c = omega (arith, tops (c .before .before .before) .guids)
-
-cast-write-header-2 : tie.Need-cast-write-header-2
-cast-write-header-2 c = omega (arith, tops (c .before .before .before) .groups)
-
-cast-write-header-3 : tie.Need-cast-write-header-3
-cast-write-header-3 c = omega (arith, tops (c .before .before .before) .fields)
-
-cast-write-header-4 : tie.Need-cast-write-header-4
-cast-write-header-4 c = omega (arith, tops (c .before .before .before) .text)
-
-cast-write-header-5 : tie.Need-cast-write-header-5
-cast-write-header-5 c = omega (arith, tops (c .before .before .before) .literals)
-
 zero-heads-requires : tie.Need-zero-heads-requires
 zero-heads-requires c κs =
     let after-write-header = c .before .before .before in
     let at-if2 = after-write-header .before .before in
     let after-needed = at-if2 .before in
-    let start = after-needed .before .before .before .before in
-    empty-enough (asked start) 0 (after-write-header .write-header .last .0) (after-write-header .write-header .ensures .0) (omega (arith, after-needed .needed .ensures, at-if2 .if2 .left, after-write-header .write-header .ensures .2))
+    empty-enough (asked (after-needed .before .before .before .before)) 0 (after-write-header .write-header .last .0) (after-write-header .write-header .ensures .0) (omega (arith, after-needed .needed .ensures, at-if2 .if2 .left, after-write-header .write-header .ensures .2))
 
 returns-3 : tie.Need-returns-3
 returns-3 c =
@@ -71,12 +55,14 @@ returns-3 c =
     let header = after-write-header .write-header .ensures in
     opened-fresh (asked start) (accepted (asked start) (after-above-top .above-top .ensures) (length m) (first .if1 .left) space) (tops first) space (header .0) (header .1) (header .2) (after-zero-heads .zero-heads .ensures)
 
-needed-requires : tie.Need-needed-requires
-needed-requires c κs = tops c
-
 pub open-spec : {M : Type 1} → statement M
 open-spec =
     tie.close
     (tie.spec
-    (λ c κs. search needs) returns needed-requires returns-2 cast-write-header cast-write-header-2 cast-write-header-3
-    cast-write-header-4 cast-write-header-5 (λ c κs. search needs) zero-heads-requires (λ c. search needs) returns-3)
+    (λ c κs. search needs) returns (λ c κs. tops c) returns-2
+    (λ c. omega (arith, tops (c .before .before .before)))
+    (λ c. omega (arith, tops (c .before .before .before)))
+    (λ c. omega (arith, tops (c .before .before .before)))
+    (λ c. omega (arith, tops (c .before .before .before)))
+    (λ c. omega (arith, tops (c .before .before .before))) (λ c κs. search needs) zero-heads-requires (λ c. search needs)
+    returns-3)

@@ -14,11 +14,10 @@ returns c =
     let after-fields-allowed = after-zero-words .before .before in
     let after-groups-allowed = after-fields-allowed .before .before in
     let after-guids-allowed = after-groups-allowed .before .before in
-    let start = after-guids-allowed .before .before .before in
     let g = after-guids-allowed .guids-allowed in
     let r = after-groups-allowed .groups-allowed in
     let f = after-fields-allowed .fields-allowed in
-    kept-heads (g .result) (r .result) (f .result) (start .pre) (g .ensures .0) (r .ensures .0) (f .ensures .0)
+    kept-heads (g .result) (r .result) (f .result) (after-guids-allowed .before .before .before .pre) (g .ensures .0) (r .ensures .0) (f .ensures .0)
     (after-zero-words .zero-words .ensures) (after-zero-words2 .zero-words2 .ensures) (after-zero-words3 .zero-words3 .ensures) (after-zero-words4 .zero-words4 .ensures) (after-zero-words5 .zero-words5 .ensures)
 
 pub zero-heads-spec : {M : Type 1} → statement M

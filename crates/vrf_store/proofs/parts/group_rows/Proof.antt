@@ -3,12 +3,9 @@ use borrow.Author.Needs.{needs}
 use Rattle.vrf_store.proofs.parts.group_rows.Statement.{statement}
 use Rattle.vrf_store.proofs.parts.group_rows.Tie as tie
 
-returns : tie.Need-returns
-returns c = cc
-
 pub group-rows-spec : {M : Type 1} → statement M
 group-rows-spec =
     tie.close
     (tie.spec
     (λ c κs. search needs) (λ c κs. search needs) (λ c. search needs) (λ c. search needs) (λ c. search needs)
-    (λ c κs. search needs) returns)
+    (λ c κs. search needs) (λ c. cc))

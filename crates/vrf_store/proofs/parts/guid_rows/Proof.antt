@@ -3,8 +3,5 @@ use borrow.Author.Needs.{needs}
 use Rattle.vrf_store.proofs.parts.guid_rows.Statement.{statement}
 use Rattle.vrf_store.proofs.parts.guid_rows.Tie as tie
 
-returns : tie.Need-returns
-returns c = cc
-
 pub guid-rows-spec : {M : Type 1} → statement M
-guid-rows-spec = tie.close (tie.spec (λ c κs. search needs) (λ c. search needs) (λ c κs. search needs) returns)
+guid-rows-spec = tie.close (tie.spec (λ c κs. search needs) (λ c. search needs) (λ c κs. search needs) (λ c. cc))

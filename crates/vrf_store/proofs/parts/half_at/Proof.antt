@@ -14,8 +14,7 @@ unfolding halfAt
 returns c =
     let after-half = c .before in
     let after-texts-at = after-half .before in
-    let start = after-texts-at .before .before in
-    let first = eq-eqb (word (now (start .args .m)) 10) 0 (sym (after-half .half .ensures) ∙ c .if1 .taken) in
+    let first = eq-eqb (word (now (after-texts-at .before .before .args .m)) 10) 0 (sym (after-half .half .ensures) ∙ c .if1 .taken) in
     rw first (after-texts-at .texts-at .ensures)
 
 returns-2 : tie.Need-returns-2
@@ -24,8 +23,7 @@ returns-2 c =
     let at-if1 = c .before in
     let after-half = at-if1 .before in
     let after-texts-at = after-half .before in
-    let start = after-texts-at .before .before in
-    let second = ne-eqb (word (now (start .args .m)) 10) 0 (λ e. at-if1 .if1 .left (after-half .half .ensures ∙ e)) in
+    let second = ne-eqb (word (now (after-texts-at .before .before .args .m)) 10) 0 (λ e. at-if1 .if1 .left (after-half .half .ensures ∙ e)) in
     rw second (ap₂ _+_ (after-texts-at .texts-at .ensures) (c .text-allowed .ensures .0))
 
 pub half-at-spec : {M : Type 1} → statement M

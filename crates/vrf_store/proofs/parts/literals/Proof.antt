@@ -3,9 +3,6 @@ use borrow.Author.Needs.{needs}
 use Rattle.vrf_store.proofs.parts.literals.Statement.{statement}
 use Rattle.vrf_store.proofs.parts.literals.Tie as tie
 
-returns : tie.Need-returns
-returns c = cc
-
 pub literals-spec : {M : Type 1} → statement M
 literals-spec =
-    tie.close (tie.spec (λ c κs. search needs) (λ c κs. search needs) (λ c κs. search needs) returns)
+    tie.close (tie.spec (λ c κs. search needs) (λ c κs. search needs) (λ c κs. search needs) (λ c. cc))

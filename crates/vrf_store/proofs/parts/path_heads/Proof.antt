@@ -3,12 +3,9 @@ use borrow.Author.Needs.{needs}
 use Rattle.vrf_store.proofs.parts.path_heads.Statement.{statement}
 use Rattle.vrf_store.proofs.parts.path_heads.Tie as tie
 
-returns : tie.Need-returns
-returns c = cc
-
 pub path-heads-spec : {M : Type 1} → statement M
 path-heads-spec =
     tie.close
     (tie.spec
     (λ c κs. search needs) (λ c κs. search needs) (λ c. search needs) (λ c. search needs) (λ c. search needs)
-    (λ c. search needs) (λ c. search needs) (λ c. search needs) (λ c κs. search needs) returns)
+    (λ c. search needs) (λ c. search needs) (λ c. search needs) (λ c κs. search needs) (λ c. cc))

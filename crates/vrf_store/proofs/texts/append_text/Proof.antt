@@ -11,15 +11,13 @@ use Rattle.vrf_store.proofs.texts.append_text.Tie as tie
 add-at : tie.Need-add-at
 add-at c =
     let back = c .before .before .before .before in
-    let start = back .before .before in
-    let m = now (start .args .m) in
+    let m = now (back .before .before .args .m) in
     omega (arith, half-within (allowancesOf m) (headerOf m .half))
 
 put-part-requires : tie.Need-put-part-requires
 put-part-requires c κs =
     let back = c .before .before .before .before in
-    let start = back .before .before .before in
-    let m = now (start .args .m) in
+    let m = now (back .before .before .before .args .m) in
     omega (arith, half-within (allowancesOf m) (headerOf m .half))
 
 returns : tie.Need-returns
@@ -28,8 +26,7 @@ returns c =
     let put = after-put32 .before .before .before .before in
     let found = put .before .before in
     let after-used = found .before .before in
-    let start = after-used .before .before .before .before in
-    append-written _ _ _ _ _ _ (start .pre) (after-used .used .ensures) (found .half-at .ensures) (put .put-part .ensures) (after-put32 .put32 .ensures)
+    append-written _ _ _ _ _ _ (after-used .before .before .before .before .pre) (after-used .used .ensures) (found .half-at .ensures) (put .put-part .ensures) (after-put32 .put32 .ensures)
 
 pub append-text-spec : {M : Type 1} → statement M
 append-text-spec =

@@ -11,8 +11,7 @@ returns-2 : tie.Need-returns-2
 returns-2 c =
     let after-compact = c .before .before in
     let back = after-compact .before .before .before .before in
-    let start = back .before .before .before .before in
-    space-made (after-compact .compact .ensures) (start .pre .1)
+    space-made (after-compact .compact .ensures) (back .before .before .before .before .pre .1)
 
 pub make-space-spec : {M : Type 1} → statement M
 make-space-spec =

@@ -9,9 +9,7 @@ move-part-requires : tie.Need-move-part-requires
 move-part-requires c κs =
     let after-get322 = c .before in
     let after-get32 = after-get322 .before .before in
-    let start = after-get32 .before .before .before in
-    let pre = start .pre in
-    (search needs, search needs, rw (after-get32 .get32 .ensures, after-get322 .get322 .ensures) (pre .apart))
+    (search needs, search needs, rw (after-get32 .get32 .ensures, after-get322 .get322 .ensures) (after-get32 .before .before .before .pre .apart))
 
 returns : tie.Need-returns
 unfolding moveText

@@ -19,16 +19,14 @@ move-text-requires : tie.Need-move-text-requires Inv-loop μ-loop
 move-text-requires c κs =
     let at-loop-test = c .before in
     let at-loop = at-loop-test .before in
-    let start = at-loop .before .before in
-    next-fitting _ _ _ _ _ _ _ _ (start .pre) _ _ (at-loop-test .loop-test .taken) (at-loop .loop .inv .1)
+    next-fitting _ _ _ _ _ _ _ _ (at-loop .before .before .pre) _ _ (at-loop-test .loop-test .taken) (at-loop .loop .inv .1)
 
 loop-again : tie.Need-loop-again Inv-loop μ-loop
 loop-again c =
     let after-move-text = c .before .before in
     let at-loop-test = after-move-text .before .before in
     let at-loop = at-loop-test .before in
-    let start = at-loop .before .before in
-    (search needs, moved-next _ _ _ _ _ _ _ _ (start .pre) _ _ (at-loop-test .loop-test .taken) (at-loop .loop .inv .1) _ _ (after-move-text .move-text .ensures .0) (after-move-text .move-text .ensures .1))
+    (search needs, moved-next _ _ _ _ _ _ _ _ (at-loop .before .before .pre) _ _ (at-loop-test .loop-test .taken) (at-loop .loop .inv .1) _ _ (after-move-text .move-text .ensures .0) (after-move-text .move-text .ensures .1))
 
 same-length : tie.Need-same-length Inv-loop μ-loop
 same-length c = c .before .loop .inv .1 .long

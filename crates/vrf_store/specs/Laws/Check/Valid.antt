@@ -5,13 +5,10 @@ use mathlib.Core.Logic.{_↔_}
 use mathlib.Core.List.{List}
 use Prim.Native.Nat.{ℕ, _+_, _*_, _/_, _%_, _<_, _≤_}
 use native.Mathlib.Omega.{arith}
-use lib.Dec.{eqb}
 use lib.ListN.{length}
-use Rattle.vrf_text.specs.Laws.Cases.{by-cond}
 use Rattle.vrf_path.specs.Leaf.{leaf}
 use Rattle.vrf_words.specs.Words.{word}
 use Rattle.vrf_words.specs.Laws.Words.{length-part}
-use Rattle.vrf_model.specs.Book.{Allowances}
 use Rattle.vrf_table.specs.Table.{text}
 use Rattle.vrf_table.specs.TextIndex.{textStart, keyNumbered, pathHit, findPath, leafHit, leafStart, claimOf}
 use Rattle.vrf_table.specs.Inner.Index.{FindsLast, FindsClaim}
@@ -21,6 +18,7 @@ use Rattle.vrf_store.specs.Store.{Header, Store, allowancesOf, headerOf,
 use Rattle.vrf_store.specs.Check.{is32, guidOk, keyOk, leafOk, groupOk, slotOk, fieldOk, storeOk, boundsOk, check}
 use Rattle.vrf_store.specs.Inner.Valid.{Shaped, ValidHeader, Valid}
 use Rattle.vrf_store.specs.Laws.Memory.UpTo.{and-true}
+use Rattle.vrf_store.specs.Laws.Memory.Regions.{half-within}
 use Rattle.vrf_store.specs.Laws.Check.Check.{header-good, good-header, found-table, table-text, table-found, reach-iff, settle-iff, test-facts}
 
 -- a test of all path entries is a test of three entries for each group
@@ -102,10 +100,6 @@ pub words-length : (m : List ℕ) (i n : ℕ) → 4 * (i + n) ≤ length m → l
 unfolding words
 words-length m i n h = length-part m (4 * i) (4 * n) (omega arith)
 
-half-fits : (a : Allowances) (half n : ℕ) → Layout.need a ≤ n → halfAt a half + a .text ≤ n
-unfolding halfAt
-half-fits a half n h = by-cond (λ (k : ℕ). k + a .text ≤ n) (eqb half 0) (λ _. omega arith) (λ _. omega arith)
-
 -- a memory with the bytes that its allowances need has all parts in full
 pub need-shaped : (h : Header) (m : List ℕ) → Layout.need (h .allowed) ≤ length m → Shaped (storeBy h m)
 unfolding storeBy
@@ -120,7 +114,7 @@ need-shaped h m fits = record {
   leafHeads = words-length m _ _ (omega arith);
   fieldRows = words-length m _ _ (omega arith) ∙ omega arith;
   fieldHeads = words-length m _ _ (omega arith);
-  texts = length-part m (halfAt (h .allowed) (h .half)) (h .allowed .text) (half-fits (h .allowed) (h .half) (length m) fits);
+  texts = length-part m (halfAt (h .allowed) (h .half)) (h .allowed .text) (omega (arith, half-within (h .allowed) (h .half), fits));
 }
 
 module _ (m : List ℕ) where

@@ -13,7 +13,7 @@ use Rattle.vrf_words.specs.Words.{part}
 use Rattle.vrf_words.specs.Inner.Words.{setWord}
 use Rattle.vrf_words.specs.Laws.Words.{length-setWord}
 use Rattle.vrf_model.specs.Book.{Slot, filled, Group}
-use Rattle.vrf_model.specs.Setting.{withGroups, withSlot, noGroup}
+use Rattle.vrf_model.specs.Setting.{withGroups, withSlot}
 use Rattle.vrf_model.specs.Lawful.{Is32}
 use Rattle.vrf_table.specs.Chain.{lastBelow}
 use Rattle.vrf_table.specs.Table.{key, at, len, info, text, keyHit, keyBucket, keyStart}
@@ -33,7 +33,7 @@ use Rattle.vrf_store.specs.Laws.Memory.Written.{fieldsTo, heldTo}
 use Rattle.vrf_store.specs.Laws.Memory.Rows.{length-pushRow, NewRow, push-table, set-table, key-pushRow, key-pushRow-other, len-pushRow, len-pushRow-other, info-pushRow, info-pushRow-other}
 use Rattle.vrf_store.specs.Laws.Memory.Rows.{text-pushRow, text-pushRow-other}
 use Rattle.vrf_store.specs.Laws.Check.Accepted.{slotKey-of, slotKey-only, slotBy-other, slotBy-after}
-use Rattle.vrf_store.specs.Laws.Lookups.{group-at}
+use Rattle.vrf_store.specs.Laws.Lookups.{group-altered}
 
 -- ---- a store with other field rows
 
@@ -59,20 +59,8 @@ module _ {s : Store} (v : Valid s) (r heads : List ℕ) (n t : ℕ) where
   pub fields-valid : NewFields s r heads n t → Valid (withFields s r heads n t)
   unfolding textSum
   fields-valid w = record {
-    shaped = record {
-      guidRows = v .shaped .guidRows;
-      guidHeads = v .shaped .guidHeads;
-      groupRows = v .shaped .groupRows;
-      groupHeads = v .shaped .groupHeads;
-      pathLinks = v .shaped .pathLinks;
-      pathHeads = v .shaped .pathHeads;
-      leafLinks = v .shaped .leafLinks;
-      leafHeads = v .shaped .leafHeads;
-      fieldRows = w .rows-long ∙ v .shaped .fieldRows;
-      fieldHeads = w .heads-long ∙ v .shaped .fieldHeads;
-      texts = v .shaped .texts;
-    };
-    header = record { tops = v .header .tops; guids = v .header .guids; groups = v .header .groups; fields = w .few; held = w .held; used = v .header .used; half = v .header .half };
+    shaped = omega (arith, v .shaped, w .rows-long, w .heads-long);
+    header = omega (arith, v .header, w .few, w .held);
     guidTable = v .guidTable;
     guids = v .guids;
     groupTable = v .groupTable;
@@ -100,7 +88,7 @@ module _ (s : Store) (r heads : List ℕ) (n t place : ℕ) (h : place < s .head
 
   pub one-group : (f : Group → Group) → groupBy current n place ≡ f (groupBy s (s .header .fields) place) → OtherSlots → contentOf current ≡ withGroup (contentOf s) place f
   unfolding contentOf guidAt withGroups
-  one-group f own o = rw (group-at s noGroup place f h, ← own, upTo-set (groupBy s (s .header .fields)) (groupBy current n) (s .header .groups) place h (other-group o))
+  one-group f own o = rw (group-altered s place f h, ← own, upTo-set (groupBy s (s .header .fields)) (groupBy current n) (s .header .groups) place h (other-group o))
 
   -- this slot is now w, and all others are unchanged
   pub record SlotChanged (slot : ℕ) (w : Slot) : Type 0 where

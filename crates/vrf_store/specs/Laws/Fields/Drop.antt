@@ -12,7 +12,7 @@ use lib.ListN.{length, take, replicate, length-replicate}
 use lib.Seq.{drop-length, take-at, drop-at, take-all}
 use borrow.Author.Tests.{eqb-true, eqb-false, eq-eqb, ne-eqb}
 use Rattle.vrf_bitio.specs.Pasted.{pasted}
-use Rattle.vrf_text.specs.Laws.Cases.{by-cond, clash}
+use Rattle.vrf_bitio.specs.Laws.Cases.{by-cond, clash}
 use Rattle.vrf_words.specs.Words.{word, part}
 use Rattle.vrf_words.specs.Inner.Words.{setWord}
 use Rattle.vrf_words.specs.Laws.Words.{word-part, word-zeros, word-setWord-same, word-setWord-other}
@@ -27,7 +27,7 @@ use Rattle.vrf_store.specs.Check.{textSum}
 use Rattle.vrf_store.specs.Inner.Valid.{Valid}
 use Rattle.vrf_store.specs.Inner.Memory.{pushRow, pushed}
 use Rattle.vrf_store.specs.Inner.Fields.{withGroup, NewField, Pass, passOf, rowDropped, rowKept, passRow, headless, passRows, emptied}
-use Rattle.vrf_store.specs.Laws.Memory.UpTo.{length-upTo, upTo-replicate}
+use Rattle.vrf_store.specs.Laws.Memory.UpTo.{length-upTo, upTo-replicate, sumBelow-le}
 use Rattle.vrf_store.specs.Laws.Memory.Rows.{key-pushRow-other, at-pushRow-other, len-pushRow-other, info-pushRow-other}
 use Rattle.vrf_store.specs.Laws.Check.Accepted.{slotKey-of, slotBy-other, slotBy-before, slotBy-after}
 use Rattle.vrf_store.specs.Laws.Fields.Changes.{withFields, otherText, fields-valid, one-group, SlotChanged, push-valid, push-slot}
@@ -57,12 +57,15 @@ pub pass-step : {cap place e kept gone kept′ gone′ : ℕ} {t₀ t t′ : Lis
 unfolding passRows
 pass-step {cap} {place} {e} p h = record { state = rw (add-one e) (h .0 ∙ ap (passRow cap place e) (p .state)); few = h .1; small = h .2 }
 
--- ---- sums
+-- row j is unchanged, except for its link
+pub record SameRow (r r′ : List ℕ) (j : ℕ) : Type 0 where
+  pub key : key r j ≡ key r′ j
+  pub at : at r j ≡ at r′ j
+  pub len : len r j ≡ len r′ j
+  pub info : info r j ≡ info r′ j
 
-sumBelow-le : (f : ℕ → ℕ) (m n : ℕ) → m ≤ n → sumBelow f m ≤ sumBelow f n
-unfolding sumBelow
-sumBelow-le f m zero h = let z : m ≡ 0 = omega arith in rw z (omega arith)
-sumBelow-le f m (suc n) h = by-equal m (suc n) (λ q. rw q (omega arith)) (λ q. omega (arith, sumBelow-le f m n (omega (arith, q))))
+same-then : {r r′ r″ : List ℕ} {j : ℕ} → SameRow r r′ j → SameRow r′ r″ j → SameRow r r″ j
+same-then s t = record { key = s .key ∙ t .key; at = s .at ∙ t .at; len = s .len ∙ t .len; info = s .info ∙ t .info }
 
 -- ---- the rows and the heads in the memory of a table
 
@@ -89,26 +92,16 @@ module _ (cap : ℕ) where
       let all : 24 * cap + length {A = ℕ} (replicate (4 * (4 * cap + 1)) 0) ≡ length t = omega (arith, long, length-replicate {A = ℕ} (4 * (4 * cap + 1)) 0) in
       rw (i, all, drop-length t, append-nil)
 
-  -- the words of row e in the table are its words in the rows
+  -- row e of the rows is row e of the table
   module _ (t : List ℕ) (e : ℕ) (h : e < cap) where
     row-word : (i : ℕ) → i < 6 → word (rowsOf t) (6 * e + i) ≡ word t (6 * e + i)
     row-word i k = word-part t 0 (24 * cap) (6 * e + i) (omega (arith, h, k)) ∙ rw zero-add
 
-    row-key : key (rowsOf t) e ≡ key t e
-    unfolding key
-    row-key = let low : word (rowsOf t) (6 * e) ≡ word t (6 * e) = simp add-zero at (row-word 0 (omega arith)) in rw (low, row-word 1 (omega arith))
-
-    row-at : at (rowsOf t) e ≡ at t e
-    unfolding at
-    row-at = row-word 3 (omega arith)
-
-    row-len : len (rowsOf t) e ≡ len t e
-    unfolding len
-    row-len = row-word 4 (omega arith)
-
-    row-info : info (rowsOf t) e ≡ info t e
-    unfolding info
-    row-info = row-word 5 (omega arith)
+    in-table : SameRow (rowsOf t) t e
+    unfolding key at len info
+    in-table =
+        let low : word (rowsOf t) (6 * e) ≡ word t (6 * e) = simp add-zero at (row-word 0 (omega arith)) in
+        record { key = rw (low, row-word 1 (omega arith)); at = row-word 3 (omega arith); len = row-word 4 (omega arith); info = row-word 5 (omega arith) }
 
 -- ---- the state after e rows
 
@@ -118,13 +111,6 @@ cap s = s .header .allowed .fields
 -- the store whose fields are the rows kept so far
 abbrev pub passStore : Store → Pass → ℕ → Store
 passStore s p total = withFields s (rowsOf (cap s) (p .table)) (headsOf (cap s) (p .table)) (p .kept) total
-
--- row j is unchanged, except for its link
-pub record SameRow (r r′ : List ℕ) (j : ℕ) : Type 0 where
-  pub key : key r j ≡ key r′ j
-  pub at : at r j ≡ at r′ j
-  pub len : len r j ≡ len r′ j
-  pub info : info r j ≡ info r′ j
 
 pub record KeptRowsAre (s : Store) (place e : ℕ) (p : Pass) : Type 0 where
   pub few : p .kept ≤ e
@@ -189,31 +175,19 @@ module _ {s : Store} (v : Valid s) (place e : ℕ) (h : e < s .header .fields) (
   in-cap = omega (arith, h, v .header .fields)
 
   -- row e has not been written yet
-  same : SameRow r₀ (rowsOf (cap s) (p .table)) e
-  same = w .rest e (omega arith)
-
-  key-is : key (p .table) e ≡ key r₀ e
-  key-is = sym (same .key ∙ row-key (cap s) (p .table) e in-cap)
-
-  at-is : at (p .table) e ≡ at r₀ e
-  at-is = sym (same .at ∙ row-at (cap s) (p .table) e in-cap)
-
-  len-is : len (p .table) e ≡ len r₀ e
-  len-is = sym (same .len ∙ row-len (cap s) (p .table) e in-cap)
-
-  info-is : info (p .table) e ≡ info r₀ e
-  info-is = sym (same .info ∙ row-info (cap s) (p .table) e in-cap)
+  its : SameRow r₀ (p .table) e
+  its = same-then (w .rest e (omega arith)) (in-table (cap s) (p .table) e in-cap)
 
   dropped-on : key r₀ e / 65536 ≡ place → KeptRowsAre s place (suc e) (rowDropped e p)
   unfolding sumBelow
-  dropped-on its = record {
+  dropped-on own = record {
     few = omega (arith, w .few);
     total = w .total;
-    sum = omega (arith, w .sum, len-is);
+    sum = omega (arith, w .sum, its .len);
     valid = w .valid;
     heads = w .heads;
     rest = λ j k. w .rest j (omega (arith, k));
-    others = λ g q hg hq ne. sym (slotBy-other v e h g q hg hq (λ z. ne (z .0 ∙ its))) ∙ w .others g q hg hq ne;
+    others = λ g q hg hq ne. sym (slotBy-other v e h g q hg hq (λ z. ne (z .0 ∙ own))) ∙ w .others g q hg hq ne;
     own = w .own;
   }
 
@@ -271,7 +245,7 @@ module _ {s : Store} (v : Valid s) (place e : ℕ) (h : e < s .header .fields) (
 
     table-is : rowKept (cap s) e p .table ≡ rows′ ++ heads′
     unfolding pushed
-    table-is = rw (key-is, at-is, len-is, info-is, slotKey-of (key r₀ e))
+    table-is = rw (← its .key, ← its .at, ← its .len, ← its .info, slotKey-of (key r₀ e))
 
     rows-now : rowsOf (cap s) (rowKept (cap s) e p .table) ≡ rows′
     rows-now = ap (rowsOf (cap s)) table-is ∙ rows-of (cap s) rows′ heads′ (pushed-valid .shaped .fieldRows)
@@ -290,13 +264,12 @@ module _ {s : Store} (v : Valid s) (place e : ℕ) (h : e < s .header .fields) (
     rest-same j k =
         let fits : 24 * p .kept + 24 ≤ length rows = omega (arith, w .few, in-cap, w .valid .shaped .fieldRows) in
         let other : j ≢ p .kept = λ z. omega (arith, z, k, w .few) in
-        let old = w .rest j (omega (arith, k)) in
-        record {
-          key = old .key ∙ sym (key-pushRow-other rows (p .kept) (slotKey g q) (keyStart heads b (slotKey g q)) (at r₀ e) (len r₀ e) (info r₀ e) fits j other);
-          at = old .at ∙ sym (at-pushRow-other rows (p .kept) (slotKey g q) (keyStart heads b (slotKey g q)) (at r₀ e) (len r₀ e) (info r₀ e) fits j other);
-          len = old .len ∙ sym (len-pushRow-other rows (p .kept) (slotKey g q) (keyStart heads b (slotKey g q)) (at r₀ e) (len r₀ e) (info r₀ e) fits j other);
-          info = old .info ∙ sym (info-pushRow-other rows (p .kept) (slotKey g q) (keyStart heads b (slotKey g q)) (at r₀ e) (len r₀ e) (info r₀ e) fits j other);
-        }
+        same-then (w .rest j (omega (arith, k))) (record {
+          key = sym (key-pushRow-other rows (p .kept) (slotKey g q) (keyStart heads b (slotKey g q)) (at r₀ e) (len r₀ e) (info r₀ e) fits j other);
+          at = sym (at-pushRow-other rows (p .kept) (slotKey g q) (keyStart heads b (slotKey g q)) (at r₀ e) (len r₀ e) (info r₀ e) fits j other);
+          len = sym (len-pushRow-other rows (p .kept) (slotKey g q) (keyStart heads b (slotKey g q)) (at r₀ e) (len r₀ e) (info r₀ e) fits j other);
+          info = sym (info-pushRow-other rows (p .kept) (slotKey g q) (keyStart heads b (slotKey g q)) (at r₀ e) (len r₀ e) (info r₀ e) fits j other);
+        })
 
     abbrev current′ : Store
     current′ = withFields s rows′ heads′ (suc (p .kept)) (w .total + len r₀ e)
@@ -342,8 +315,8 @@ module _ {s : Store} (v : Valid s) (place : ℕ) (in-groups : place < s .header 
   step : (e : ℕ) → e < s .header .fields → (p : Pass) → KeptRowsAre s place e p → KeptRowsAre s place (suc e) (passRow (cap s) place e p)
   unfolding passRow
   step e h p w = by-cond (KeptRowsAre s place (suc e)) (eqb (key (p .table) e / 65536) place)
-      (λ z. dropped-on v place e h p w (rw (key-is v place e h p w) at (eqb-true (key (p .table) e / 65536) place z)))
-      (λ z. stays-on v place e h p w (λ y. eqb-false (key (p .table) e / 65536) place z (rw (key-is v place e h p w) y)) in-groups)
+      (λ z. dropped-on v place e h p w (rw (its v place e h p w .key) (eqb-true (key (p .table) e / 65536) place z)))
+      (λ z. stays-on v place e h p w (λ y. eqb-false (key (p .table) e / 65536) place z (rw (its v place e h p w .key) at y)) in-groups)
 
   kept-all : (e : ℕ) → e ≤ s .header .fields → KeptRowsAre s place e (passRows (cap s) place (cleared s) e)
   unfolding passRows

@@ -1,5 +1,5 @@
 -- Laws about the row of a slot and about outers. The lookups, `vrf_cache` and `vrf_writer` use them.
-use mathlib.Core.Path.{_≡_, refl, ap, _∙_}
+use mathlib.Core.Path.{_≡_, refl, sym, ap, _∙_}
 use mathlib.Core.Bool.{cond}
 use mathlib.Core.List.{List, [], _∷_}
 use mathlib.Core.Option.{Option, none, some}
@@ -7,11 +7,14 @@ use Prim.Native.Nat.{ℕ, zero, suc, _/_, _%_, _<_}
 use native.Mathlib.Omega.{arith}
 use lib.Dec.{eqb}
 use borrow.Author.Tests.{lt-ltb, le-ltb, eqb-true}
-use Rattle.vrf_text.specs.Laws.Cases.{by-order, clash}
+use Rattle.vrf_bitio.specs.Laws.Cases.{by-order, clash}
 use Rattle.vrf_model.specs.Book.{Guid, empty}
 use Rattle.vrf_model.specs.Lookup.{placeOr, slotAt, outerOf}
 use Rattle.vrf_table.specs.Table.{key, link, info, keyHit, keyStart, findKey}
+use Rattle.vrf_table.specs.Inner.Answers.{entry}
 use Rattle.vrf_table.specs.Laws.Chain.{Passes, walk-passes}
+use Rattle.vrf_table.specs.declared.Entry.{Entry}
+use Rattle.vrf_table.specs.declared.Entry.the-variants.{At, Nowhere}
 use Rattle.vrf_store.specs.Layout
 use Rattle.vrf_store.specs.Store.{Store, fieldAt, orEmpty, slotKey, contentOf}
 use Rattle.vrf_store.specs.Inner.Valid.{Valid}
@@ -59,21 +62,23 @@ module _ {s : Store} (v : Valid s) (place slot : ℕ) where
           (λ high. rw (le-ltb slot 65536 high))
           (λ low. rw (lt-ltb slot 65536 low, miss low))
 
-  -- a slot with a row holds its field, and a slot without a row is empty
-  pub slot-filled : {e : ℕ} → slotRow s place slot ≡ some e → slotAt (contentOf s .groups) place slot ≡ fieldAt s e
-  unfolding orEmpty
-  slot-filled q = slot-row ∙ ap (orEmpty (fieldAt s)) q
+  -- r is the row that was found for the slot. A slot with a row holds its field, and a slot without a row is empty
+  module _ {r : Entry} (er : entry r ≡ slotRow s place slot) where
+    pub slot-filled : {e : ℕ} → r ≡ At e → slotAt (contentOf s .groups) place slot ≡ fieldAt s e
+    unfolding orEmpty
+    slot-filled q = slot-row ∙ ap (orEmpty (fieldAt s)) (sym er ∙ ap entry q)
 
-  pub slot-empty : slotRow s place slot ≡ none → slotAt (contentOf s .groups) place slot ≡ empty
-  unfolding orEmpty
-  slot-empty q = slot-row ∙ ap (orEmpty (fieldAt s)) q
+    pub slot-empty : r ≡ Nowhere → slotAt (contentOf s .groups) place slot ≡ empty
+    unfolding orEmpty
+    slot-empty q = slot-row ∙ ap (orEmpty (fieldAt s)) (sym er ∙ ap entry q)
 
-  pub slot-row-below : {e : ℕ} → slotRow s place slot ≡ some e → e < s .header .fields
-  unfolding slotRow
-  slot-row-below q =
-      by-order 65536 slot
-      (λ high. clash (let none-there = le-ltb slot 65536 high in cc))
-      (λ low. field-known (rw (lt-ltb slot 65536 low) at q) .0)
+    pub slot-row-below : {e : ℕ} → r ≡ At e → e < s .header .fields
+    unfolding slotRow
+    slot-row-below {e} q =
+        let there : slotRow s place slot ≡ some e = sym er ∙ ap entry q in
+        by-order 65536 slot
+        (λ high. clash (let none-there = le-ltb slot 65536 high in cc))
+        (λ low. field-known (rw (lt-ltb slot 65536 low) at there) .0)
 
 -- ---- outers
 

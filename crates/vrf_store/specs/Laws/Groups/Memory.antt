@@ -8,19 +8,16 @@ use native.Mathlib.Omega.{arith}
 use lib.ListN.{length}
 use Rattle.vrf_bitio.specs.Bits.{Bytes}
 use Rattle.vrf_bitio.specs.Pasted.{pasted}
-use Rattle.vrf_path.specs.Leaf.{leaf}
 use Rattle.vrf_words.specs.Laws.Words.{length-part, bytes-part}
 use Rattle.vrf_model.specs.Book.{Allowances}
 use Rattle.vrf_table.specs.Table.{at, len, text}
-use Rattle.vrf_table.specs.TextIndex.{claimOf}
-use Rattle.vrf_table.specs.Inner.TextIndex.{leafBucket}
 use Rattle.vrf_store.specs.Layout
 use Rattle.vrf_store.specs.Store.{Store, Header, allowancesOf, headerOf, words, storeBy, storeOf}
 use Rattle.vrf_store.specs.Inner.Valid.{Shaped}
 use Rattle.vrf_store.specs.Inner.WellFormed.{Enough}
 use Rattle.vrf_store.specs.Inner.Check.{Walked}
 use Rattle.vrf_store.specs.Inner.Memory.{WrittenStore}
-use Rattle.vrf_store.specs.Inner.Groups.{joinedBy, linked, headed, BucketBelow, pushKey, pushPath, pushLeaf, leafOf, Indexed, Relinked, Indexable, Pushable, MoreIndexed, bucketed, BucketsOf}
+use Rattle.vrf_store.specs.Inner.Groups.{linked, headed, BucketBelow, pushKey, pushPath, pushLeaf, Indexed, Relinked, Indexable, Pushable, MoreIndexed, bucketed, BucketsOf}
 use Rattle.vrf_store.specs.Laws.Memory.Written.{unwritten, wrote-groupTable, wrote-pathIndex, wrote-leafIndex}
 use Rattle.vrf_store.specs.Laws.Check.Valid.{need-shaped}
 use Rattle.vrf_store.specs.Laws.Groups.TextIndex.{length-linked, length-headed}
@@ -94,9 +91,6 @@ module _ {m : List ℕ} {g : ℕ} (i : Indexable m g) {r x l h : List ℕ} {b : 
         texts = λ e k. rw er (omega (arith, ap length ex, shaped .texts, i .within e (omega (arith, k))));
         short = λ e k. rw er (i .short e (omega (arith, k)));
       }
-
-  pub leaf-joined : joinedBy (claimOf r x l h b g) (leafBucket b) (leaf (text r x g)) ≡ leafOf (storeOf m) g
-  leaf-joined = rw (er, ex, el, eh, eb)
 
 -- two sequences of writes, one after the other
 pub then : {m m′ m″ : List ℕ} {s : Store} (f : Store → Store) → WrittenStore m m′ s → WrittenStore m′ m″ (f (storeOf m′)) → WrittenStore m m″ (f s)

@@ -9,7 +9,7 @@ use Rattle.vrf_words.specs.Words.{word}
 use Rattle.vrf_words.specs.Inner.Words.{setWord}
 use Rattle.vrf_words.specs.Laws.Words.{length-setWord, word-setWord-same, word-setWord-other, word-part}
 use Rattle.vrf_model.specs.Book.{empty, Group}
-use Rattle.vrf_model.specs.Setting.{withGroups, grown, noGroup}
+use Rattle.vrf_model.specs.Setting.{withGroups, grown}
 use Rattle.vrf_table.specs.Table.{key, link, at, len, info, text}
 use Rattle.vrf_table.specs.Laws.Chain.{by-equal}
 use Rattle.vrf_store.specs.UpTo.{upTo}
@@ -26,7 +26,7 @@ use Rattle.vrf_store.specs.Laws.Memory.UpTo.{length-upTo, upTo-set, upTo
 use Rattle.vrf_store.specs.Laws.Memory.Written.{unwritten, stepped, wrote-groupTable}
 use Rattle.vrf_store.specs.Laws.Memory.Rows.{good-text, same-keys}
 use Rattle.vrf_store.specs.Laws.Memory.Entries.{word-written}
-use Rattle.vrf_store.specs.Laws.Lookups.{group-at}
+use Rattle.vrf_store.specs.Laws.Lookups.{group-altered}
 use Rattle.vrf_store.specs.Laws.Groups.TextIndex.{same-paths, same-leaves}
 use Rattle.vrf_store.specs.Laws.Groups.Changes.{slot-empty}
 
@@ -37,10 +37,10 @@ module _ (s : Store) (e : ℕ) (low : e < s .header .groups) (by : ℕ → Group
   unfolding contentOf
   one-group others own =
       let changed = upTo-set (groupBy s (s .header .fields)) by (s .header .groups) e low (λ j h q. others j q) in
-      ap (withGroups (contentOf s)) (changed ∙ ap (set (upTo (groupBy s (s .header .fields)) (s .header .groups)) e) (own ∙ sym (group-at s noGroup e f low)))
+      ap (withGroups (contentOf s)) (changed ∙ ap (set (upTo (groupBy s (s .header .fields)) (s .header .groups)) e) own ∙ sym (group-altered s e f low))
 
 pub same-group : (s : Store) (e : ℕ) → e < s .header .groups → (f g : Group → Group) → f (groupBy s (s .header .fields) e) ≡ g (groupBy s (s .header .fields) e) → withGroup (contentOf s) e f ≡ withGroup (contentOf s) e g
-same-group s e low f g q = ap (λ (x : Group). withGroups (contentOf s) (set (contentOf s .groups) e x)) (group-at s noGroup e f low ∙ q ∙ sym (group-at s noGroup e g low))
+same-group s e low f g q = ap (withGroups (contentOf s)) (group-altered s e f low ∙ ap (set (contentOf s .groups) e) q ∙ sym (group-altered s e g low))
 
 -- past its slots a group has no fields, so new slots are empty
 module _ (s : Store) (fields : (j : ℕ) → j < s .header .fields → ValidSlotKey s (key (s .fieldRows) j)) (e i n : ℕ) where

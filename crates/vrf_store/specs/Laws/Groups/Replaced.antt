@@ -7,12 +7,12 @@ use Prim.Native.Nat.{ℕ, _+_, _-_, _*_, _/_, _%_, _<_, _≤_}
 use native.Mathlib.Omega.{arith}
 use lib.ListN.{length, set}
 use borrow.Author.Tests.{eqb-true, eq-eqb}
-use Rattle.vrf_text.specs.Laws.Cases.{clash}
+use Rattle.vrf_bitio.specs.Laws.Cases.{clash}
 use Rattle.vrf_words.specs.Words.{part}
 use Rattle.vrf_words.specs.Inner.Words.{setWord}
 use Rattle.vrf_model.specs.Book.{empty, filled, Group, Content}
 use Rattle.vrf_model.specs.Lookup.{indexPlace, slotAt}
-use Rattle.vrf_model.specs.Setting.{withGroups, newGroup, mergedGroup, noGroup}
+use Rattle.vrf_model.specs.Setting.{withGroups, newGroup, mergedGroup}
 use Rattle.vrf_model.specs.Lawful.{Is32}
 use Rattle.vrf_table.specs.Chain.{lastBelow}
 use Rattle.vrf_table.specs.Table.{key, len, info, text, keyHit, findKey}
@@ -31,7 +31,7 @@ use Rattle.vrf_store.specs.Laws.Memory.UpTo.{sumBelow-set, sumBelow-at}
 use Rattle.vrf_store.specs.Laws.Memory.Written.{wrote-held}
 use Rattle.vrf_store.specs.Laws.Memory.Rows.{len-pushRow, len-pushRow-other}
 use Rattle.vrf_store.specs.Laws.Check.Accepted.{slotKey-of}
-use Rattle.vrf_store.specs.Laws.Lookups.{group-at, index-found, slot-found}
+use Rattle.vrf_store.specs.Laws.Lookups.{group-altered, index-found, slot-found}
 use Rattle.vrf_store.specs.Laws.Groups.Index.{valid-unindexed}
 use Rattle.vrf_store.specs.Laws.Groups.Changes.{slots-none, withGroupRow, ValidRow, put-unindexed, put-other, put-own, put-content}
 use Rattle.vrf_store.specs.Laws.Groups.Merged.{one-group, same-group, grown-slots}
@@ -152,8 +152,9 @@ module _ {m : List ℕ} {e k a l i : ℕ} (x : OldGroup m e k a l i) (none-there
 
   pub replace-content : withGroup (held m) e (λ _. groupOf (storeOf m) e k a l i) ≡ withGroups (held m) (set (held m .groups) e (newGroup (part (storeOf m .texts) a l) k i))
   unfolding groupOf newGroup
-  replace-content = ap (λ (g : Group). withGroups (held m) (set (held m .groups) e g))
-      (group-at (storeOf m) noGroup e (λ _. groupOf (storeOf m) e k a l i) (x .known) ∙ rw (slots-none (storeOf m) e i (x .handles) nothing))
+  replace-content =
+      ap (withGroups (held m)) (group-altered (storeOf m) e (λ _. groupOf (storeOf m) e k a l i) (x .known)
+      ∙ ap (set (held m .groups) e) (rw (slots-none (storeOf m) e i (x .handles) nothing)))
 
 -- the same change for an equal content
 pub stepped-as : {m m′ : List ℕ} {c d : Content} → Stepped m m′ c → c ≡ d → Stepped m m′ d

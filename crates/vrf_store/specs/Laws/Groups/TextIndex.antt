@@ -7,7 +7,7 @@ use Prim.Native.Nat.{ℕ, suc, _+_, _*_, _/_, _%_, _^_, _<_, _≤_}
 use native.Mathlib.Omega.{arith}
 use lib.ListN.{length}
 use Rattle.vrf_bitio.specs.Bits.{Bytes}
-use Rattle.vrf_text.specs.Laws.Cases.{by-order, clash}
+use Rattle.vrf_bitio.specs.Laws.Cases.{by-order, clash}
 use Rattle.vrf_path.specs.Keys.{keyIs}
 use Rattle.vrf_path.specs.Leaf.{leaf}
 use Rattle.vrf_path.specs.Base.{leafBase}

@@ -9,7 +9,7 @@ use lib.ListN.{length, replicate, length-replicate}
 use borrow.Author.Tests.{leb-true, leb-false, ltb-true, ltb-false}
 use Rattle.vrf_bitio.specs.Pasted.{pasted}
 use Rattle.vrf_bitio.specs.Laws.Pasted.{pasted-length}
-use Rattle.vrf_text.specs.Laws.Cases.{by-cond}
+use Rattle.vrf_bitio.specs.Laws.Cases.{by-cond}
 use Rattle.vrf_words.specs.Words.{word}
 use Rattle.vrf_words.specs.Inner.Words.{setWord}
 use Rattle.vrf_words.specs.Laws.Words.{length-setWord, word-zeros, word-pasted-in, word-pasted-below, word-pasted-above}

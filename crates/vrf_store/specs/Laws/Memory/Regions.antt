@@ -1,19 +1,18 @@
 -- Laws about writing one part of a memory: which store the memory then holds.
-use mathlib.Core.Path.{_≡_, sym, ap, _∙_}
-use mathlib.Core.List.{List, _++_}
-use Prim.Native.Nat.{ℕ, _+_, _*_, _≤_}
+use mathlib.Core.Path.{_≡_, refl, sym, ap, ap₂, _∙_}
+use mathlib.Core.List.{List, [], _∷_, _++_}
+use Prim.Native.Nat.{ℕ, zero, suc, _+_, _*_, _≤_}
 use native.Mathlib.Omega.{arith}
 use lib.Dec.{eqb}
 use lib.ListN.{length, take, length-append}
 use lib.Seq.{take-at, drop-at, take-all}
 use Rattle.vrf_bitio.specs.Pasted.{pasted}
-use Rattle.vrf_text.specs.Laws.Cases.{by-cond}
+use Rattle.vrf_bitio.specs.Laws.Cases.{by-cond}
 use Rattle.vrf_words.specs.Words.{part}
 use Rattle.vrf_words.specs.Laws.Words.{part-pasted-below, part-pasted-above, part-pasted-same, part-pasted-in, part-part}
 use Rattle.vrf_model.specs.Book.{Allowances}
 use Rattle.vrf_store.specs.Layout
 use Rattle.vrf_store.specs.Store.{Header, Store, halfAt, words, storeBy}
-use Rattle.vrf_store.specs.Inner.Memory.{withGroupTable, withPathIndex, withLeafIndex}
 
 -- ---- a store with some of its parts replaced
 
@@ -84,113 +83,112 @@ module _ (m r heads : List ℕ) (i n k : ℕ) (lr : length r ≡ 4 * n) (lh : le
       let e : 4 * j ≡ 4 * i + 4 * n = omega (arith, q) in
       ap (λ (a : ℕ). part (pasted m (4 * i) (r ++ heads)) a (4 * k)) e ∙ inner (4 * n) (4 * k) (omega (arith, both)) ∙ ap (take (4 * k)) (drop-at r heads (4 * n) lr) ∙ take-all (4 * k) heads (omega (arith, lh))
 
--- ---- each table and each index
+-- ---- the parts of a store in the order of the memory
 
-module _ (h : Header) (m r heads : List ℕ) (enough : Layout.need (h .allowed) ≤ length m) where
-  pub put-guidTable : length r ≡ 4 * (6 * (h .allowed) .guids) → length heads ≡ 4 * (Layout.guidBuckets (h .allowed)) → storeBy h (pasted m (4 * Layout.guidRowsAt (h .allowed)) (r ++ heads)) ≡ withGuidTable (storeBy h m) r heads
-  put-guidTable lr lh =
-      let w : ℕ = 4 * Layout.guidRowsAt (h .allowed) in
-      let long : length (r ++ heads) ≡ 4 * (6 * (h .allowed) .guids) + 4 * (Layout.guidBuckets (h .allowed)) = length-append r heads ∙ omega (arith, lr, lh) in
-      let fits : w + length (r ++ heads) ≤ length m = omega (arith, long, enough) in
-      let inside : 4 * Layout.guidRowsAt (h .allowed) + 4 * (6 * (h .allowed) .guids) + 4 * (Layout.guidBuckets (h .allowed)) ≤ length m = omega (arith, long, enough) in
-      rw (
-        front m r heads (Layout.guidRowsAt (h .allowed)) (6 * (h .allowed) .guids) (Layout.guidBuckets (h .allowed)) lr lh inside,
-        back m r heads (Layout.guidRowsAt (h .allowed)) (6 * (h .allowed) .guids) (Layout.guidBuckets (h .allowed)) lr lh inside (Layout.guidHeadsAt (h .allowed)) (omega arith),
-        above m (r ++ heads) w fits (Layout.groupRowsAt (h .allowed)) (6 * (h .allowed) .groups) (omega (arith, long)),
-        above m (r ++ heads) w fits (Layout.groupHeadsAt (h .allowed)) (Layout.groupBuckets (h .allowed)) (omega (arith, long)),
-        above m (r ++ heads) w fits (Layout.pathLinksAt (h .allowed)) (3 * (h .allowed) .groups) (omega (arith, long)),
-        above m (r ++ heads) w fits (Layout.pathHeadsAt (h .allowed)) (Layout.pathBuckets (h .allowed)) (omega (arith, long)),
-        above m (r ++ heads) w fits (Layout.leafLinksAt (h .allowed)) ((h .allowed) .groups) (omega (arith, long)),
-        above m (r ++ heads) w fits (Layout.leafHeadsAt (h .allowed)) (Layout.leafBuckets (h .allowed)) (omega (arith, long)),
-        above m (r ++ heads) w fits (Layout.fieldRowsAt (h .allowed)) (6 * (h .allowed) .fields) (omega (arith, long)),
-        above m (r ++ heads) w fits (Layout.fieldHeadsAt (h .allowed)) (Layout.fieldBuckets (h .allowed)) (omega (arith, long)),
-        above m (r ++ heads) w fits (Layout.literalsAt (h .allowed)) ((h .allowed) .literals) (omega (arith, long)),
-        half-kept m (r ++ heads) w fits (h .allowed) (h .half) (omega (arith, long)),
-      )
+-- the n words from word `at` on
+pub record Region : Type 0 where
+  pub at : ℕ
+  pub size : ℕ
 
-  pub put-groupTable : length r ≡ 4 * (6 * (h .allowed) .groups) → length heads ≡ 4 * (Layout.groupBuckets (h .allowed)) → storeBy h (pasted m (4 * Layout.groupRowsAt (h .allowed)) (r ++ heads)) ≡ withGroupTable (storeBy h m) r heads
-  put-groupTable lr lh =
-      let w : ℕ = 4 * Layout.groupRowsAt (h .allowed) in
-      let long : length (r ++ heads) ≡ 4 * (6 * (h .allowed) .groups) + 4 * (Layout.groupBuckets (h .allowed)) = length-append r heads ∙ omega (arith, lr, lh) in
-      let fits : w + length (r ++ heads) ≤ length m = omega (arith, long, enough) in
-      let inside : 4 * Layout.groupRowsAt (h .allowed) + 4 * (6 * (h .allowed) .groups) + 4 * (Layout.groupBuckets (h .allowed)) ≤ length m = omega (arith, long, enough) in
-      rw (
-        front m r heads (Layout.groupRowsAt (h .allowed)) (6 * (h .allowed) .groups) (Layout.groupBuckets (h .allowed)) lr lh inside,
-        back m r heads (Layout.groupRowsAt (h .allowed)) (6 * (h .allowed) .groups) (Layout.groupBuckets (h .allowed)) lr lh inside (Layout.groupHeadsAt (h .allowed)) (omega arith),
-        below m (r ++ heads) w fits (Layout.guidRowsAt (h .allowed)) (6 * (h .allowed) .guids) (omega arith),
-        below m (r ++ heads) w fits (Layout.guidHeadsAt (h .allowed)) (Layout.guidBuckets (h .allowed)) (omega arith),
-        above m (r ++ heads) w fits (Layout.pathLinksAt (h .allowed)) (3 * (h .allowed) .groups) (omega (arith, long)),
-        above m (r ++ heads) w fits (Layout.pathHeadsAt (h .allowed)) (Layout.pathBuckets (h .allowed)) (omega (arith, long)),
-        above m (r ++ heads) w fits (Layout.leafLinksAt (h .allowed)) ((h .allowed) .groups) (omega (arith, long)),
-        above m (r ++ heads) w fits (Layout.leafHeadsAt (h .allowed)) (Layout.leafBuckets (h .allowed)) (omega (arith, long)),
-        above m (r ++ heads) w fits (Layout.fieldRowsAt (h .allowed)) (6 * (h .allowed) .fields) (omega (arith, long)),
-        above m (r ++ heads) w fits (Layout.fieldHeadsAt (h .allowed)) (Layout.fieldBuckets (h .allowed)) (omega (arith, long)),
-        above m (r ++ heads) w fits (Layout.literalsAt (h .allowed)) ((h .allowed) .literals) (omega (arith, long)),
-        half-kept m (r ++ heads) w fits (h .allowed) (h .half) (omega (arith, long)),
-      )
+-- the tables, the indexes and the literals
+abbrev pub regions : Allowances → List Region
+regions a =
+    record { at = Layout.guidRowsAt a; size = 6 * a .guids }
+    ∷ record { at = Layout.guidHeadsAt a; size = Layout.guidBuckets a }
+    ∷ record { at = Layout.groupRowsAt a; size = 6 * a .groups }
+    ∷ record { at = Layout.groupHeadsAt a; size = Layout.groupBuckets a }
+    ∷ record { at = Layout.pathLinksAt a; size = 3 * a .groups }
+    ∷ record { at = Layout.pathHeadsAt a; size = Layout.pathBuckets a }
+    ∷ record { at = Layout.leafLinksAt a; size = a .groups }
+    ∷ record { at = Layout.leafHeadsAt a; size = Layout.leafBuckets a }
+    ∷ record { at = Layout.fieldRowsAt a; size = 6 * a .fields }
+    ∷ record { at = Layout.fieldHeadsAt a; size = Layout.fieldBuckets a }
+    ∷ record { at = Layout.literalsAt a; size = a .literals }
+    ∷ []
 
-  pub put-pathIndex : length r ≡ 4 * (3 * (h .allowed) .groups) → length heads ≡ 4 * (Layout.pathBuckets (h .allowed)) → storeBy h (pasted m (4 * Layout.pathLinksAt (h .allowed)) (r ++ heads)) ≡ withPathIndex (storeBy h m) r heads
-  put-pathIndex lr lh =
-      let w : ℕ = 4 * Layout.pathLinksAt (h .allowed) in
-      let long : length (r ++ heads) ≡ 4 * (3 * (h .allowed) .groups) + 4 * (Layout.pathBuckets (h .allowed)) = length-append r heads ∙ omega (arith, lr, lh) in
-      let fits : w + length (r ++ heads) ≤ length m = omega (arith, long, enough) in
-      let inside : 4 * Layout.pathLinksAt (h .allowed) + 4 * (3 * (h .allowed) .groups) + 4 * (Layout.pathBuckets (h .allowed)) ≤ length m = omega (arith, long, enough) in
-      rw (
-        front m r heads (Layout.pathLinksAt (h .allowed)) (3 * (h .allowed) .groups) (Layout.pathBuckets (h .allowed)) lr lh inside,
-        back m r heads (Layout.pathLinksAt (h .allowed)) (3 * (h .allowed) .groups) (Layout.pathBuckets (h .allowed)) lr lh inside (Layout.pathHeadsAt (h .allowed)) (omega arith),
-        below m (r ++ heads) w fits (Layout.guidRowsAt (h .allowed)) (6 * (h .allowed) .guids) (omega arith),
-        below m (r ++ heads) w fits (Layout.guidHeadsAt (h .allowed)) (Layout.guidBuckets (h .allowed)) (omega arith),
-        below m (r ++ heads) w fits (Layout.groupRowsAt (h .allowed)) (6 * (h .allowed) .groups) (omega arith),
-        below m (r ++ heads) w fits (Layout.groupHeadsAt (h .allowed)) (Layout.groupBuckets (h .allowed)) (omega arith),
-        above m (r ++ heads) w fits (Layout.leafLinksAt (h .allowed)) ((h .allowed) .groups) (omega (arith, long)),
-        above m (r ++ heads) w fits (Layout.leafHeadsAt (h .allowed)) (Layout.leafBuckets (h .allowed)) (omega (arith, long)),
-        above m (r ++ heads) w fits (Layout.fieldRowsAt (h .allowed)) (6 * (h .allowed) .fields) (omega (arith, long)),
-        above m (r ++ heads) w fits (Layout.fieldHeadsAt (h .allowed)) (Layout.fieldBuckets (h .allowed)) (omega (arith, long)),
-        above m (r ++ heads) w fits (Layout.literalsAt (h .allowed)) ((h .allowed) .literals) (omega (arith, long)),
-        half-kept m (r ++ heads) w fits (h .allowed) (h .half) (omega (arith, long)),
-      )
+-- each region starts where the one before it ends
+abbrev Adjacent : ℕ → List Region → Type 0
+Adjacent i [] = Unit {0}
+Adjacent i (p ∷ ps) = (p .at ≡ i) × Adjacent (i + p .size) ps
 
-  pub put-leafIndex : length r ≡ 4 * ((h .allowed) .groups) → length heads ≡ 4 * (Layout.leafBuckets (h .allowed)) → storeBy h (pasted m (4 * Layout.leafLinksAt (h .allowed)) (r ++ heads)) ≡ withLeafIndex (storeBy h m) r heads
-  put-leafIndex lr lh =
-      let w : ℕ = 4 * Layout.leafLinksAt (h .allowed) in
-      let long : length (r ++ heads) ≡ 4 * ((h .allowed) .groups) + 4 * (Layout.leafBuckets (h .allowed)) = length-append r heads ∙ omega (arith, lr, lh) in
-      let fits : w + length (r ++ heads) ≤ length m = omega (arith, long, enough) in
-      let inside : 4 * Layout.leafLinksAt (h .allowed) + 4 * ((h .allowed) .groups) + 4 * (Layout.leafBuckets (h .allowed)) ≤ length m = omega (arith, long, enough) in
-      rw (
-        front m r heads (Layout.leafLinksAt (h .allowed)) ((h .allowed) .groups) (Layout.leafBuckets (h .allowed)) lr lh inside,
-        back m r heads (Layout.leafLinksAt (h .allowed)) ((h .allowed) .groups) (Layout.leafBuckets (h .allowed)) lr lh inside (Layout.leafHeadsAt (h .allowed)) (omega arith),
-        below m (r ++ heads) w fits (Layout.guidRowsAt (h .allowed)) (6 * (h .allowed) .guids) (omega arith),
-        below m (r ++ heads) w fits (Layout.guidHeadsAt (h .allowed)) (Layout.guidBuckets (h .allowed)) (omega arith),
-        below m (r ++ heads) w fits (Layout.groupRowsAt (h .allowed)) (6 * (h .allowed) .groups) (omega arith),
-        below m (r ++ heads) w fits (Layout.groupHeadsAt (h .allowed)) (Layout.groupBuckets (h .allowed)) (omega arith),
-        below m (r ++ heads) w fits (Layout.pathLinksAt (h .allowed)) (3 * (h .allowed) .groups) (omega arith),
-        below m (r ++ heads) w fits (Layout.pathHeadsAt (h .allowed)) (Layout.pathBuckets (h .allowed)) (omega arith),
-        above m (r ++ heads) w fits (Layout.fieldRowsAt (h .allowed)) (6 * (h .allowed) .fields) (omega (arith, long)),
-        above m (r ++ heads) w fits (Layout.fieldHeadsAt (h .allowed)) (Layout.fieldBuckets (h .allowed)) (omega (arith, long)),
-        above m (r ++ heads) w fits (Layout.literalsAt (h .allowed)) ((h .allowed) .literals) (omega (arith, long)),
-        half-kept m (r ++ heads) w fits (h .allowed) (h .half) (omega (arith, long)),
-      )
+-- region i, and that there is one after it
+abbrev pub regionAt : List Region → ℕ → Region
+regionAt [] i = record { at = 0; size = 0 }
+regionAt (p ∷ ps) zero = p
+regionAt (p ∷ ps) (suc i) = regionAt ps i
 
-  pub put-fieldTable : length r ≡ 4 * (6 * (h .allowed) .fields) → length heads ≡ 4 * (Layout.fieldBuckets (h .allowed)) → storeBy h (pasted m (4 * Layout.fieldRowsAt (h .allowed)) (r ++ heads)) ≡ withFieldTable (storeBy h m) r heads
-  put-fieldTable lr lh =
-      let w : ℕ = 4 * Layout.fieldRowsAt (h .allowed) in
-      let long : length (r ++ heads) ≡ 4 * (6 * (h .allowed) .fields) + 4 * (Layout.fieldBuckets (h .allowed)) = length-append r heads ∙ omega (arith, lr, lh) in
-      let fits : w + length (r ++ heads) ≤ length m = omega (arith, long, enough) in
-      let inside : 4 * Layout.fieldRowsAt (h .allowed) + 4 * (6 * (h .allowed) .fields) + 4 * (Layout.fieldBuckets (h .allowed)) ≤ length m = omega (arith, long, enough) in
-      rw (
-        front m r heads (Layout.fieldRowsAt (h .allowed)) (6 * (h .allowed) .fields) (Layout.fieldBuckets (h .allowed)) lr lh inside,
-        back m r heads (Layout.fieldRowsAt (h .allowed)) (6 * (h .allowed) .fields) (Layout.fieldBuckets (h .allowed)) lr lh inside (Layout.fieldHeadsAt (h .allowed)) (omega arith),
-        below m (r ++ heads) w fits (Layout.guidRowsAt (h .allowed)) (6 * (h .allowed) .guids) (omega arith),
-        below m (r ++ heads) w fits (Layout.guidHeadsAt (h .allowed)) (Layout.guidBuckets (h .allowed)) (omega arith),
-        below m (r ++ heads) w fits (Layout.groupRowsAt (h .allowed)) (6 * (h .allowed) .groups) (omega arith),
-        below m (r ++ heads) w fits (Layout.groupHeadsAt (h .allowed)) (Layout.groupBuckets (h .allowed)) (omega arith),
-        below m (r ++ heads) w fits (Layout.pathLinksAt (h .allowed)) (3 * (h .allowed) .groups) (omega arith),
-        below m (r ++ heads) w fits (Layout.pathHeadsAt (h .allowed)) (Layout.pathBuckets (h .allowed)) (omega arith),
-        below m (r ++ heads) w fits (Layout.leafLinksAt (h .allowed)) ((h .allowed) .groups) (omega arith),
-        below m (r ++ heads) w fits (Layout.leafHeadsAt (h .allowed)) (Layout.leafBuckets (h .allowed)) (omega arith),
-        above m (r ++ heads) w fits (Layout.literalsAt (h .allowed)) ((h .allowed) .literals) (omega (arith, long)),
-        half-kept m (r ++ heads) w fits (h .allowed) (h .half) (omega (arith, long)),
-      )
+abbrev pub Two : List Region → ℕ → Type 0
+Two [] i = ⊥
+Two (p ∷ []) i = ⊥
+Two (p ∷ q ∷ ps) zero = Unit {0}
+Two (p ∷ q ∷ ps) (suc i) = Two (q ∷ ps) i
+
+abbrev parts : List ℕ → List Region → List (List ℕ)
+parts m [] = []
+parts m (p ∷ ps) = words m (p .at) (p .size) ∷ parts m ps
+
+-- the store with these parts, and with two of them replaced
+abbrev pick : List (List ℕ) → ℕ → List ℕ
+pick [] i = []
+pick (p ∷ ps) zero = p
+pick (p ∷ ps) (suc i) = pick ps i
+
+abbrev withParts : Header → List (List ℕ) → List ℕ → Store
+withParts h ps x = record { header = h; guidRows = pick ps 0; guidHeads = pick ps 1; groupRows = pick ps 2; groupHeads = pick ps 3; pathLinks = pick ps 4; pathHeads = pick ps 5; leafLinks = pick ps 6; leafHeads = pick ps 7; fieldRows = pick ps 8; fieldHeads = pick ps 9; literals = pick ps 10; texts = x }
+
+abbrev replaced : ℕ → List ℕ → List ℕ → List (List ℕ) → List (List ℕ)
+replaced i r heads [] = []
+replaced zero r heads (p ∷ []) = r ∷ []
+replaced zero r heads (p ∷ q ∷ ps) = r ∷ heads ∷ ps
+replaced (suc i) r heads (p ∷ ps) = p ∷ replaced i r heads ps
+
+abbrev pub withTwo : ℕ → List ℕ → List ℕ → Store → Store
+withTwo i r heads s = withParts (s .header) (replaced i r heads (s .guidRows ∷ s .guidHeads ∷ s .groupRows ∷ s .groupHeads ∷ s .pathLinks ∷ s .pathHeads ∷ s .leafLinks ∷ s .leafHeads ∷ s .fieldRows ∷ s .fieldHeads ∷ s .literals ∷ [])) (s .texts)
+
+-- ---- writing two adjacent parts
+
+not-before : (i j : ℕ) (ps : List Region) → Adjacent i ps → Two ps j → i ≤ regionAt ps j .at
+not-before i j [] a t = absurd t
+not-before i j (p ∷ []) a t = absurd t
+not-before i zero (p ∷ q ∷ ps) a t = omega (arith, a .0)
+not-before i (suc j) (p ∷ q ∷ ps) a t = omega (arith, not-before (i + p .size) j (q ∷ ps) (a .1) t)
+
+module _ (m r heads : List ℕ) where
+  -- the regions after the bytes written
+  after-kept : (at : ℕ) → at + length (r ++ heads) ≤ length m → (i : ℕ) (ps : List Region) → Adjacent i ps → at + length (r ++ heads) ≤ 4 * i → parts (pasted m at (r ++ heads)) ps ≡ parts m ps
+  after-kept at fits i [] a k = refl
+  after-kept at fits i (p ∷ ps) a k = ap₂ (λ (x : List ℕ) (y : List (List ℕ)). x ∷ y) (above m (r ++ heads) at fits (p .at) (p .size) (omega (arith, k, a .0))) (after-kept at fits (i + p .size) ps (a .1) (omega (arith, k)))
+
+  put-two : (i j : ℕ) (ps : List Region) → Adjacent i ps → Two ps j → length r ≡ 4 * regionAt ps j .size → length heads ≡ 4 * regionAt ps (suc j) .size → 4 * regionAt ps j .at + length (r ++ heads) ≤ length m → parts (pasted m (4 * regionAt ps j .at) (r ++ heads)) ps ≡ replaced j r heads (parts m ps)
+  put-two i j [] a t lr lh fits = absurd t
+  put-two i j (p ∷ []) a t lr lh fits = absurd t
+  put-two i zero (p ∷ q ∷ ps) a t lr lh fits =
+      let long = length-append r heads in
+      let inside : 4 * p .at + 4 * p .size + 4 * q .size ≤ length m = omega (arith, long, lr, lh, fits) in
+      ap₂ (λ (x : List ℕ) (y : List (List ℕ)). x ∷ y) (front m r heads (p .at) (p .size) (q .size) lr lh inside)
+      (ap₂ (λ (x : List ℕ) (y : List (List ℕ)). x ∷ y) (back m r heads (p .at) (p .size) (q .size) lr lh inside (q .at) (omega (arith, a .0, a .1 .0)))
+      (after-kept (4 * p .at) fits (i + p .size + q .size) ps (a .1 .1) (omega (arith, long, lr, lh, a .0))))
+  put-two i (suc j) (p ∷ q ∷ ps) a t lr lh fits =
+      let later = not-before (i + p .size) j (q ∷ ps) (a .1) t in
+      ap₂ (λ (x : List ℕ) (y : List (List ℕ)). x ∷ y) (below m (r ++ heads) (4 * regionAt (q ∷ ps) j .at) fits (p .at) (p .size) (omega (arith, later, a .0)))
+      (put-two (i + p .size) j (q ∷ ps) (a .1) t lr lh fits)
+
+-- r and heads have the sizes of the regions i and i + 1, and are inside the words
+pub record TwoParts (a : Allowances) (i : ℕ) (r heads : List ℕ) : Type 0 where
+  pub two : Two (regions a) i
+  pub rows-long : length r ≡ 4 * regionAt (regions a) i .size
+  pub heads-long : length heads ≡ 4 * regionAt (regions a) (suc i) .size
+  pub space : 4 * regionAt (regions a) i .at + length (r ++ heads) ≤ Layout.textsAt a
+
+adjacent : (a : Allowances) → Adjacent 32 (regions a)
+adjacent a = (omega arith, (omega arith, (omega arith, (omega arith, (omega arith, (omega arith, (omega arith, (omega arith, (omega arith, (omega arith, (omega arith, tt)))))))))))
+
+module _ (h : Header) (m r heads : List ℕ) (i : ℕ) (p : TwoParts (h .allowed) i r heads) (enough : Layout.textsAt (h .allowed) ≤ length m) where
+  pub put-parts : storeBy h (pasted m (4 * regionAt (regions (h .allowed)) i .at) (r ++ heads)) ≡ withTwo i r heads (storeBy h m)
+  put-parts =
+      let at : ℕ = 4 * regionAt (regions (h .allowed)) i .at in
+      let fits : at + length (r ++ heads) ≤ length m = omega (arith, p .space, enough) in
+      ap₂ (withParts h) (put-two m r heads 32 i (regions (h .allowed)) (adjacent (h .allowed)) (p .two) (p .rows-long) (p .heads-long) fits) (half-kept m (r ++ heads) at fits (h .allowed) (h .half) (p .space))
 
 -- ---- a write outside all tables and indexes
 

@@ -9,7 +9,7 @@ use lib.Dec.{eqb}
 use lib.ListN.{length}
 use borrow.Author.Tests.{eq-eqb, ne-eqb}
 use Rattle.vrf_text.specs.Text.{IsText}
-use Rattle.vrf_text.specs.Laws.Cases.{clash}
+use Rattle.vrf_bitio.specs.Laws.Cases.{clash}
 use Rattle.vrf_words.specs.Words.{word, part}
 use Rattle.vrf_words.specs.Inner.Words.{setWord}
 use Rattle.vrf_words.specs.Laws.Words.{word-setWord-same, word-setWord-other}

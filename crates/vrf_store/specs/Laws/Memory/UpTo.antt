@@ -9,7 +9,7 @@ use native.Mathlib.Numerals.{add-one}
 use native.Mathlib.Omega.{arith}
 use lib.ListN.{length, getD, set, replicate, replicate-append-replicate, length-append, List·getD-append}
 use lib.Seq.{set-append-left, set-at, getD-at}
-use Rattle.vrf_text.specs.Laws.Cases.{by-cond, clash}
+use Rattle.vrf_bitio.specs.Laws.Cases.{by-cond, clash}
 use Rattle.vrf_model.specs.Book.{sum}
 use Rattle.vrf_model.specs.Lookup.{lastPlace}
 use Rattle.vrf_model.specs.Laws.Places.{lastPlace-hit, lastPlace-miss}

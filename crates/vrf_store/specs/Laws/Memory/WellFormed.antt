@@ -13,17 +13,6 @@ use Rattle.vrf_store.specs.Inner.Lookups.{NameLeaves}
 use Rattle.vrf_store.specs.Laws.Check.Valid.{valid-fits}
 
 module _ {s : Store} (v : Valid s) where
-  -- ---- the rows and heads of a table
-
-  pub guid-walk : {r heads : List ℕ} {b n : ℕ} → r ≡ s .guidRows → heads ≡ s .guidHeads → b ≡ Layout.guidBuckets (s .header .allowed) → n ≡ s .header .guids → (24 * n ≤ length r) × (4 * b ≤ length heads) × (0 < b)
-  guid-walk er eh eb en = omega (arith, ap length er, ap length eh)
-
-  pub group-walk : {r heads : List ℕ} {b n : ℕ} → r ≡ s .groupRows → heads ≡ s .groupHeads → b ≡ Layout.groupBuckets (s .header .allowed) → n ≡ s .header .groups → (24 * n ≤ length r) × (4 * b ≤ length heads) × (0 < b)
-  group-walk er eh eb en = omega (arith, ap length er, ap length eh)
-
-  pub field-walk : {r heads : List ℕ} {b n : ℕ} → r ≡ s .fieldRows → heads ≡ s .fieldHeads → b ≡ Layout.fieldBuckets (s .header .allowed) → n ≡ s .header .fields → (24 * n ≤ length r) × (4 * b ≤ length heads) × (0 < b)
-  field-walk er eh eb en = omega (arith, ap length er, ap length eh)
-
   -- ---- a row and its text
 
   pub guid-row : {r : List ℕ} {i : ℕ} → r ≡ s .guidRows → i < s .header .guids → 24 * i + 24 ≤ length r

@@ -20,7 +20,7 @@ use Rattle.vrf_store.specs.Inner.Valid.{Valid}
 use Rattle.vrf_store.specs.Inner.WellFormed.{Enough}
 use Rattle.vrf_store.specs.Inner.Memory.{withGroupTable, withPathIndex, withLeafIndex, WrittenStore}
 use Rattle.vrf_store.specs.Inner.Stepped.{Stepped}
-use Rattle.vrf_store.specs.Laws.Memory.Regions.{withGuidTable, withFieldTable, withHeader, put-guidTable, put-groupTable, put-pathIndex, put-leafIndex, put-fieldTable}
+use Rattle.vrf_store.specs.Laws.Memory.Regions.{withGuidTable, withFieldTable, withHeader, regions, regionAt, TwoParts, withTwo, put-parts}
 use Rattle.vrf_store.specs.Laws.Memory.Header.{header-kept, counters-kept, parts-kept}
 
 -- ---- a store with a new number in its header
@@ -78,42 +78,28 @@ module _ {m m′ : List ℕ} {s : Store} (w : WrittenStore m m′ s) where
     still : Enough m′
     still = omega (arith, ap Layout.need (w .allowed), w .long, enough)
 
-    -- two adjacent parts, written at once at the word that the allowances of m give
-    both : (i : Allowances → ℕ) (r heads : List ℕ) (f : Store → Store) (n k : ℕ) → length r ≡ n → length heads ≡ k → 32 ≤ i (allowancesOf m) → 4 * i (allowancesOf m) + n + k ≤ length m → storeBy (headerOf m′) (pasted m′ (4 * i (allowancesOf m′)) (r ++ heads)) ≡ f (storeOf m′) → WrittenStore m (pasted m′ (4 * i (allowancesOf m)) (r ++ heads)) (f s)
-    both i r heads f n k lr lh low space e =
-        following (4 * i (allowancesOf m)) (r ++ heads) f (omega (arith, low)) (omega (arith, length-append r heads, lr, lh, space))
-        (subst (λ (a : Allowances). storeBy (headerOf m′) (pasted m′ (4 * i a) (r ++ heads)) ≡ f (storeOf m′)) (w .allowed) e)
-
     module _ (r heads : List ℕ) where
+      -- two adjacent parts, written at once at the word that the allowances of m give
+      both : (i : ℕ) → 32 ≤ regionAt (regions (allowancesOf m)) i .at → TwoParts (allowancesOf m) i r heads → WrittenStore m (pasted m′ (4 * regionAt (regions (allowancesOf m)) i .at) (r ++ heads)) (withTwo i r heads s)
+      both i low p =
+          following (4 * regionAt (regions (allowancesOf m)) i .at) (r ++ heads) (withTwo i r heads) (omega (arith, low)) (omega (arith, p .space, enough))
+          (subst (λ (a : Allowances). TwoParts a i r heads → storeBy (headerOf m′) (pasted m′ (4 * regionAt (regions a) i .at) (r ++ heads)) ≡ withTwo i r heads (storeOf m′)) (w .allowed)
+          (λ q. put-parts (headerOf m′) m′ r heads i q (omega (arith, still))) p)
+
       pub wrote-guidTable : length r ≡ 24 * allowancesOf m .guids → length heads ≡ 4 * Layout.guidBuckets (allowancesOf m) → WrittenStore m (pasted m′ (4 * Layout.guidRowsAt (allowancesOf m)) (r ++ heads)) (withGuidTable s r heads)
-      wrote-guidTable lr lh =
-          let same = ap (λ (a : Allowances). a .guids) (w .allowed) in
-          both Layout.guidRowsAt r heads (λ z. withGuidTable z r heads) _ _ lr lh (omega arith) (omega (arith, enough))
-          (put-guidTable (headerOf m′) m′ r heads still (omega (arith, lr, same)) (omega (arith, lh, same)))
+      wrote-guidTable lr lh = both 0 (omega arith) (record { two = tt; rows-long = omega (arith, lr); heads-long = lh; space = omega (arith, length-append r heads, lr, lh) })
 
       pub wrote-groupTable : length r ≡ 24 * allowancesOf m .groups → length heads ≡ 4 * Layout.groupBuckets (allowancesOf m) → WrittenStore m (pasted m′ (4 * Layout.groupRowsAt (allowancesOf m)) (r ++ heads)) (withGroupTable s r heads)
-      wrote-groupTable lr lh =
-          let same = ap (λ (a : Allowances). a .groups) (w .allowed) in
-          both Layout.groupRowsAt r heads (λ z. withGroupTable z r heads) _ _ lr lh (omega arith) (omega (arith, enough))
-          (put-groupTable (headerOf m′) m′ r heads still (omega (arith, lr, same)) (omega (arith, lh, same)))
+      wrote-groupTable lr lh = both 2 (omega arith) (record { two = tt; rows-long = omega (arith, lr); heads-long = lh; space = omega (arith, length-append r heads, lr, lh) })
 
       pub wrote-pathIndex : length r ≡ 12 * allowancesOf m .groups → length heads ≡ 4 * Layout.pathBuckets (allowancesOf m) → WrittenStore m (pasted m′ (4 * Layout.pathLinksAt (allowancesOf m)) (r ++ heads)) (withPathIndex s r heads)
-      wrote-pathIndex lr lh =
-          let same = ap (λ (a : Allowances). a .groups) (w .allowed) in
-          both Layout.pathLinksAt r heads (λ z. withPathIndex z r heads) _ _ lr lh (omega arith) (omega (arith, enough))
-          (put-pathIndex (headerOf m′) m′ r heads still (omega (arith, lr, same)) (omega (arith, lh, same)))
+      wrote-pathIndex lr lh = both 4 (omega arith) (record { two = tt; rows-long = omega (arith, lr); heads-long = lh; space = omega (arith, length-append r heads, lr, lh) })
 
       pub wrote-leafIndex : length r ≡ 4 * allowancesOf m .groups → length heads ≡ 4 * Layout.leafBuckets (allowancesOf m) → WrittenStore m (pasted m′ (4 * Layout.leafLinksAt (allowancesOf m)) (r ++ heads)) (withLeafIndex s r heads)
-      wrote-leafIndex lr lh =
-          let same = ap (λ (a : Allowances). a .groups) (w .allowed) in
-          both Layout.leafLinksAt r heads (λ z. withLeafIndex z r heads) _ _ lr lh (omega arith) (omega (arith, enough))
-          (put-leafIndex (headerOf m′) m′ r heads still (omega (arith, lr, same)) (omega (arith, lh, same)))
+      wrote-leafIndex lr lh = both 6 (omega arith) (record { two = tt; rows-long = lr; heads-long = lh; space = omega (arith, length-append r heads, lr, lh) })
 
       pub wrote-fieldTable : length r ≡ 24 * allowancesOf m .fields → length heads ≡ 4 * Layout.fieldBuckets (allowancesOf m) → WrittenStore m (pasted m′ (4 * Layout.fieldRowsAt (allowancesOf m)) (r ++ heads)) (withFieldTable s r heads)
-      wrote-fieldTable lr lh =
-          let same = ap (λ (a : Allowances). a .fields) (w .allowed) in
-          both Layout.fieldRowsAt r heads (λ z. withFieldTable z r heads) _ _ lr lh (omega arith) (omega (arith, enough))
-          (put-fieldTable (headerOf m′) m′ r heads still (omega (arith, lr, same)) (omega (arith, lh, same)))
+      wrote-fieldTable lr lh = both 8 (omega arith) (record { two = tt; rows-long = omega (arith, lr); heads-long = lh; space = omega (arith, length-append r heads, lr, lh) })
 
 -- ---- writing in the header
 

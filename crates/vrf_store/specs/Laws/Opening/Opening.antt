@@ -9,10 +9,10 @@ use lib.ListN.{length, replicate, length-replicate}
 use borrow.Author.Tests.{ltb-false, lt-ltb, le-ltb}
 use Rattle.vrf_bitio.specs.Pasted.{pasted}
 use Rattle.vrf_bitio.specs.Laws.Pasted.{pasted-length}
-use Rattle.vrf_text.specs.Laws.Cases.{by-cond}
+use Rattle.vrf_bitio.specs.Laws.Cases.{by-cond}
 use Rattle.vrf_words.specs.Words.{word}
 use Rattle.vrf_words.specs.Inner.Words.{setWord}
-use Rattle.vrf_model.specs.Book.{Allowances, none-counted, fresh, freshBook}
+use Rattle.vrf_model.specs.Book.{Allowances, zeroCounters, fresh, freshBook}
 use Rattle.vrf_model.specs.Lawful.{Allowed}
 use Rattle.vrf_store.specs.Layout
 use Rattle.vrf_store.specs.Store.{Header, allowancesOf, headerOf, long, countersOf, words, storeOf, contentOf, bookOf}
@@ -84,8 +84,8 @@ module _ (a : Allowances) where
 module _ (a : Allowances) (m : List ℕ) {m0 m1 m2 m3 m4 z : List ℕ} (space : 128 ≤ length m) where
   pub written-header : a .guids < 2 ^ 32 → a .groups < 2 ^ 32 → a .fields < 2 ^ 32 → a .text < 2 ^ 32 → a .literals < 2 ^ 32 → m0 ≡ setWord m 0 (a .guids) → m1 ≡ setWord m0 1 (a .groups)
       → m2 ≡ setWord m1 2 (a .fields) → m3 ≡ setWord m2 3 (a .text) → m4 ≡ setWord m3 4 (a .literals) → z ≡ pasted m4 20 (replicate 108 0)
-      → (headerOf z ≡ emptyHeader a 0) × (countersOf z ≡ none-counted) × (length z ≡ length m)
-  unfolding none-counted
+      → (headerOf z ≡ emptyHeader a 0) × (countersOf z ≡ zeroCounters) × (length z ≡ length m)
+  unfolding zeroCounters
   written-header g r f t l e0 e1 e2 e3 e4 e =
       let h0 = has-word (has-now m) space 0 (a .guids) (omega arith) g e0 in
       let h1 = has-word h0 space 1 (a .groups) (omega arith) r e1 in
@@ -150,13 +150,13 @@ module _ (a : Allowances) (half : ℕ) (m : List ℕ) (h : headerOf m ≡ emptyH
     cleared-held = empty-held a half z (omega (arith, k .long)) (k .header ∙ h)
 
 -- opening: y is m with the header written, z is y with the heads cleared
-pub opened-fresh : (a : Allowances) {m y z : List ℕ} → opening a (length m) ≡ opened → Allowed a → Layout.need a ≤ length m → headerOf y ≡ emptyHeader a 0 → countersOf y ≡ none-counted → length y ≡ length m → BetweenWritten y z → FreshMemory a m z
+pub opened-fresh : (a : Allowances) {m y z : List ℕ} → opening a (length m) ≡ opened → Allowed a → Layout.need a ≤ length m → headerOf y ≡ emptyHeader a 0 → countersOf y ≡ zeroCounters → length y ≡ length m → BetweenWritten y z → FreshMemory a m z
 unfolding bookOf freshBook
 opened-fresh a {m} {y} {z} ok tops enough h none-yet same k =
     let space : Layout.need a ≤ length y = omega arith in
     let few : 0 ≤ 1 = omega arith in
     let content : held z ≡ fresh a = cleared-held a 0 y h space k in
-    let counted : countersOf z ≡ none-counted = k .counters ∙ none-yet in
+    let counted : countersOf z ≡ zeroCounters = k .counters ∙ none-yet in
     record { accepted = ok; good = cleared-good a 0 y h space k tops few; book = rw (content, counted); long = k .long ∙ same }
 
 -- clearing: words 5 to 9 are the counts and the totals

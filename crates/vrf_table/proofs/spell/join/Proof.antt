@@ -11,8 +11,7 @@ returns c =
     let after-put-part2 = c .before .before in
     let after-put-part = after-put-part2 .before .before .before .before in
     let back = after-put-part .before .before .before .before in
-    let start = back .before in
-    let x = start .args in
+    let x = back .before .args in
     joined (now (x .a)) (now (x .b)) (after-put-part .put-part .ensures) (after-put-part2 .put-part2 .ensures) (omega arith) (omega arith)
 
 pub join-spec : {M : Type 1} → statement M

@@ -44,8 +44,7 @@ same-length c =
     let after-put-part2 = c .before .before in
     let back = after-put-part2 .before .before .before .before in
     let after-put-part = back .before .before in
-    let after-lower = after-put-part .before .before .before in
-    after-put-part2 .put-part2 .kept .0 ∙ length-set {A = ℕ} (after-put-part .put-part .last .0) (after-lower .lower .result) 47 ∙ after-put-part .put-part .kept .0
+    after-put-part2 .put-part2 .kept .0 ∙ length-set {A = ℕ} (after-put-part .put-part .last .0) (after-put-part .before .before .before .lower .result) 47 ∙ after-put-part .put-part .kept .0
 
 returns : tie.Need-returns
 returns c =

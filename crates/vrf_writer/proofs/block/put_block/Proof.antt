@@ -1,10 +1,14 @@
 -- `vrf_writer::block::put_block` satisfies its contract: the tables are written, and then the word before them.
-use mathlib.Core.Path.{_∙_}
+use mathlib.Core.Path.{_≡_, _∙_}
+use Prim.Native.Nat.{_+_, _≤_}
 use native.Mathlib.Omega.{arith}
+use lib.ListN.{length}
 use borrow.Author.Needs.{needs}
 use denote.Ref.{now}
 use Rattle.vrf_model.specs.Book.{Content}
+use Rattle.vrf_model.specs.Writer.{encodeBook}
 use Rattle.vrf_store.specs.Inner.Stepped.{held}
+use Rattle.vrf_writer.specs.Laws.Prefix.{backFrom}
 use Rattle.vrf_writer.specs.Laws.Block.{block-length, tables-lent, tables-long, tables-count, word-last}
 use Rattle.vrf_writer.proofs.block.put_block.Statement.{statement}
 use Rattle.vrf_writer.proofs.block.put_block.Tie as tie
@@ -12,59 +16,41 @@ use Rattle.vrf_writer.proofs.block.put_block.Tie as tie
 abbrev its : tie.Start → Content
 its c = held (now (c .args .m))
 
-sub-put-tables : tie.Need-sub-put-tables
-sub-put-tables c = omega (arith, block-length (its (c .before .before)), c .before .before .pre .1)
+-- the places after the two calls, and the function's entry state
+abbrev start : tie.After-put-tables → tie.Start
+start c = c .before .before .before .before
 
-part-put-tables-start : tie.Need-part-put-tables-start
-part-put-tables-start c = omega (arith, block-length (its (c .before .before)), c .before .before .pre .1)
+abbrev tables : tie.After-put-word → tie.After-put-tables
+tables c = c .before .before .before .before
 
-put-tables-requires : tie.Need-put-tables-requires
-put-tables-requires c κs =
-    let start = c .before .before .before in
-    (start .pre .0, tables-lent (its start) (now (start .args .out)) (start .pre .1))
+counted : (c : tie.After-put-tables) → (20 ≤ c .put-tables .result) × (c .put-tables .result + 4 ≡ length (encodeBook (its (start c))))
+counted c = let s = start c in tables-count (its s) (now (s .args .out)) (s .pre .1) (c .put-tables .ensures)
 
-sub-put-word : tie.Need-sub-put-word
-sub-put-word c =
-    let after-put-tables = c .before .before .before in
-    let start = after-put-tables .before .before .before .before in
-    omega (arith, tables-count (its start) (now (start .args .out)) (start .pre .1) (after-put-tables .put-tables .ensures))
-
-cast-put-word : tie.Need-cast-put-word
-cast-put-word c =
-    let after-put-tables = c .before .before .before in
-    let start = after-put-tables .before .before .before .before in
-    record { fits = omega (arith, tables-count (its start) (now (start .args .out)) (start .pre .1) (after-put-tables .put-tables .ensures), start .pre .2) }
+long : (c : tie.After-put-tables) → length (backFrom (now (start c .args .out)) 4 (c .put-tables .last .0)) ≡ length (now (start c .args .out))
+long c = let s = start c in tables-long (its s) (now (s .args .out)) (s .pre .1) (c .put-tables .ensures)
 
 put-word-requires : tie.Need-put-word-requires
 put-word-requires c κs =
     let after-put-tables = c .before .before .before in
-    let start = after-put-tables .before .before .before .before in
-    omega (arith, tables-long (its start) (now (start .args .out)) (start .pre .1) (after-put-tables .put-tables .ensures), block-length (its start), start .pre .1)
-
-add-result : tie.Need-add-result
-add-result c =
-    let back = c .before .before .before .before in
-    let after-put-tables = back .before .before in
-    let start = after-put-tables .before .before .before .before in
-    record { fits = omega (arith, tables-count (its start) (now (start .args .out)) (start .pre .1) (after-put-tables .put-tables .ensures), start .pre .2) }
-
-same-length : tie.Need-same-length
-same-length c =
-    let after-put-word = c .before .before in
-    let after-put-tables = after-put-word .before .before .before .before in
-    let start = after-put-tables .before .before .before .before in
-    after-put-word .put-word .kept .0 ∙ tables-long (its start) (now (start .args .out)) (start .pre .1) (after-put-tables .put-tables .ensures)
+    let s = start after-put-tables in
+    omega (arith, long after-put-tables, block-length (its s), s .pre .1)
 
 returns : tie.Need-returns
 returns c =
     let after-put-word = c .before .before in
-    let after-put-tables = after-put-word .before .before .before .before in
-    let start = after-put-tables .before .before .before .before in
-    word-last (its start) (now (start .args .out)) (start .pre .1) (after-put-tables .put-tables .ensures) (after-put-word .put-word .ensures)
+    let after-put-tables = tables after-put-word in
+    let s = start after-put-tables in
+    word-last (its s) (now (s .args .out)) (s .pre .1) (after-put-tables .put-tables .ensures) (after-put-word .put-word .ensures)
 
 pub put-block-spec : {M : Type 1} → statement M
 put-block-spec =
     tie.close
     (tie.spec
-    sub-put-tables part-put-tables-start (λ c. search needs) put-tables-requires sub-put-word cast-put-word
-    put-word-requires add-result same-length returns)
+    (λ c. omega (arith, block-length (its (c .before .before)), c .before .before .pre .1))
+    (λ c. omega (arith, block-length (its (c .before .before)), c .before .before .pre .1)) (λ c. search needs)
+    (λ c κs. let s = c .before .before .before in (s .pre .0, tables-lent (its s) (now (s .args .out)) (s .pre .1)))
+    (λ c. omega (arith, counted (c .before .before .before)))
+    (λ c. let t = c .before .before .before in record { fits = omega (arith, counted t, start t .pre .2) })
+    put-word-requires
+    (λ c. let t = tables (c .before .before) in record { fits = omega (arith, counted t, start t .pre .2) })
+    (λ c. c .before .before .put-word .kept .0 ∙ long (tables (c .before .before))) returns)

@@ -1,6 +1,6 @@
 -- `vrf_writer::block::put_tables` satisfies its contract: each part is written after those before it.
 use mathlib.Core.List.{List, _++_}
-use mathlib.Core.Path.{_≡_, refl, ap}
+use mathlib.Core.Path.{refl, ap}
 use Prim.Native.Nat.{ℕ, _+_}
 use native.Mathlib.Omega.{arith}
 use lib.ListN.{length}
@@ -20,190 +20,95 @@ use Rattle.vrf_writer.proofs.block.put_tables.Tie as tie
 abbrev its : tie.Start → Content
 its c = held (now (c .args .m))
 
-guids-are : (c : tie.After-guids) →
-    let back = c .before .before .before .before in
-    let start = back .before .before .before .before in
-    encodeWord32 (c .guids .result) ≡ encodeWord32 (length (its start .guids))
-guids-are c =
-    let back = c .before .before .before .before in
-    let start = back .before .before .before .before in
-    ap encodeWord32 (guids-count (storeOf (now (start .args .m))) (c .guids .ensures))
+-- the place after the call before, and the function's entry state
+abbrev zeros : tie.After-guids → tie.After-zero-words
+zeros c = c .before .before .before .before
 
-groups-are : (c : tie.After-groups) →
-    let back = c .before .before .before .before in
-    let back2 = back .before .before .before .before in
-    let back3 = back2 .before .before .before .before in
-    let back4 = back3 .before .before .before .before in
-    let start = back4 .before in
-    encodeWord32 (c .groups .result) ≡ encodeWord32 (length (its start .groups))
-groups-are c =
-    let back = c .before .before .before .before in
-    let back2 = back .before .before .before .before in
-    let back3 = back2 .before .before .before .before in
-    let back4 = back3 .before .before .before .before in
-    let start = back4 .before in
-    ap encodeWord32 (groups-count (storeOf (now (start .args .m))) (c .groups .ensures))
+abbrev count : tie.After-put-guids → tie.After-put-word
+count c = c .before .before .before .before
+
+abbrev records : tie.After-groups → tie.After-put-guids
+records c = c .before .before .before .before
+
+abbrev count2 : tie.After-put-groups → tie.After-put-word2
+count2 c = c .before .before .before .before
+
+abbrev start : tie.After-zero-words → tie.Start
+start c = c .before .before .before .before
+
+abbrev start2 : tie.After-put-word → tie.Start
+start2 c = start (zeros (c .before))
+
+abbrev start3 : tie.After-put-guids → tie.Start
+start3 c = start2 (count c)
 
 -- what is written after each call
-first : (c : tie.After-zero-words) →
-    let start = c .before .before .before .before in
-    PartlyWritten (encodeTables (its start)) (now (start .args .out)) (c .zero-words .last .0) 12 (encodeWord32 (length (its start .guids)) ++ guidsOn (its start))
-first c =
-    let start = c .before .before .before .before in
-    zeros-put (its start) (now (start .args .out)) (start .pre .1) (c .zero-words .ensures)
+first : (c : tie.After-zero-words) → PartlyWritten (encodeTables (its (start c))) (now (start c .args .out)) (c .zero-words .last .0) 12 (encodeWord32 (length (its (start c) .guids)) ++ guidsOn (its (start c)))
+first c = zeros-put (its (start c)) (now (start c .args .out)) (start c .pre .1) (c .zero-words .ensures)
 
 abbrev out2 : tie.After-put-word → List ℕ
-out2 c =
-    let back = c .before .before .before .before in
-    let after-zero-words = back .before in
-    backFrom (after-zero-words .zero-words .last .0) 12 (c .put-word .last .0)
+out2 c = backFrom (zeros (c .before) .zero-words .last .0) 12 (c .put-word .last .0)
 
 abbrev at2 : tie.After-put-word → ℕ
 at2 c = 12 + c .put-word .result
 
-second : (c : tie.After-put-word) →
-    let back = c .before .before .before .before in
-    let back2 = back .before .before .before .before in
-    let start = back2 .before in
-    PartlyWritten (encodeTables (its start)) (now (start .args .out)) (out2 c) (at2 c) (guidsOn (its start))
+second : (c : tie.After-put-word) → PartlyWritten (encodeTables (its (start2 c))) (now (start2 c .args .out)) (out2 c) (at2 c) (guidsOn (its (start2 c)))
 second c =
-    let after-guids = c .before in
-    let after-zero-words = after-guids .before .before .before .before in
-    let start = after-zero-words .before .before .before .before in
-    under-next (encodeWord32 (length (its start .guids))) (guidsOn (its start)) (first after-zero-words) (guids-are after-guids) (c .put-word .ensures)
+    let it = its (start2 c) in
+    under-next (encodeWord32 (length (it .guids))) (guidsOn it) (first (zeros (c .before))) (ap encodeWord32 (guids-count (storeOf (now (start2 c .args .m))) (c .before .guids .ensures))) (c .put-word .ensures)
 
 abbrev out3 : tie.After-put-guids → List ℕ
-out3 c =
-    let after-put-word = c .before .before .before .before in
-    backFrom (out2 after-put-word) (at2 after-put-word) (c .put-guids .last .0)
+out3 c = backFrom (out2 (count c)) (at2 (count c)) (c .put-guids .last .0)
 
 abbrev at3 : tie.After-put-guids → ℕ
-at3 c = at2 (c .before .before .before .before) + c .put-guids .result
+at3 c = at2 (count c) + c .put-guids .result
 
-third : (c : tie.After-put-guids) →
-    let back = c .before .before .before .before in
-    let back2 = back .before .before .before .before in
-    let back3 = back2 .before .before .before .before in
-    let start = back3 .before in
-    PartlyWritten (encodeTables (its start)) (now (start .args .out)) (out3 c) (at3 c) (groupsOn (its start))
-third c =
-    let after-put-word = c .before .before .before .before in
-    let back = after-put-word .before .before .before .before in
-    let back2 = back .before .before .before .before in
-    let start = back2 .before in
-    under-next (encodeAll encodeGuid (its start .guids)) (groupsOn (its start)) (second after-put-word) refl (c .put-guids .ensures)
+third : (c : tie.After-put-guids) → PartlyWritten (encodeTables (its (start3 c))) (now (start3 c .args .out)) (out3 c) (at3 c) (groupsOn (its (start3 c)))
+third c = under-next (encodeAll encodeGuid (its (start3 c) .guids)) (groupsOn (its (start3 c))) (second (count c)) refl (c .put-guids .ensures)
 
 fourth : (c : tie.After-put-word2) →
-    let back = c .before .before .before .before in
-    let after-put-guids = back .before in
-    let back2 = after-put-guids .before .before .before .before in
-    let back3 = back2 .before .before .before .before in
-    let back4 = back3 .before .before .before .before in
-    let start = back4 .before in
-    PartlyWritten (encodeTables (its start)) (now (start .args .out)) (backFrom (out3 after-put-guids) (at3 after-put-guids) (c .put-word2 .last .0)) (at3 after-put-guids + c .put-word2 .result) (encodeAll encodeGroup (its start .groups))
+    let before = records (c .before) in
+    PartlyWritten (encodeTables (its (start3 before))) (now (start3 before .args .out)) (backFrom (out3 before) (at3 before) (c .put-word2 .last .0)) (at3 before + c .put-word2 .result) (encodeAll encodeGroup (its (start3 before) .groups))
 fourth c =
-    let after-groups = c .before in
-    let after-put-guids = after-groups .before .before .before .before in
-    let back = after-put-guids .before .before .before .before in
-    let back2 = back .before .before .before .before in
-    let back3 = back2 .before .before .before .before in
-    let start = back3 .before in
-    under-next (encodeWord32 (length (its start .groups))) (encodeAll encodeGroup (its start .groups)) (third after-put-guids) (groups-are after-groups) (c .put-word2 .ensures)
-
-zero-words-requires : tie.Need-zero-words-requires
-zero-words-requires c κs =
-    let start = c .before .before .before in
-    omega (arith, tables-length (its start), start .pre .1)
-
-sub-put-word : tie.Need-sub-put-word
-sub-put-word c = omega (arith, under-space (first (c .before .before)))
-
-part-put-word-start : tie.Need-part-put-word-start
-part-put-word-start c = omega (arith, under-space (first (c .before .before)))
+    let s = start3 (records (c .before)) in
+    under-next (encodeWord32 (length (its s .groups))) (encodeAll encodeGroup (its s .groups)) (third (records (c .before))) (ap encodeWord32 (groups-count (storeOf (now (s .args .m))) (c .before .groups .ensures))) (c .put-word2 .ensures)
 
 put-word-requires : tie.Need-put-word-requires
 put-word-requires c κs =
-    let after-zero-words = c .before .before .before .before in
-    let start = after-zero-words .before .before .before .before in
-    omega (arith, under-lent (encodeWord32 (length (its start .guids))) (guidsOn (its start)) (first after-zero-words) refl, word-length (length (its start .guids)))
-
-add-at : tie.Need-add-at
-add-at c = omega (arith, under-space (second (c .before .before)), under-long (second (c .before .before)))
-
-sub-put-guids : tie.Need-sub-put-guids
-sub-put-guids c = omega (arith, under-space (second (c .before .before)))
-
-part-put-guids-start : tie.Need-part-put-guids-start
-part-put-guids-start c = omega (arith, under-space (second (c .before .before)))
+    let it = its (start (zeros c)) in
+    omega (arith, under-lent (encodeWord32 (length (it .guids))) (guidsOn it) (first (zeros c)) refl, word-length (length (it .guids)))
 
 put-guids-requires : tie.Need-put-guids-requires
 put-guids-requires c κs =
-    let after-put-word = c .before .before .before in
-    let back = after-put-word .before .before .before .before in
-    let back2 = back .before .before .before .before in
-    let start = back2 .before in
-    (start .pre .0, under-lent (encodeAll encodeGuid (its start .guids)) (groupsOn (its start)) (second after-put-word) refl)
-
-add-at-2 : tie.Need-add-at-2
-add-at-2 c = omega (arith, under-space (third (c .before .before)), under-long (third (c .before .before)))
-
-sub-put-word-2 : tie.Need-sub-put-word-2
-sub-put-word-2 c = omega (arith, under-space (third (c .before .before)))
-
-part-put-word-start-2 : tie.Need-part-put-word-start-2
-part-put-word-start-2 c = omega (arith, under-space (third (c .before .before)))
+    let s = start2 (c .before .before .before) in
+    (s .pre .0, under-lent (encodeAll encodeGuid (its s .guids)) (groupsOn (its s)) (second (c .before .before .before)) refl)
 
 put-word-requires-2 : tie.Need-put-word-requires-2
 put-word-requires-2 c κs =
-    let after-put-guids = c .before .before .before .before in
-    let back = after-put-guids .before .before .before .before in
-    let back2 = back .before .before .before .before in
-    let back3 = back2 .before .before .before .before in
-    let start = back3 .before in
-    omega (arith, under-lent (encodeWord32 (length (its start .groups))) (encodeAll encodeGroup (its start .groups)) (third after-put-guids) refl, word-length (length (its start .groups)))
-
-add-at-3 : tie.Need-add-at-3
-add-at-3 c = omega (arith, under-space (fourth (c .before .before)), under-long (fourth (c .before .before)))
-
-sub-put-groups : tie.Need-sub-put-groups
-sub-put-groups c = omega (arith, under-space (fourth (c .before .before)))
-
-part-put-groups-start : tie.Need-part-put-groups-start
-part-put-groups-start c = omega (arith, under-space (fourth (c .before .before)))
+    let it = its (start3 (records c)) in
+    omega (arith, under-lent (encodeWord32 (length (it .groups))) (encodeAll encodeGroup (it .groups)) (third (records c)) refl, word-length (length (it .groups)))
 
 put-groups-requires : tie.Need-put-groups-requires
 put-groups-requires c κs =
     let after-put-word2 = c .before .before .before in
-    let back = after-put-word2 .before .before .before .before in
-    let back2 = back .before .before .before .before in
-    let back3 = back2 .before .before .before .before in
-    let back4 = back3 .before .before .before .before in
-    let start = back4 .before .before in
-    (start .pre .0, last-lent (fourth after-put-word2) refl)
-
-add-result : tie.Need-add-result
-add-result c =
-    let after-put-groups = c .before .before in
-    let after-put-word2 = after-put-groups .before .before .before .before in
-    omega (arith, c, last-space (fourth after-put-word2) refl (after-put-groups .put-groups .ensures))
-
-same-length : tie.Need-same-length
-same-length c =
-    let after-put-groups = c .before .before in
-    let after-put-word2 = after-put-groups .before .before .before .before in
-    last-long (fourth after-put-word2) refl (after-put-groups .put-groups .ensures)
-
-returns : tie.Need-returns
-returns c =
-    let after-put-groups = c .before .before in
-    let after-put-word2 = after-put-groups .before .before .before .before in
-    last-put (fourth after-put-word2) refl (after-put-groups .put-groups .ensures)
+    (start3 (records (after-put-word2 .before)) .pre .0, last-lent (fourth after-put-word2) refl)
 
 pub put-tables-spec : {M : Type 1} → statement M
 put-tables-spec =
     tie.close
     (tie.spec
-    zero-words-requires sub-put-word part-put-word-start (λ c. search needs) (λ c κs. search needs) put-word-requires
-    add-at sub-put-guids part-put-guids-start (λ c. search needs) put-guids-requires add-at-2 sub-put-word-2
-    part-put-word-start-2 (λ c. search needs) (λ c κs. search needs) put-word-requires-2 add-at-3 sub-put-groups
-    part-put-groups-start (λ c. search needs) put-groups-requires add-result same-length returns)
+    (λ c κs. let s = c .before .before .before in omega (arith, tables-length (its s), s .pre .1))
+    (λ c. omega (arith, under-space (first (c .before .before)))) (λ c. omega (arith, under-space (first (c .before .before))))
+    (λ c. search needs) (λ c κs. search needs) put-word-requires
+    (λ c. omega (arith, under-space (second (c .before .before)), under-long (second (c .before .before))))
+    (λ c. omega (arith, under-space (second (c .before .before)))) (λ c. omega (arith, under-space (second (c .before .before))))
+    (λ c. search needs) put-guids-requires
+    (λ c. omega (arith, under-space (third (c .before .before)), under-long (third (c .before .before))))
+    (λ c. omega (arith, under-space (third (c .before .before)))) (λ c. omega (arith, under-space (third (c .before .before))))
+    (λ c. search needs) (λ c κs. search needs) put-word-requires-2
+    (λ c. omega (arith, under-space (fourth (c .before .before)), under-long (fourth (c .before .before))))
+    (λ c. omega (arith, under-space (fourth (c .before .before)))) (λ c. omega (arith, under-space (fourth (c .before .before))))
+    (λ c. search needs) put-groups-requires
+    (λ c. let last = c .before .before in omega (arith, c, last-space (fourth (count2 last)) refl (last .put-groups .ensures)))
+    (λ c. let last = c .before .before in last-long (fourth (count2 last)) refl (last .put-groups .ensures))
+    (λ c. let last = c .before .before in last-put (fourth (count2 last)) refl (last .put-groups .ensures)))

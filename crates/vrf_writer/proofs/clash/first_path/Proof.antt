@@ -19,45 +19,30 @@ Inv-loop m k h to j₀ j = Scanned (isAt (storeOf m) (some k)) h j
 abbrev μ-loop : tie.MeasureT-loop
 μ-loop m k h to j₀ j = to - j
 
+-- the function's entry state, seen from the loop
+abbrev start : tie.At-loop Inv-loop μ-loop → tie.Start Inv-loop μ-loop
+start c = c .before .before .before
+
+abbrev at-loop : tie.After-same Inv-loop μ-loop → tie.At-loop Inv-loop μ-loop
+at-loop c = c .before .before .before
+
 test-is : (c : tie.After-same Inv-loop μ-loop) →
-    let at-loop = c .before .before .before in
-    let start = at-loop .before .before .before in
-    isAt (storeOf (now (start .args .m))) (some (now (start .args .k))) (at-loop .loop .j) ≡ c .same .result
+    let s = start (at-loop c) in
+    isAt (storeOf (now (s .args .m))) (some (now (s .args .k))) (at-loop c .loop .j) ≡ c .same .result
 test-is c =
-    let after-group-path = c .before in
-    let at-loop = after-group-path .before .before in
-    let start = at-loop .before .before .before in
-    path-test (storeOf (now (start .args .m))) (now (start .args .k)) (at-loop .loop .j) (c .same .ensures)
-    (after-group-path .group-path .ensures ∙ group-at (storeOf (now (start .args .m))) [] (at-loop .loop .j) (λ g. g .path) (omega arith))
-
-add-j : tie.Need-add-j Inv-loop μ-loop
-add-j c =
-    let start = c .before .before in
-    omega (arith, start .pre .1, start .pre .0 .valid .header .groups, start .pre .0 .valid .header .tops .groups)
-
-loop-holds : tie.Need-loop-holds Inv-loop μ-loop
-loop-holds c =
-    let start = c .before .before in
-    scanned-start (isAt (storeOf (now (start .args .m))) (some (now (start .args .k)))) (start .args .h)
-
-returns : tie.Need-returns Inv-loop μ-loop
-returns c =
-    let after-same = c .before in
-    let at-loop = after-same .before .before .before in
-    scanned-hit (at-loop .loop .inv) (omega arith) (test-is after-same ∙ c .if1 .taken)
-
-loop-again : tie.Need-loop-again Inv-loop μ-loop
-loop-again c =
-    let after-same = c .before in
-    let at-loop = after-same .before .before .before in
-    scanned-step (at-loop .loop .inv) (test-is after-same ∙ c .if1 .left)
-
-returns-2 : tie.Need-returns-2 Inv-loop μ-loop
-returns-2 c = scanned-end (c .before .loop .inv) (omega arith)
+    let s = start (at-loop c) in
+    let j = at-loop c .loop .j in
+    path-test (storeOf (now (s .args .m))) (now (s .args .k)) j (c .same .ensures) (c .before .group-path .ensures ∙ group-at (storeOf (now (s .args .m))) [] j (λ g. g .path) (omega arith))
 
 pub first-path-spec : {M : Type 1} → statement M
 first-path-spec =
     tie.close
     (tie.spec
-    Inv-loop μ-loop add-j loop-holds (λ c κs. search needs) (λ c κs. search needs) returns (λ c. omega arith)
-    (λ c. omega arith) loop-again returns-2)
+    Inv-loop μ-loop
+    (λ c. let p = c .before .before .pre in omega (arith, p .1, p .0 .valid .header .groups, p .0 .valid .header .tops .groups))
+    (λ c. let x = c .before .before .args in scanned-start (isAt (storeOf (now (x .m))) (some (now (x .k)))) (x .h))
+    (λ c κs. search needs) (λ c κs. search needs)
+    (λ c. scanned-hit (at-loop (c .before) .loop .inv) (omega arith) (test-is (c .before) ∙ c .if1 .taken))
+    (λ c. omega arith) (λ c. omega arith)
+    (λ c. scanned-step (at-loop (c .before) .loop .inv) (test-is (c .before) ∙ c .if1 .left))
+    (λ c. scanned-end (c .before .loop .inv) (omega arith)))

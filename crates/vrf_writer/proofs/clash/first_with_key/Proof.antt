@@ -7,18 +7,16 @@ use Rattle.vrf_writer.proofs.clash.first_with_key.Tie as tie
 
 returns : tie.Need-returns
 returns c =
-    let after-first-path = c .before in
-    let after-lower = after-first-path .before in
-    let after-keyed-end = after-lower .before in
-    narrowed-less (after-keyed-end .keyed-end .ensures) (after-lower .lower .ensures) (after-first-path .first-path .ensures) (omega arith)
+    let p = c .before in
+    let l = p .before in
+    narrowed-less (l .before .keyed-end .ensures) (l .lower .ensures) (p .first-path .ensures) (omega arith)
 
 returns-2 : tie.Need-returns-2
 returns-2 c =
-    let after-first-path = c .before in
-    let after-lower = after-first-path .before in
-    let after-keyed-end = after-lower .before in
-    let start = after-keyed-end .before .before .before in
-    narrowed-not (after-keyed-end .keyed-end .ensures) (after-lower .lower .ensures) (after-first-path .first-path .ensures) (start .pre .2) (omega arith)
+    let p = c .before in
+    let l = p .before in
+    let k = l .before in
+    narrowed-not (k .keyed-end .ensures) (l .lower .ensures) (p .first-path .ensures) (k .before .before .before .pre .2) (omega arith)
 
 pub first-with-key-spec : {M : Type 1} → statement M
 first-with-key-spec =

@@ -38,16 +38,12 @@ put-field-requires c κs =
 
 returns : tie.Need-returns
 returns c =
-    let after-put-field = c .before .before in
-    let after-found = after-put-field .before .before .before in
-    writes-as (code-is after-found) (after-put-field .put-field .ensures)
-
-returns-2 : tie.Need-returns-2
-returns-2 c = under-end (under-byte 0 (zero-is c)) refl
+    let p = c .before .before in
+    writes-as (code-is (p .before .before .before)) (p .put-field .ensures)
 
 pub put-slot-spec : {M : Type 1} → statement M
 put-slot-spec =
     tie.close
     (tie.spec
     (λ c. search needs) put-field-requires (λ c. search needs) (λ c. omega (arith, under-space (zero-is c)))
-    (λ c. search needs) returns (λ c. search needs) returns-2)
+    (λ c. search needs) returns (λ c. search needs) (λ c. under-end (under-byte 0 (zero-is c)) refl))

@@ -46,48 +46,23 @@ stepped : (c : tie.After-put-slot Inv-loop μ-loop) →
     Sent (code (start l)) (λ (q : ℕ). q) (l .before .group-slots .result) (now (start l .args .out)) (backFrom (l .loop .out) (l .loop .at) (c .put-slot .last .0)) (l .loop .at + c .put-slot .result) (l .loop .slot + 1)
 stepped c =
     let after-find-slot = c .before .before in
-    let l = after-find-slot .before .before in
-    sent-step (code (start l)) (λ (q : ℕ). q) (l .loop .inv) (omega arith) (writes-as (slot-is after-find-slot) (c .put-slot .ensures))
-
-loop-holds : tie.Need-loop-holds Inv-loop μ-loop
-loop-holds c =
-    let at-start = c .before .before .before in
-    sent-start (code at-start) (λ (q : ℕ). q) (c .group-slots .result) (now (at-start .args .out)) (fits-as (code-is (c)) (at-start .pre .2))
-
-find-slot-requires : tie.Need-find-slot-requires Inv-loop μ-loop
-find-slot-requires c κs = start (c .before) .pre .0
-
-sub-put-slot : tie.Need-sub-put-slot Inv-loop μ-loop
-sub-put-slot c = let l = c .before .before in omega (arith, under-space (sent-under (code (start l)) (λ (q : ℕ). q) (l .loop .inv) (omega arith)))
-
-part-put-slot-start : tie.Need-part-put-slot-start Inv-loop μ-loop
-part-put-slot-start c = let l = c .before .before in omega (arith, under-space (sent-under (code (start l)) (λ (q : ℕ). q) (l .loop .inv) (omega arith)))
+    sent-step (after-find-slot .before .before .loop .inv) (omega arith) (writes-as (slot-is after-find-slot) (c .put-slot .ensures))
 
 put-slot-requires : tie.Need-put-slot-requires Inv-loop μ-loop
 put-slot-requires c κs =
     let l = c .before .before .before in
     let s = start l in
-    (s .pre .0, slot-below (s .pre .0 .valid) (s .args .place) (l .loop .slot) (c .before .find-slot .ensures), last-lent (sent-under (code s) (λ (q : ℕ). q) (l .loop .inv) (omega arith)) (slot-is (c .before)))
-
-add-at : tie.Need-add-at Inv-loop μ-loop
-add-at c =
-    let after-put-slot = c .before .before in
-    let at-loop = after-put-slot .before .before .before .before in
-    omega (arith, sent-space (code (start at-loop)) (λ (q : ℕ). q) (stepped after-put-slot))
-
-loop-again : tie.Need-loop-again Inv-loop μ-loop
-loop-again c = stepped (c .before .before .before)
-
-same-length : tie.Need-same-length Inv-loop μ-loop
-same-length c = sent-long (code (start (c .before))) (λ (q : ℕ). q) (c .before .loop .inv)
-
-returns : tie.Need-returns Inv-loop μ-loop
-returns c = writes-as (code-is (c .before .before)) (sent-end (code (start (c .before))) (λ (q : ℕ). q) (c .before .loop .inv) (omega arith))
+    (s .pre .0, slot-below (s .pre .0 .valid) (s .args .place) (l .loop .slot) (c .before .find-slot .ensures), last-lent (sent-under (l .loop .inv) (omega arith)) (slot-is (c .before)))
 
 pub put-slots-spec : {M : Type 1} → statement M
 put-slots-spec =
     tie.close
     (tie.spec
-    Inv-loop μ-loop (λ c κs. search needs) loop-holds find-slot-requires sub-put-slot part-put-slot-start
-    (λ c. search needs) put-slot-requires add-at (λ c κs. tt) (λ c. omega arith) (λ c. omega arith) loop-again
-    same-length returns)
+    Inv-loop μ-loop (λ c κs. search needs) (λ c. sent-start (fits-as (code-is c) (c .before .before .before .pre .2)))
+    (λ c κs. start (c .before) .pre .0)
+    (λ c. omega (arith, under-space (sent-under (c .before .before .loop .inv) (omega arith))))
+    (λ c. omega (arith, under-space (sent-under (c .before .before .loop .inv) (omega arith))))
+    (λ c. search needs) put-slot-requires (λ c. omega (arith, sent-space (stepped (c .before .before)))) (λ c κs. tt)
+    (λ c. omega arith) (λ c. omega arith) (λ c. stepped (c .before .before .before))
+    (λ c. sent-long (c .before .loop .inv))
+    (λ c. writes-as (code-is (c .before .before)) (sent-end (c .before .loop .inv) (omega arith))))

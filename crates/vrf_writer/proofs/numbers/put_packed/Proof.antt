@@ -14,31 +14,15 @@ Inv-loop out₀ n left₀ at₀ out left at = Chunks n out₀ out at left
 abbrev μ-loop : tie.MeasureT-loop
 μ-loop out₀ n left₀ at₀ out left at = left
 
-slice-write-out : tie.Need-slice-write-out Inv-loop μ-loop
-slice-write-out c = omega (arith, chunk-space (c .before .loop .inv))
-
-add-at : tie.Need-add-at Inv-loop μ-loop
-add-at c = omega (arith, chunk-space (c .before .loop .inv), under-long (c .before .loop .inv .under))
-
-loop-again : tie.Need-loop-again Inv-loop μ-loop
-loop-again c = chunk-step (c .before .loop .inv) (omega arith)
-
-slice-write-out-2 : tie.Need-slice-write-out-2 Inv-loop μ-loop
-slice-write-out-2 c = chunk-space (c .before .loop .inv)
-
-add-result : tie.Need-add-result Inv-loop μ-loop
-add-result c = omega (arith, chunk-space (c .before .loop .inv), under-long (c .before .loop .inv .under))
-
-same-length : tie.Need-same-length Inv-loop μ-loop
-same-length c = length-set (c .before .loop .out) (c .before .loop .at) (2 * c .before .loop .left) ∙ under-long (c .before .loop .inv .under)
-
-returns : tie.Need-returns Inv-loop μ-loop
-returns c = chunk-end (c .before .loop .inv) (omega arith)
-
 pub put-packed-spec : {M : Type 1} → statement M
 put-packed-spec =
     tie.close
     (tie.spec
     Inv-loop μ-loop (λ c. chunks-start (omega arith) (omega arith)) (λ c. omega arith) (λ c. omega arith)
-    (λ c. omega arith) slice-write-out add-at (λ c. omega arith) loop-again (λ c. omega arith) (λ c. omega arith)
-    slice-write-out-2 add-result same-length returns)
+    (λ c. omega arith) (λ c. chunk-space (c .before .loop .inv))
+    (λ c. omega (arith, chunk-space (c .before .loop .inv), under-long (c .before .loop .inv .under))) (λ c. omega arith)
+    (λ c. chunk-step (c .before .loop .inv) (omega arith)) (λ c. omega arith) (λ c. omega arith)
+    (λ c. chunk-space (c .before .loop .inv))
+    (λ c. omega (arith, chunk-space (c .before .loop .inv), under-long (c .before .loop .inv .under)))
+    (λ c. let l = c .before .loop in length-set (l .out) (l .at) (2 * l .left) ∙ under-long (l .inv .under))
+    (λ c. chunk-end (c .before .loop .inv) (omega arith)))

@@ -6,9 +6,8 @@ use Rattle.vrf_writer.proofs.numbers.put_word.Tie as tie
 
 returns : tie.Need-returns
 returns c =
-    let after-put32 = c .before .before in
-    let start = after-put32 .before .before .before in
-    word-put (start .args .n) (after-put32 .put32 .ensures)
+    let p = c .before .before in
+    word-put (p .before .before .before .args .n) (p .put32 .ensures)
 
 pub put-word-spec : {M : Type 1} → statement M
 put-word-spec = tie.close (tie.spec (λ c κs. search needs) (λ c. search needs) returns)

@@ -1,7 +1,7 @@
 -- `vrf_writer::size::guids_len` satisfies its contract: the three sums and two bytes for each record are the length of the records so far.
 use mathlib.Core.List.{List}
-use mathlib.Core.Path.{_≡_, refl, sym, ap, _∙_}
-use Prim.Native.Nat.{ℕ, _+_, _-_, _*_, _≤_}
+use mathlib.Core.Path.{_≡_, refl, ap, _∙_}
+use Prim.Native.Nat.{ℕ, _+_, _-_, _*_, _<_, _≤_}
 use native.Mathlib.Omega.{arith}
 use lib.ListN.{length}
 use borrow.Author.Needs.{needs}
@@ -10,142 +10,87 @@ use Rattle.vrf_bitio.specs.Number.{encodePacked}
 use Rattle.vrf_text.specs.Text.{encodeText}
 use Rattle.vrf_model.specs.Book.{Guid}
 use Rattle.vrf_model.specs.Writer.{encodeGuid}
-use Rattle.vrf_store.specs.UpTo.{sumBelow}
 use Rattle.vrf_store.specs.Store.{storeOf}
-use Rattle.vrf_store.specs.Laws.Check.Steps.{sum-next}
 use Rattle.vrf_writer.specs.Inner.Rows.{GuidRow, guidIn}
 use Rattle.vrf_writer.specs.Laws.Rows.{guid-good}
 use Rattle.vrf_writer.specs.Laws.Guids.{guids-code}
 use Rattle.vrf_writer.specs.Laws.Lengths.{packed-short, text-short}
-use Rattle.vrf_writer.specs.Laws.Size.{all-length, sum-short, guid-length, guid-short}
+use Rattle.vrf_writer.specs.Laws.Size.{all-length, guid-length, guid-short, Summed, summed-start, summed-step, summed-end, summed-short}
 use Rattle.vrf_writer.proofs.size.guids_len.Statement.{statement}
 use Rattle.vrf_writer.proofs.size.guids_len.Tie as tie
 
 abbrev Inv-loop : tie.InvT-loop
-Inv-loop m rows x n keys₀ outers₀ paths₀ i₀ keys outers paths i = (i ≤ n) × (keys + outers + paths + 2 * i ≡ sumBelow (λ (e : ℕ). length (encodeGuid (guidIn rows x e))) i)
+Inv-loop m rows x n keys₀ outers₀ paths₀ i₀ keys outers paths i = Summed (λ (e : ℕ). length (encodeGuid (guidIn rows x e))) n (keys + outers + paths + 2 * i) i
 
 abbrev μ-loop : tie.MeasureT-loop
 μ-loop m rows x n keys₀ outers₀ paths₀ i₀ keys outers paths i = n - i
 
--- the records, and the length of each
+-- the records
 abbrev its : tie.After-guids Inv-loop μ-loop → ℕ → Guid
 its c = guidIn (now (c .before .before .guid-rows .result)) (now (c .before .texts .result))
 
-abbrev size : tie.After-guids Inv-loop μ-loop → ℕ → ℕ
-size c e = length (encodeGuid (its c e))
-
-good : (c : tie.After-guids Inv-loop μ-loop) (e : ℕ) → e + 1 ≤ c .guids .result → GuidRow (now (c .before .before .guid-rows .result)) (now (c .before .texts .result)) e
-good c e h =
-    let after-texts = c .before in
-    let after-guid-rows = after-texts .before in
-    let start = after-guid-rows .before .before in
-    guid-good (start .pre .valid) (after-texts .texts .ensures) (after-guid-rows .guid-rows .ensures) (omega (arith, h, c .guids .ensures))
-
-small : (c : tie.After-guids Inv-loop μ-loop) (i : ℕ) → i ≤ c .guids .result → sumBelow (size c) i ≤ 4113 * i
-small c i h = sum-short (size c) 4113 i (λ e k. guid-short (good c e (omega (arith, k, h))))
+good : (c : tie.After-guids Inv-loop μ-loop) {e : ℕ} → e < c .guids .result → GuidRow (now (c .before .before .guid-rows .result)) (now (c .before .texts .result)) e
+good c h =
+    let after-guid-rows = c .before .before in
+    guid-good (after-guid-rows .before .before .pre .valid) (c .before .texts .ensures) (after-guid-rows .guid-rows .ensures) (omega (arith, h, c .guids .ensures))
 
 -- the sums before an iteration, and after the loop
 few : (c : tie.At-loop Inv-loop μ-loop) → c .loop .keys + c .loop .outers + c .loop .paths + 2 * c .loop .i ≤ 4113 * c .loop .i
-few c = omega (arith, small (c .before) (c .loop .i) (omega arith), c .loop .inv .1)
+few c = summed-short (c .loop .inv) 4113 (λ e k. guid-short (good (c .before) k))
 
--- the record of an iteration
-its-good : (c : tie.In-loop Inv-loop μ-loop) →
-    let at-loop = c .before in
-    let after-texts = at-loop .before .before in
-    let after-guid-rows = after-texts .before in
-    GuidRow (now (after-guid-rows .guid-rows .result)) (now (after-texts .texts .result)) (at-loop .loop .i)
-its-good c = good (c .before .before) (c .before .loop .i) (omega arith)
-
+-- the record of an iteration, and the iteration after each of its calls
 abbrev it : tie.In-loop Inv-loop μ-loop → Guid
 it c = its (c .before .before) (c .before .loop .i)
 
-first : (c : tie.After-packed-len Inv-loop μ-loop) → c .packed-len .result ≡ length (encodePacked (it (c .before .before) .guid))
+its-good : (c : tie.In-loop Inv-loop μ-loop) →
+    let after-texts = c .before .before .before in
+    GuidRow (now (after-texts .before .guid-rows .result)) (now (after-texts .texts .result)) (c .before .loop .i)
+its-good c = good (c .before .before) (omega arith)
+
+abbrev turn : tie.After-packed-len Inv-loop μ-loop → tie.In-loop Inv-loop μ-loop
+turn c = c .before .before
+
+abbrev turn2 : tie.After-packed-len2 Inv-loop μ-loop → tie.In-loop Inv-loop μ-loop
+turn2 c = turn (c .before .before)
+
+abbrev turn3 : tie.After-text-len Inv-loop μ-loop → tie.In-loop Inv-loop μ-loop
+turn3 c = turn2 (c .before .before)
+
+first : (c : tie.After-packed-len Inv-loop μ-loop) → c .packed-len .result ≡ length (encodePacked (it (turn c) .guid))
 first c = c .packed-len .ensures ∙ ap (λ (n : ℕ). length (encodePacked n)) (c .before .guid-of .ensures)
 
-second : (c : tie.After-packed-len2 Inv-loop μ-loop) → c .packed-len2 .result ≡ length (encodePacked (it (c .before .before .before .before) .outer))
+second : (c : tie.After-packed-len2 Inv-loop μ-loop) → c .packed-len2 .result ≡ length (encodePacked (it (turn2 c) .outer))
 second c = c .packed-len2 .ensures ∙ ap (λ (n : ℕ). length (encodePacked n)) (c .before .row-info .ensures)
 
-third : (c : tie.After-text-len Inv-loop μ-loop) →
-    let back = c .before .before .before .before in
-    let in-loop = back .before .before in
-    c .text-len .result ≡ length (encodeText (it in-loop .path))
+third : (c : tie.After-text-len Inv-loop μ-loop) → c .text-len .result ≡ length (encodeText (it (turn3 c) .path))
 third c = c .text-len .ensures ∙ ap (λ (t : List ℕ). length (encodeText t)) (c .before .row-text .ensures)
 
-loop-holds : tie.Need-loop-holds Inv-loop μ-loop
-unfolding sumBelow
-loop-holds c = (omega arith, refl)
-
-guid-of-requires : tie.Need-guid-of-requires Inv-loop μ-loop
-guid-of-requires c κs = (its-good c .texts .row, its-good c .small)
-
-add-keys : tie.Need-add-keys Inv-loop μ-loop
-add-keys c =
-    let in-loop = c .before .before in
-    let at-loop = in-loop .before in
-    omega (arith, few at-loop, first c, packed-short (it in-loop .guid))
-
-row-info-requires : tie.Need-row-info-requires Inv-loop μ-loop
-row-info-requires c κs = its-good (c .before .before) .texts .row
-
-add-outers : tie.Need-add-outers Inv-loop μ-loop
-add-outers c =
-    let in-loop = c .before .before .before .before in
-    let at-loop = in-loop .before in
-    omega (arith, few at-loop, second c, packed-short (it in-loop .outer))
-
-row-text-requires : tie.Need-row-text-requires Inv-loop μ-loop
-row-text-requires c κs = let t = its-good (c .before .before .before .before) .texts in (t .row, t .inside)
-
-text-len-requires : tie.Need-text-len-requires Inv-loop μ-loop
-text-len-requires c κs =
-    let back = c .before .before .before .before in
-    let in-loop = back .before in
-    rw (c .row-text .ensures) (its-good in-loop .texts .short)
-
 add-paths : tie.Need-add-paths Inv-loop μ-loop
-add-paths c =
-    let back = c .before .before .before .before in
-    let t = back .before .before in
-    let at-loop = t .before in
-    omega (arith, few at-loop, third c, text-short (it t .path), its-good t .texts .short)
+add-paths c = let t = turn3 c in omega (arith, few (t .before), third c, text-short (it t .path), its-good t .texts .short)
 
 loop-again : tie.Need-loop-again Inv-loop μ-loop
 loop-again c =
     let after-packed-len2 = c .before .before in
-    let after-packed-len = after-packed-len2 .before .before in
-    let t = after-packed-len .before .before in
-    let at-loop = t .before in
-    let after-guids = at-loop .before in
-    (omega arith, omega (arith, at-loop .loop .inv .1, sum-next (size after-guids) (at-loop .loop .i), guid-length (it t), first after-packed-len, second after-packed-len2, third c))
-
-add-result : tie.Need-add-result Inv-loop μ-loop
-add-result c = omega (arith, few (c .before))
-
-add-result-2 : tie.Need-add-result-2 Inv-loop μ-loop
-add-result-2 c = omega (arith, few (c .before))
-
-add-result-3 : tie.Need-add-result-3 Inv-loop μ-loop
-add-result-3 c = omega (arith, few (c .before))
+    let t = turn3 c in
+    summed-step (t .before .loop .inv) (omega arith) (omega (arith, guid-length (it t), first (after-packed-len2 .before .before), second after-packed-len2, third c))
 
 returns : tie.Need-returns Inv-loop μ-loop
 returns c =
-    let at-loop = c .before in
-    let g = at-loop .before in
-    let after-texts = g .before in
-    let after-guid-rows = after-texts .before in
-    let start = after-guid-rows .before .before in
-    let all : at-loop .loop .i ≡ g .guids .result = omega arith in
-    let total : at-loop .loop .keys + at-loop .loop .outers + at-loop .loop .paths + 2 * g .guids .result ≡ sumBelow (size g) (at-loop .loop .i) = omega (arith, all, at-loop .loop .inv .1) in
-    total
-    ∙ ap (sumBelow (size g)) all
-    ∙ sym (all-length encodeGuid (its g) (g .guids .result))
-    ∙ ap length (guids-code (storeOf (now (start .args .m))) (after-guid-rows .guid-rows .ensures) (after-texts .texts .ensures) (g .guids .ensures))
+    let g = c .before .before in
+    let after-guid-rows = g .before .before in
+    let code = guids-code (storeOf (now (after-guid-rows .before .before .args .m))) (after-guid-rows .guid-rows .ensures) (g .before .texts .ensures) (g .guids .ensures) in
+    omega (arith, summed-end (c .before .loop .inv) (omega arith) refl, c .before .loop .inv .within, all-length encodeGuid (its g) (g .guids .result), ap length code)
 
 pub guids-len-spec : {M : Type 1} → statement M
 guids-len-spec =
     tie.close
     (tie.spec
-    Inv-loop μ-loop (λ c κs. search needs) (λ c κs. search needs) (λ c κs. search needs) loop-holds guid-of-requires
-    (λ c κs. tt) add-keys row-info-requires (λ c κs. tt) add-outers row-text-requires text-len-requires add-paths
-    (λ c. omega arith) (λ c. omega arith) loop-again add-result add-result-2 (λ c. omega arith) (λ c. omega arith)
-    add-result-3 returns)
+    Inv-loop μ-loop (λ c κs. search needs) (λ c κs. search needs) (λ c κs. search needs) (λ c. summed-start)
+    (λ c κs. (its-good c .texts .row, its-good c .small)) (λ c κs. tt)
+    (λ c. omega (arith, few (turn c .before), first c, packed-short (it (turn c) .guid)))
+    (λ c κs. its-good (turn c) .texts .row) (λ c κs. tt)
+    (λ c. omega (arith, few (turn2 c .before), second c, packed-short (it (turn2 c) .outer)))
+    (λ c κs. let t = its-good (turn2 c) .texts in (t .row, t .inside))
+    (λ c κs. rw (c .row-text .ensures) (its-good (turn2 (c .before)) .texts .short)) add-paths (λ c. omega arith)
+    (λ c. omega arith) loop-again (λ c. omega (arith, few (c .before))) (λ c. omega (arith, few (c .before)))
+    (λ c. omega arith) (λ c. omega arith) (λ c. omega (arith, few (c .before))) returns)

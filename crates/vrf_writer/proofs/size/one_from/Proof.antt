@@ -5,11 +5,9 @@ use Rattle.vrf_writer.specs.Laws.Lengths.{below, from}
 use Rattle.vrf_writer.proofs.size.one_from.Statement.{statement}
 use Rattle.vrf_writer.proofs.size.one_from.Tie as tie
 
-returns : tie.Need-returns
-returns c = let x = c .before .args in (sym (below (x .least) (x .n) (omega arith)), omega arith)
-
-returns-2 : tie.Need-returns-2
-returns-2 c = let x = c .before .args in (sym (from (x .least) (x .n) (omega arith)), omega arith)
-
 pub one-from-spec : {M : Type 1} → statement M
-one-from-spec = tie.close (tie.spec returns returns-2)
+one-from-spec =
+    tie.close
+    (tie.spec
+    (λ c. let x = c .before .args in (sym (below (x .least) (x .n) (omega arith)), omega arith))
+    (λ c. let x = c .before .args in (sym (from (x .least) (x .n) (omega arith)), omega arith)))

@@ -8,19 +8,19 @@ use Rattle.vrf_writer.specs.Laws.Writes.{writes-clash}
 use Rattle.vrf_writer.proofs.write.write_checkpoint_tables.Statement.{statement}
 use Rattle.vrf_writer.proofs.write.write_checkpoint_tables.Tie as tie
 
+-- the function's entry state
+abbrev start : tie.After-first-clash → tie.Start
+start c = c .before .before .before
+
 write-clear-requires : tie.Need-write-clear-requires
 write-clear-requires c κs =
-    let at-enum-told = c .before in
-    let after-first-clash = at-enum-told .before .before in
-    let start = after-first-clash .before .before .before in
-    (start .pre, sym (after-first-clash .first-clash .ensures) ∙ ap entry (at-enum-told .enum-told .given .1))
+    let first = c .before .before .before in
+    (start first .pre, sym (first .first-clash .ensures) ∙ ap entry (c .before .enum-told .given .1))
 
 returns : tie.Need-returns
 returns c =
-    let at-place = c .before in
-    let after-first-clash = at-place .before .before in
-    let start = after-first-clash .before .before .before in
-    writes-clash (held (now (start .args .m))) (sym (ap entry (at-place .place .given .1)) ∙ after-first-clash .first-clash .ensures) refl
+    let first = c .before .before .before in
+    writes-clash (held (now (start first .args .m))) (sym (ap entry (c .before .place .given .1)) ∙ first .first-clash .ensures) refl
 
 pub write-checkpoint-tables-spec : {M : Type 1} → statement M
 write-checkpoint-tables-spec =

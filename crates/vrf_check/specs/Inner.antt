@@ -1,0 +1,2 @@
+-- Contracts of the functions of `vrf_check`.
+pub mod Steps

@@ -1,0 +1,2 @@
+-- Bounds of what is read from a script.
+pub mod Bounds
