@@ -103,13 +103,14 @@ pub fn labelled(out: &mut [u8], to: usize, what: &[u8], n: u64) -> usize {
     number(out, after, n)
 }
 
-// In decimal, with a minus sign below 0. The lowest number cannot be negated in 32 bits, so -1 - n is computed, and 1 is added in 64 bits.
+// In decimal, with a minus sign below 0.
 pub fn signed(out: &mut [u8], to: usize, n: i32) -> usize {
+    let size = vrf_bitio::magnitude(n) as u64;
     if n < 0 {
         let at = byte(out, to, b'-');
-        return number(out, at, ((-1 - n) as u64) + 1);
+        return number(out, at, size);
     }
-    number(out, to, n as u64)
+    number(out, to, size)
 }
 
 // Sixteen hexadecimal digits, the highest first.
