@@ -4,8 +4,8 @@
 usage: tools/respell.py [FOLDER]      once, after the kit's port.py; FOLDER is the top of a checkout, by default the one of this script
 
 A row is an old name, a tab and a new name. Whole names alone turn, in the files of crates/ that end in .antt and .rt, comments too. A row whose
-new name has a dash brings back the name of a lemma that port.py had spelled like a definition: it turns only where the name stands alone, since
-behind a dot it is a module or a step of the code. The rows are applied in one pass, so no row turns what another made.
+new name has a dash brings back the name of a lemma that port.py had spelled like a definition: it turns only in .antt files
+and where the name stands alone, since elsewhere it is a function, a module or a step of the code. The rows are applied in one pass, so no row turns what another made.
 """
 
 import os
@@ -21,12 +21,12 @@ def table():
         return dict(line.rstrip("\n").split("\t") for line in f)
 
 
-def turned(text, names):
+def turned(text, names, is_code):
     def new(found):
         old = found[0]
         name = names.get(old, old)
-        behind_a_dot = text[found.start() - 1 : found.start()] == "." or text[found.end() : found.end() + 1] == "."
-        return old if "-" in name and "-" not in old and behind_a_dot else name
+        is_path = text[found.start() - 1 : found.start()] == "." or text[found.end() : found.end() + 1] == "."
+        return old if "-" in name and "-" not in old and (is_path or is_code) else name
 
     return NAME.sub(new, text)
 
@@ -41,7 +41,7 @@ def main():
                 path = os.path.join(folder, name)
                 with open(path, encoding="utf-8") as f:
                     old = f.read()
-                new = turned(old, names)
+                new = turned(old, names, name.endswith(".rt"))
                 if new != old:
                     with open(path, "w", encoding="utf-8") as f:
                         f.write(new)

@@ -18,7 +18,7 @@ use vrf_words::get32;
 
 // A row of a sheet. A call has a kind, numbers and a text. The numbers are a GUID and its outer (kind 0), a group's index and slot count
 // (kind 1), or a field's group index, handle and checksum (kind 2). A lookup uses the first number or the text.
-#[derive(Drop)]
+#[derive(Clone, Copy)]
 struct Row {
     kind: u32,
     a: u32,

@@ -1,5 +1,7 @@
 // What tests/compare times against the Rust: readings in a loop, over a slice that the caller lends. It is proved that the loops end and
 // stay in bounds. The contracts of the crates used here cover what each reading answers.
+#![tactic(auto)]
+
 pub mod blocks;
 pub mod book;
 

@@ -1,5 +1,7 @@
 // Makes exported calls on corrupt books. Every call must refuse the book with 2 and leave it as it is, or answer and leave a book that
 // passes its check. Prints how many memories were tried, or the first call that breaks this.
+#![tactic(auto)]
+
 mod books;
 mod calls;
 mod corrupt;

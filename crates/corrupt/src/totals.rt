@@ -5,7 +5,7 @@ use crate::calls::{CALLS, CallEnd, FIRST_LOOKUP, OPENING, call, is_corrupt};
 use vrf_path::same;
 use vrf_words::put_part;
 
-#[derive(Drop)]
+#[derive(Clone, Copy)]
 pub struct Totals {
     // Memories, and how many of them passed the check.
     pub copies: u64,

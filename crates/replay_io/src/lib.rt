@@ -1,5 +1,7 @@
 // Plays a script from standard input, and writes the answers to standard output.
 
+#![tactic(auto)]
+
 fn run(script: &mut [u8], memory: &mut [u8], scratch: &mut [u8], out: &mut [u8]) {
     let n = io::read_full(0, script);
     let m = vrf_replay::play(&script[0..n], memory, scratch, out);

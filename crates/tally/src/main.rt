@@ -1,4 +1,6 @@
 // Reads a block from standard input, and prints its seven counts or its refusal.
+#![tactic(auto)]
+
 fn run(input: &mut [u8], out: &mut [u8; 512]) {
     let n = io::read_full(0, input);
     let m = vrf_tally::tally(&input[0..n], out);

@@ -1,3 +1,5 @@
+#![tactic(auto)]
+
 fn main() {
     replay_io::play();
 }

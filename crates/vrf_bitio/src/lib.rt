@@ -1,4 +1,6 @@
 // The bit reader of document 01 over byte slices. The function names are those of vrf-bitio's lib.rs.
+#![tactic(auto)]
+
 ghost use Rattle.std.specs.Prelude.{◌≡◌, ◌+◌, ◌-◌, ◌*◌, ◌<◌, ◌≤◌, ◌^◌, ◌%◌, ◌/◌, min, nat_abs, length, get_or};
 ghost use Rattle.vrf_bitio.specs.Bits.{bits_of, packed_bits, bytes_for};
 ghost use Rattle.vrf_bitio.specs.Window.{window, inner, bits, copied};
@@ -24,7 +26,7 @@ pub const WINDOW_TOO_LARGE: u32 = 43;
 const WINDOW_BYTES: usize = 268_435_456;
 
 // Why a call was refused: the number and the two details of document 01's table.
-#[derive(Drop)]
+#[derive(Clone, Copy)]
 pub struct Refusal {
     pub number: u32,
     pub a: u64,
@@ -33,7 +35,7 @@ pub struct Refusal {
 
 // A window of a slice (first bit and bit count) and a position, counted from the window's first bit. The slice itself is passed beside it.
 // A slice of at most 268,435,456 bytes has fewer than 2^32 bits, so no sum of two of these fields wraps a u64.
-#[derive(Drop)]
+#[derive(Clone, Copy)]
 pub struct Cursor {
     pub first: u32,
     pub count: u32,

@@ -1,6 +1,8 @@
 // The bit reader of document 01 as a struct that holds the byte slice, over the cursor functions of vrf_bitio. The function names are those
 // of vrf-bitio's lib.rs. The borrow checker does not cover functions over such a struct. So each of them only takes the reader apart, calls
 // a covered function on the slice and the numbers, and is proved by hand. A reader is passed by value: a refused reading moves nothing.
+#![tactic(auto)]
+
 ghost use Rattle.std.specs.Prelude.{◌≡◌, ◌-◌};
 ghost use Rattle.vrf_bitio.specs.Window.{window, inner, bits};
 ghost use Rattle.vrf_bitio.specs.Number.{byte, word32, int32, packed};

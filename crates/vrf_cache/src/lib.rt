@@ -1,4 +1,6 @@
 // The book calls of cache.rs and the resolutions of resolve.rs, on a well-formed memory.
+#![tactic(auto)]
+
 pub mod clear;
 pub mod fields;
 pub mod full;

@@ -1,5 +1,7 @@
 // The check of a lent book (document 01, refusal 2; docs/LAYOUT.md, The check). `vrf_store`'s `Check` defines it; the code takes it in
 // steps.
+#![tactic(auto)]
+
 ghost use Rattle.std.specs.Prelude.{◌≡◌, true, ◌+◌, ◌*◌, ◌<◌, ◌≤◌, ◌^◌, length};
 ghost use Rattle.vrf_path.specs.Answers.{spelled, key_bytes};
 ghost use Rattle.vrf_table.specs.Table.{len};

@@ -1,5 +1,7 @@
 // The answers of the book calls, and the refusal numbers that document 01's table gives to the checks of a book. specs/Answers.antt gives
 // document 01's answer for each case.
+#![tactic(auto)]
+
 use vrf_bitio::Refusal;
 
 pub const ALLOWANCE_ABOVE_TOP: u32 = 1;
@@ -81,7 +83,7 @@ pub enum Ran {
 
 // The seven counts of a block, with the names of checkpoint.rs. Fields are counted in 64 bits, because 100,000 groups of 65,536 slots have
 // more than 2^32.
-#[derive(Drop)]
+#[derive(Clone, Copy)]
 pub struct CheckpointTables {
     pub guid_count: u32,
     pub group_count: u32,
@@ -106,7 +108,7 @@ pub enum Number {
 }
 
 // The answer of the writer: the block's length in bytes.
-#[derive(Drop)]
+#[derive(Clone, Copy)]
 pub enum Wrote {
     Length(u64),
     Refused(Refusal),

@@ -1,4 +1,6 @@
 // Rendered field names of document 01: an index in decimal, or a text with a signed number. The function names are those of export.rs.
+#![tactic(auto)]
+
 ghost use Rattle.std.specs.Prelude.{◌≡◌, ◌+◌, ◌*◌, ◌≤◌, length, take};
 ghost use Rattle.vrf_bitio.specs.Pasted.{pasted};
 ghost use Rattle.vrf_names.specs.Names.{decimal, suffix, rendered, refused, rendered_into};
@@ -13,7 +15,7 @@ pub const NAME_TOO_LONG: u32 = 41;
 const NAME_BYTES: usize = 4_096;
 
 // What a number adds to a name: nothing, or `_` and a number that may have a minus sign.
-#[derive(Drop)]
+#[derive(Clone, Copy)]
 enum Suffix {
     Empty,
     Plain(u32),

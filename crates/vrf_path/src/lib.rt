@@ -1,4 +1,6 @@
 // Path keys, leaves and stems of document 01. The function names are those of path.rs and resolve.rs.
+#![tactic(auto)]
+
 ghost use Rattle.std.specs.Prelude.{◌≡◌, true, ◌||◌, ◌+◌, ◌-◌, ◌^◌, ◌<◌, ◌≤◌, length, get_or, drop};
 ghost use Rattle.vrf_path.specs.Text.{same, four, eight, starts_with, ends_with, first_from, last_below};
 ghost use Rattle.vrf_path.specs.Keys.{is_separator, has_separator, default_alias, core_alias, has_key, key_is};
@@ -14,7 +16,7 @@ enum TextPlace {
 }
 
 // One of a path's keys, as the recipe that makes it from the bytes of the path. So a key is compared and hashed without being built.
-#[derive(Drop)]
+#[derive(Clone, Copy)]
 pub enum Key {
     // The path itself.
     Itself,

@@ -1,4 +1,6 @@
 // Readers of export runs and objects (reader.rs), on a well-formed memory.
+#![tactic(auto)]
+
 pub mod fields;
 pub mod guids;
 pub mod names;

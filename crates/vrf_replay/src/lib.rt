@@ -1,5 +1,7 @@
 // Plays a script of calls over lent memory, and writes the answers into a lent buffer (docs/SCRIPTS.md). The books are in the memory.
 // Windows and blocks are in the scratch buffer.
+#![tactic(auto)]
+
 mod calls;
 mod tallies;
 

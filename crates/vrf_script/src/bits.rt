@@ -15,7 +15,7 @@ const TARGET: u32 = 65_536;
 
 // A reading with its arguments: the width of `read_bits` or the target bytes of a copy, and the bits of a copy or of an inner window. After
 // them the place after the reading, and whether the script ends within it.
-#[derive(Drop)]
+#[derive(Clone, Copy)]
 struct Reading {
     kind: u8,
     size: u32,

@@ -9,7 +9,7 @@ const FILLED: usize = 0x8000_0000;
 // A blob: the place of its bytes in the script, where they end, and the place after the blob. A filled blob takes `laid` bytes of the
 // scratch buffer: those bytes, and then the fill byte up to its length. Any other blob takes none. `cut`: the script ends within the blob,
 // which has no bytes then.
-#[derive(Drop)]
+#[derive(Clone, Copy)]
 pub struct Blob {
     pub from: usize,
     pub to: usize,

@@ -5,7 +5,7 @@ use crate::answer;
 use vrf_bitio::Refusal;
 
 // The number of the call, the place in the script, the place in the answers, and whether the run has ended.
-#[derive(Drop)]
+#[derive(Clone, Copy)]
 pub struct Run {
     pub call: u64,
     pub at: usize,

@@ -12,7 +12,7 @@ use vrf_script::items;
 use vrf_script::run::Run;
 
 // The number of the current book, and the size of each book in bytes.
-#[derive(Drop)]
+#[derive(Clone, Copy)]
 pub struct Books {
     pub current: u8,
     pub a: usize,

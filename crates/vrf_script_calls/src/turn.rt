@@ -6,7 +6,7 @@ use crate::books::Books;
 use vrf_script::run::Run;
 
 // The run, the books, and the length of the last written block, which is at the front of the scratch buffer.
-#[derive(Drop)]
+#[derive(Clone, Copy)]
 pub struct Turn {
     pub run: Run,
     pub books: Books,

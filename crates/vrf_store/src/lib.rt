@@ -1,4 +1,6 @@
 // The lent memory of a book (docs/LAYOUT.md): its parts, the rows of its tables, its texts, the lookups in it and its changes.
+#![tactic(auto)]
+
 pub mod counters;
 pub mod fields;
 pub mod groups;

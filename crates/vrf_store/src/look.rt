@@ -227,7 +227,7 @@ pub fn group_slots(m: &[u8], i: u32) -> u32
 }
 
 // The row of the field in a group's slot. No group has a slot 65536 or above: its key would be the key of another group's slot.
-pub fn slot-row(m: &[u8], place: u32, slot: u32) -> Entry
+pub fn slot_row(m: &[u8], place: u32, slot: u32) -> Entry
     requires { WellFormed m.now }
     ensures { entry result ≡ slot_row (store_of m.now) place slot }
 {
@@ -242,7 +242,7 @@ pub fn field_checksum(m: &[u8], place: u32, slot: u32) -> MaybeNumber
     requires { WellFormed m.now }
     ensures { number_found result ≡ slot_checksum (slot_at (content_of (store_of m.now)).groups place slot) }
 {
-    match slot-row(m, place, slot) {
+    match slot_row(m, place, slot) {
         Entry::At(e) => MaybeNumber::Is(row_info(field_rows(m), e)),
         Entry::Nowhere => MaybeNumber::Nothing,
     }
@@ -253,7 +253,7 @@ pub fn field_name(m: &[u8], place: u32, slot: u32) -> &[u8]
     requires { WellFormed m.now }
     ensures { result.now ≡ slot_name (slot_at (content_of (store_of m.now)).groups place slot) }
 {
-    match slot-row(m, place, slot) {
+    match slot_row(m, place, slot) {
         Entry::At(e) => row_text(field_rows(m), texts(m), e),
         Entry::Nowhere => &m[0..0],
     }
@@ -295,7 +295,7 @@ fn if_filled(m: &[u8], place: u32, slot: u32) -> Entry
     requires { WellFormed m.now }
     ensures { entry result ≡ if_filled place (slot_at (content_of (store_of m.now)).groups place slot) }
 {
-    match slot-row(m, place, slot) {
+    match slot_row(m, place, slot) {
         Entry::At(_) => Entry::At(place),
         Entry::Nowhere => Entry::Nowhere,
     }

@@ -1,4 +1,6 @@
 // Finds a row of a table by its key, and a group by a key of its path or by its leaf.
+#![tactic(auto)]
+
 pub mod spell;
 
 ghost use Rattle.std.specs.Prelude.{◌≡◌, ◌+◌, ◌*◌, ◌/◌, ◌^◌, ◌<◌, ◌≤◌, ◌++◌, length, drop, slice_index};
@@ -18,7 +20,7 @@ use vrf_path::{core_alias, default_object_alias, is_key, leaf_base, left, same};
 use vrf_words::{get32, get64, put32, put64};
 
 // The answer of a search.
-#[derive(Drop)]
+#[derive(Clone, Copy)]
 pub enum Entry {
     At(u32),
     Nowhere,

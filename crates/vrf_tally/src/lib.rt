@@ -1,4 +1,6 @@
 // The tool `tally` of document 01: prints a block's seven counts, or its refusal, as lines of text.
+#![tactic(auto)]
+
 ghost use Rattle.std.specs.Prelude.{◌≡◌, ◌+◌, ◌≤◌, length};
 ghost use Rattle.vrf_model.specs.Answers.{counts_of, tables_of};
 ghost use Rattle.vrf_tally.specs.Tally.{line, lines, count_lines, refusal_lines, answer_lines, answered, tally};

@@ -1,4 +1,6 @@
 // Text: UTF-8, UTF-16 and document 01's text on the wire.
+#![tactic(auto)]
+
 ghost use Rattle.std.specs.Prelude.{◌≡◌, true, cond, ◌||◌, List, ℕ, ◌+◌, ◌-◌, ◌*◌, ◌<◌, ◌≤◌, ◌^◌, ◌/◌, ltb, eqb, length, drop};
 ghost use Rattle.std.proofs.Math.Option.{some};
 ghost use Rattle.vrf_bitio.specs.Bits.{bytes_of};

@@ -1,4 +1,6 @@
 // The writer of checkpoint blocks, for a well-formed memory. `vrf_schema` exports it with the check of the memory.
+#![tactic(auto)]
+
 pub mod block;
 pub mod clash;
 pub mod groups;
