@@ -9,10 +9,10 @@ use lib.Pow.{pow_mono}
 use Rattle.vrf_bitio.specs.Bits.{bits_of, bytes_of, packed_bits, bytes_for}
 use Rattle.vrf_bitio.specs.Number.{low_bytes}
 use Rattle.vrf_bitio.specs.Pasted.{pasted}
-use Rattle.vrf_bitio.specs.Laws.Cases.{by_order}
-use Rattle.vrf_bitio.specs.Laws.Bits.{bits-lt, bits-low, bits-high}
-use Rattle.vrf_bitio.specs.Laws.Pasted.{pasted-nil, pasted-cons, pasted-append}
-use Rattle.vrf_bitio.specs.Laws.Window.{bytes-length}
+use Rattle.vrf_bitio.proofs.Laws.Cases.{by_order}
+use Rattle.vrf_bitio.proofs.Laws.Bits.{bits-lt, bits-low, bits-high}
+use Rattle.vrf_bitio.proofs.Laws.Pasted.{pasted-nil, pasted-cons, pasted-append}
+use Rattle.vrf_bitio.proofs.Laws.Window.{bytes-length}
 use Rattle.vrf_bitio.proofs.Words.{cut, join}
 
 -- `put_bytes` after k of t bytes: l is the list at the start, m the list now, left the number still to be written

@@ -13,7 +13,7 @@ use Rattle.vrf_bitio.specs.Reading.{Read, ok, refused, bind_read}
 use Rattle.vrf_bitio.specs.Window.{rest, bits, window, inner, copied}
 use Rattle.vrf_bitio.specs.Answers.{rest_of, Gave}
 use Rattle.vrf_bitio.specs.Inner.Cursor.{moved}
-use Rattle.vrf_bitio.specs.Laws.Bits.{bits_inside}
+use Rattle.vrf_bitio.proofs.Laws.Bits.{bits_inside}
 use Rattle.vrf_bitio.specs.declared.Cursor.{Cursor}
 
 -- a reading that yields v and moves the cursor by n bits

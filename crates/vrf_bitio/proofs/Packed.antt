@@ -7,7 +7,7 @@ use native.Mathlib.Omega.{arith}
 use lib.Pow.{pow_mono, pow-add}
 use Rattle.vrf_bitio.specs.Number.{byte, packed, chunks}
 use Rattle.vrf_bitio.specs.Answers.{rest_of, read_at, Gave, Refuses}
-use Rattle.vrf_bitio.specs.Laws.Number.{chunks-lacks, chunk-ends, chunk-continues}
+use Rattle.vrf_bitio.proofs.Laws.Number.{chunks-lacks, chunk-ends, chunk-continues}
 use Rattle.vrf_bitio.specs.declared.Cursor.{Cursor}
 use Rattle.vrf_bitio.specs.declared.Refusal.{Refusal}
 

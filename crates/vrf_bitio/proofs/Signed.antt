@@ -12,7 +12,7 @@ use mir.Facts.{to_z-of_z}
 use mir.Syntax.{w32}
 use mir.Val.{Fits, SFits, to_z, of_z}
 use Rattle.vrf_bitio.specs.Number.{signed}
-use Rattle.vrf_bitio.specs.Laws.Cases.{clash}
+use Rattle.vrf_bitio.proofs.Laws.Cases.{clash}
 
 minus_one : (m : ℕ) → negsuc 0 -ℤ pos m ≡ negsuc m
 minus_one zero = refl

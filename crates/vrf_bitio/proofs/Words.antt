@@ -7,7 +7,7 @@ use native.Mathlib.Omega.{arith}
 use lib.ListN.{length, get_or}
 use lib.Pow.{pow_pos, pow-lt, pow_mono, pow-add, mod-pow-add, field, shr_lt, shl-shr, shl_exact}
 use Rattle.vrf_bitio.specs.Bits.{bits_of}
-use Rattle.vrf_bitio.specs.Laws.Bits.{bits-cons, bits-byte, bits-lt, bits-split, bits-high, bits-low, bits_inside, bits-past}
+use Rattle.vrf_bitio.proofs.Laws.Bits.{bits-cons, bits-byte, bits-lt, bits-split, bits-high, bits-low, bits_inside, bits-past}
 
 -- four bytes make 32 bits
 pub half : (s : List ℕ) (i a b c d : ℕ)

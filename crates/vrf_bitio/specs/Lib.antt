@@ -6,9 +6,5 @@ pub mod Window
 pub mod Number
 pub mod Pasted
 pub mod Answers
--- document 01's examples P1 to P4, computed
-pub mod Examples
 -- names used in the contracts of the functions that are not exported
 pub mod Inner
--- what is proved about these definitions
-pub mod Laws

@@ -1,5 +1,3 @@
 -- The steps in which the code makes the check. The check itself is defined in `vrf_store`.
 -- contracts of the steps
 pub mod Inner
--- laws about these steps
-pub mod Laws

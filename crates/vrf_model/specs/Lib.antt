@@ -16,7 +16,3 @@ pub mod Untouched
 pub mod Lawful
 pub mod LateJoin
 pub mod OneBlock
--- Document 01's examples and further ones, computed from the definitions.
-pub mod Examples
--- What is proved about the definitions.
-pub mod Laws

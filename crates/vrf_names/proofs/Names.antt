@@ -11,11 +11,11 @@ use mir.Facts.{to_z-of_z}
 use mir.Syntax.{w32}
 use mir.Val.{SFits, to_z, of_z}
 use Rattle.vrf_bitio.specs.Pasted.{pasted}
-use Rattle.vrf_bitio.specs.Laws.Pasted.{pasted-nil, pasted-cons, pasted-snoc, pasted-front}
+use Rattle.vrf_bitio.proofs.Laws.Pasted.{pasted-nil, pasted-cons, pasted-snoc, pasted-front}
 use Rattle.vrf_names.specs.Names.{decimal, suffix, rendered, refused, rendered_into}
 use Rattle.vrf_names.specs.Answers.{answer_of, RenderedAnswer}
 use Rattle.vrf_names.specs.Inner.Suffix.{suffix_text}
-use Rattle.vrf_names.specs.Laws.Names.{decimal-one, decimal-more, more-length, into-long, into-short, into-fits}
+use Rattle.vrf_names.proofs.Laws.Names.{decimal-one, decimal-more, more-length, into-long, into-short, into-fits}
 use Rattle.vrf_names.specs.declared.Rendered.{Rendered}
 use Rattle.vrf_names.specs.declared.Rendered.TheVariants.{Length, Refused}
 use Rattle.vrf_names.specs.declared.Suffix.{Suffix}

@@ -2,9 +2,5 @@
 -- code's answer type.
 pub mod Names
 pub mod Answers
--- their examples, computed
-pub mod Examples
 -- contracts of the functions that are not exported
 pub mod Inner
--- what is proved about these definitions
-pub mod Laws

@@ -13,7 +13,7 @@ use borrow.Author.Tests.{ltb-true, ltb-false}
 use Rattle.vrf_path.specs.Text.{same}
 use Rattle.vrf_path.specs.Keys.{default_prefix, characters_core, has_key, default_alias, core_alias, key_is}
 use Rattle.vrf_path.specs.Answers.{key_bytes}
-use Rattle.vrf_path.specs.Laws.Keys.{has-by-parts}
+use Rattle.vrf_path.proofs.Laws.Keys.{has-by-parts}
 use Rattle.vrf_path.specs.declared.Key.{Key}
 use Rattle.vrf_path.specs.declared.Key.TheVariants.{Itself, Stripped, Prefixed, Cut, Inserted}
 

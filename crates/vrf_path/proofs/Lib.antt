@@ -2,3 +2,7 @@
 pub mod Texts
 pub mod Keys
 pub mod Stems
+-- what is proved about these definitions
+pub mod Laws
+-- their examples, computed
+pub mod Examples

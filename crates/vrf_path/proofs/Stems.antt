@@ -10,9 +10,9 @@ use lib.Seq.{take-length}
 use Rattle.vrf_path.specs.Text.{last_below}
 use Rattle.vrf_path.specs.Stems.{digits_from, digit_stems, stems}
 use Rattle.vrf_path.specs.Answers.{stems_after, stems_from, StemAnswer}
-use Rattle.vrf_path.specs.Laws.Text.{last_within}
-use Rattle.vrf_path.specs.Laws.Leaf.{last-is}
-use Rattle.vrf_path.specs.Laws.Stems.{cut_at, cuts-last, cuts-past, rule-cut, rule-whole}
+use Rattle.vrf_path.proofs.Laws.Text.{last_within}
+use Rattle.vrf_path.proofs.Laws.Leaf.{last-is}
+use Rattle.vrf_path.proofs.Laws.Stems.{cut_at, cuts-last, cuts-past, rule-cut, rule-whole}
 use Rattle.vrf_path.specs.declared.Phase.TheVariants.{Underscore}
 use Rattle.vrf_path.specs.declared.Stem.{Stem}
 use Rattle.vrf_path.specs.declared.Stem.TheVariants.{At}

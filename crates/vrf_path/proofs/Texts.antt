@@ -11,7 +11,7 @@ use lib.Seq.{take_all}
 use borrow.Author.Tests.{eqb-true, eqb-false}
 use Rattle.vrf_path.specs.Text.{same, eight, starts_with, ends_with, last_below}
 use Rattle.vrf_path.specs.Inner.Text.{Differ}
-use Rattle.vrf_path.specs.Laws.Text.{differ-eight}
+use Rattle.vrf_path.proofs.Laws.Text.{differ-eight}
 
 -- the part `&t[i..]`, as the slice rule gives it
 pub part-from : (t : List ℕ) (i : ℕ) → take (length t - i) (drop i t) ≡ drop i t

@@ -7,9 +7,5 @@ pub mod Toggle
 pub mod Stems
 pub mod Base
 pub mod Answers
--- their examples, computed
-pub mod Examples
 -- definitions for inner contracts
 pub mod Inner
--- what is proved about these definitions
-pub mod Laws

@@ -1,4 +1,2 @@
 -- What the contracts of `vrf_reader` are stated with. The readers themselves are defined in `vrf_model`.
 pub mod Inner
--- What the proofs of these contracts use.
-pub mod Laws

@@ -9,5 +9,3 @@ pub mod Demand1
 pub mod Demand3
 -- contracts of private functions
 pub mod Inner
--- laws
-pub mod Laws

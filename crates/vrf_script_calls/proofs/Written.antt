@@ -1,7 +1,7 @@
 -- A block that was written is inside the buffer that was lent for it, and is not longer than a window may be.
 use Rattle.std.proofs.Common.{◌≡◌, ℕ, Bool, true, false, List, length, sym, refl, arith}
 use Rattle.vrf_model.specs.Writer.{written, not_written}
-use Rattle.vrf_model.specs.Laws.Writer.{write-accepts}
+use Rattle.vrf_model.proofs.Laws.Writer.{write-accepts}
 use Rattle.vrf_model.specs.declared.Wrote.{Wrote}
 use Rattle.vrf_model.specs.declared.Wrote.TheVariants.{Length, Refused}
 use Rattle.vrf_store.specs.Check.{check}

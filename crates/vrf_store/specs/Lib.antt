@@ -7,5 +7,3 @@ pub mod Check
 pub mod Opening
 -- contracts of the functions of `vrf_store`
 pub mod Inner
--- laws about these definitions and contracts
-pub mod Laws

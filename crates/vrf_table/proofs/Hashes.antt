@@ -3,7 +3,7 @@ use Rattle.std.proofs.Common.{◌≡◌, ℕ, suc, ◌+◌, ◌-◌, ◌*◌, �
 use Rattle.vrf_path.specs.Text.{four, eight}
 use Rattle.vrf_words.specs.Words.{word}
 use Rattle.vrf_table.specs.TextIndex.{turn, four_turns, hash_up_to, last_turns, text_hash}
-use Rattle.vrf_table.specs.Laws.Spelled.{part-following}
+use Rattle.vrf_table.proofs.Laws.Spelled.{part-following}
 
 pub mixed-fits : (a b : ℕ) → a < 2 ^ 32 → b < 2 ^ 32 → a * 2654435761 + b * 40503 < 2 ^ 64
 mixed-fits a b h k = omega arith

@@ -2,3 +2,5 @@
 pub mod Hashes
 pub mod Texts
 pub mod Walks
+-- laws about these definitions
+pub mod Laws

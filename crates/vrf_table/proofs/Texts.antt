@@ -1,14 +1,14 @@
 -- Laws for the functions that compare texts: the part of the memory that holds a row's text, keys by number, and leaves.
 use Rattle.std.proofs.Common.{◌≡◌, ℕ, zero, suc, ◌+◌, ◌-◌, ◌<◌, Bool, true, false, ◌&&◌, eqb, List, [], ◌∷◌, ◌++◌, length, get_or, take, drop, sym, refl, ap, ◌∙◌, arith, length-drop, take-append-drop, length-take, take_all, drop-drop}
 use mathlib.Core.Bool.{and-true, and-false}
-use Rattle.vrf_bitio.specs.Laws.Cases.{clash}
+use Rattle.vrf_bitio.proofs.Laws.Cases.{clash}
 use Rattle.vrf_path.specs.Text.{same}
 use Rattle.vrf_path.specs.Keys.{core_alias, key_is}
 use Rattle.vrf_path.specs.Leaf.{leaf}
 use Rattle.vrf_path.specs.Inner.Leaf.{Dotless}
-use Rattle.vrf_path.specs.Laws.Text.{same_refl, same_true}
-use Rattle.vrf_path.specs.Laws.Keys.{the-true}
-use Rattle.vrf_path.specs.Laws.Leaf.{LeafIs, leaf-is, is_leaf}
+use Rattle.vrf_path.proofs.Laws.Text.{same_refl, same_true}
+use Rattle.vrf_path.proofs.Laws.Keys.{the-true}
+use Rattle.vrf_path.proofs.Laws.Leaf.{LeafIs, leaf-is, is_leaf}
 use Rattle.vrf_words.specs.Words.{part}
 use Rattle.vrf_table.specs.Table.{at, len, text}
 use Rattle.vrf_table.specs.TextIndex.{key_numbered}

@@ -5,7 +5,7 @@ use Rattle.vrf_model.specs.Lookup.{absent, ambiguous, claimed}
 use Rattle.vrf_table.specs.Chain.{walk}
 use Rattle.vrf_table.specs.Index.{claim_unless_second, claim_from, claim_walk}
 use Rattle.vrf_table.specs.Inner.Answers.{entry}
-use Rattle.vrf_table.specs.Laws.Chain.{walk_at, walk-past, walk-skip, walk-nil, walk-passes}
+use Rattle.vrf_table.proofs.Laws.Chain.{walk_at, walk-past, walk-skip, walk-nil, walk-passes}
 use Rattle.vrf_table.specs.declared.Entry.{Entry}
 use Rattle.vrf_table.specs.declared.Entry.TheVariants.{At, Nowhere}
 

@@ -6,5 +6,3 @@ pub mod Table
 pub mod TextIndex
 -- names used in contracts
 pub mod Inner
--- laws about these definitions
-pub mod Laws

@@ -2,9 +2,5 @@
 -- defines where that text is in the output buffer.
 pub mod Tally
 pub mod Printed
--- computed examples
-pub mod Examples
 -- definitions for the private functions
 pub mod Inner
--- laws
-pub mod Laws

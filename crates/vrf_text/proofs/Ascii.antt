@@ -10,12 +10,12 @@ use lib.ListN.{take, drop}
 use lib.Pow.{pow-lt, pow-add, shl-shr}
 use lib.Seq.{get_or-take, get_or-drop}
 use Rattle.vrf_bitio.specs.Bits.{bit_of, bits_of, bytes_of, Bytes}
-use Rattle.vrf_bitio.specs.Laws.Cases.{by_order}
-use Rattle.vrf_bitio.specs.Laws.Runs.{run_at, bytes_run}
-use Rattle.vrf_bitio.specs.Laws.Bits.{bits-lt, bits-split}
+use Rattle.vrf_bitio.proofs.Laws.Cases.{by_order}
+use Rattle.vrf_bitio.proofs.Laws.Runs.{run_at, bytes_run}
+use Rattle.vrf_bitio.proofs.Laws.Bits.{bits-lt, bits-split}
 use Rattle.vrf_text.specs.Utf8.{utf8}
 use Rattle.vrf_text.specs.Inner.Steps.{byte_of, WordHolds, Clear}
-use Rattle.vrf_text.specs.Laws.Utf8.{utf8-ascii}
+use Rattle.vrf_text.proofs.Laws.Utf8.{utf8-ascii}
 use Rattle.vrf_text.proofs.Runs.{holds-in}
 
 -- bit b of each of k bytes

@@ -9,10 +9,10 @@ use lib.Dec.{eqb}
 use lib.ListN.{get_or, drop}
 use lib.Seq.{get_or-drop, drop-drop}
 use borrow.Author.Tests.{le-leb, lt-leb, ne_eqb}
-use Rattle.vrf_bitio.specs.Laws.Cases.{by_order, clash}
+use Rattle.vrf_bitio.proofs.Laws.Cases.{by_order, clash}
 use Rattle.vrf_text.specs.Utf8.{asks, bad, lead, within, utf8_from, utf8}
 use Rattle.vrf_text.specs.Inner.Steps.{byte_of, WordHolds, Utf8Step}
-use Rattle.vrf_text.specs.Laws.Utf8.{utf8-lead, utf8-bad, lead-1, lead-2, lo-3, hi-3, lead-3, lo-4, hi-4, lead-4}
+use Rattle.vrf_text.proofs.Laws.Utf8.{utf8-lead, utf8-bad, lead-1, lead-2, lo-3, hi-3, lead-3, lo-4, hi-4, lead-4}
 
 -- ---- lead bytes and tail bytes at the start of a list
 

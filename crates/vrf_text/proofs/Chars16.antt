@@ -5,10 +5,10 @@ use mathlib.Core.Path.{◌≡◌, refl, sym, ap, ◌∙◌}
 use Prim.Native.Nat.{ℕ, ◌+◌, ◌*◌, ◌/◌, ◌%◌, ◌≤◌, ◌<◌}
 use native.Mathlib.Omega.{arith}
 use lib.ListN.{get_or, drop}
-use Rattle.vrf_bitio.specs.Laws.Cases.{at_most, clash}
+use Rattle.vrf_bitio.proofs.Laws.Cases.{at_most, clash}
 use Rattle.vrf_text.specs.Utf16.{Kind, single, high, low, kind, pair, before, utf16_from, utf16}
 use Rattle.vrf_text.specs.Inner.Steps.{WordHolds16, UnitsTaken, Utf16Step}
-use Rattle.vrf_text.specs.Laws.Utf16.{kind-below, kind-above, kind-high, kind-low, single-first, high-first, low_second}
+use Rattle.vrf_text.proofs.Laws.Utf16.{kind-below, kind-above, kind-high, kind-low, single-first, high-first, low_second}
 
 pub low-range : (a : ℕ) → kind a ≡ low → (0xDC00 ≤ a) × (a ≤ 0xDFFF)
 unfolding kind

@@ -7,8 +7,8 @@ use native.Mathlib.Omega.{arith}
 use lib.ListN.{length, drop, length-append, drop_of_length-le}
 use lib.Seq.{drop-drop}
 use Rattle.vrf_bitio.specs.Pasted.{pasted}
-use Rattle.vrf_bitio.specs.Laws.Cases.{clash}
-use Rattle.vrf_bitio.specs.Laws.Pasted.{pasted-nil, pasted_length, pasted-append}
+use Rattle.vrf_bitio.proofs.Laws.Cases.{clash}
+use Rattle.vrf_bitio.proofs.Laws.Pasted.{pasted-nil, pasted_length, pasted-append}
 use Rattle.vrf_text.specs.Utf16.{before, utf16, utf16_from, utf8_of, utf8_chars, units_to_utf8}
 use Rattle.vrf_text.specs.Inner.Steps.{units_of, WordHolds16, UnitsTaken, Utf16Step, FitsTarget, WroteText}
 use Rattle.vrf_text.proofs.Runs.{units-drop}

@@ -9,3 +9,7 @@ pub mod Decoding
 pub mod Texts
 pub mod Words
 pub mod Takes
+-- what is proved about these definitions
+pub mod Laws
+-- their examples, computed
+pub mod Examples

@@ -9,8 +9,8 @@ use lib.Dec.{eqb}
 use lib.ListN.{length, get_or, take, drop, length-take, length-drop}
 use lib.Seq.{get_or-take, get_or-drop, ext_get_or}
 use Rattle.vrf_bitio.specs.Bits.{bits_of, bytes_of, packed_bits}
-use Rattle.vrf_bitio.specs.Laws.Runs.{runs, run_length, run_at, run_take, run_drop, bytes_run}
-use Rattle.vrf_bitio.specs.Laws.Bits.{bits-lt, bits-split, bits-low, bits-high, bits-byte}
+use Rattle.vrf_bitio.proofs.Laws.Runs.{runs, run_length, run_at, run_take, run_drop, bytes_run}
+use Rattle.vrf_bitio.proofs.Laws.Bits.{bits-lt, bits-split, bits-low, bits-high, bits-byte}
 use Rattle.vrf_text.specs.Utf16.{units}
 use Rattle.vrf_text.specs.Text.{drop_zero}
 use Rattle.vrf_text.specs.Inner.Steps.{byte_of, WordHolds, WordHolds16, units_of}

@@ -11,9 +11,9 @@ use Rattle.vrf_bitio.specs.Reading.{ok}
 use Rattle.vrf_bitio.specs.Window.{rest, copied}
 use Rattle.vrf_bitio.specs.Pasted.{pasted}
 use Rattle.vrf_bitio.specs.Answers.{read_at, Gave, Refuses, CopiedAnswer}
-use Rattle.vrf_bitio.specs.Laws.Cases.{clash}
-use Rattle.vrf_bitio.specs.Laws.Runs.{bytes_run}
-use Rattle.vrf_bitio.specs.Laws.Answers.{refused-first, refused-then, gave_then}
+use Rattle.vrf_bitio.proofs.Laws.Cases.{clash}
+use Rattle.vrf_bitio.proofs.Laws.Runs.{bytes_run}
+use Rattle.vrf_bitio.proofs.Laws.Answers.{refused-first, refused-then, gave_then}
 use Rattle.vrf_bitio.specs.declared.Copied.{Copied}
 use Rattle.vrf_bitio.specs.declared.Copied.TheVariants.{Done, Refused as NotCopied}
 use Rattle.vrf_bitio.specs.declared.Cursor.{Cursor}

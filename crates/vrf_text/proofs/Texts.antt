@@ -10,21 +10,21 @@ use lib.Dec.{ltb, eqb}
 use lib.ListN.{length}
 use borrow.Author.Tests.{lt-ltb, le-ltb, ltb-false}
 use Rattle.vrf_bitio.specs.Bits.{bits_of, bytes_of}
-use Rattle.vrf_bitio.specs.Laws.Cases.{neither}
+use Rattle.vrf_bitio.proofs.Laws.Cases.{neither}
 use Rattle.vrf_bitio.specs.Reading.{Read, ok, refused}
 use Rattle.vrf_bitio.specs.Window.{rest}
 use Rattle.vrf_bitio.specs.Inner.Cursor.{moved}
 use Rattle.vrf_bitio.specs.Answers.{rest_of, read_at, Gave}
-use Rattle.vrf_bitio.specs.Laws.Runs.{runs, bytes_run}
-use Rattle.vrf_bitio.specs.Laws.Bits.{bytes_take, bytes_drop}
-use Rattle.vrf_bitio.specs.Laws.Reading.{bind_ok, bind-refused}
-use Rattle.vrf_bitio.specs.Laws.Window.{bytes-length, rest-length}
+use Rattle.vrf_bitio.proofs.Laws.Runs.{runs, bytes_run}
+use Rattle.vrf_bitio.proofs.Laws.Bits.{bytes_take, bytes_drop}
+use Rattle.vrf_bitio.proofs.Laws.Reading.{bind_ok, bind-refused}
+use Rattle.vrf_bitio.proofs.Laws.Window.{bytes-length, rest-length}
 use Rattle.vrf_bitio.specs.declared.Cursor.{Cursor}
 use Rattle.vrf_text.specs.Utf8.{utf8}
 use Rattle.vrf_text.specs.Utf16.{units_to_utf8}
 use Rattle.vrf_text.specs.Text.{text_bytes, drop_zero, as_utf8, checked, text8, text16}
 use Rattle.vrf_text.specs.Inner.Steps.{units_of, bit_at}
-use Rattle.vrf_text.specs.Laws.Text.{text_bytes-ok}
+use Rattle.vrf_text.proofs.Laws.Text.{text_bytes-ok}
 use Rattle.vrf_text.proofs.Runs.{run-trim, units-run}
 
 -- ---- the bytes of a text

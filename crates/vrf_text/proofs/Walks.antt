@@ -7,7 +7,7 @@ use native.Mathlib.Omega.{arith}
 use lib.ListN.{length, take, drop, length-drop, drop_of_length-le}
 use lib.Seq.{take_all, drop-drop}
 use Rattle.vrf_bitio.specs.Bits.{bytes_of}
-use Rattle.vrf_bitio.specs.Laws.Bits.{bytes_drop}
+use Rattle.vrf_bitio.proofs.Laws.Bits.{bytes_drop}
 use Rattle.vrf_text.specs.Utf8.{utf8, utf8_from}
 use Rattle.vrf_text.specs.Inner.Steps.{Passed, Clear}
 use Rattle.vrf_text.proofs.Ascii.{clear-on}

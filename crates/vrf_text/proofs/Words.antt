@@ -15,16 +15,16 @@ use Rattle.vrf_bitio.specs.Reading.{Read, ok, refused, return}
 use Rattle.vrf_bitio.specs.Window.{rest}
 use Rattle.vrf_bitio.specs.Number.{word32, int32, signed}
 use Rattle.vrf_bitio.specs.Answers.{rest_of, read_at, Gave, Refuses}
-use Rattle.vrf_bitio.specs.Laws.Cases.{by_cond, by_order, clash}
-use Rattle.vrf_bitio.specs.Laws.Bits.{bits-lt}
-use Rattle.vrf_bitio.specs.Laws.Reading.{bind_ok, bind-refused}
-use Rattle.vrf_bitio.specs.Laws.Window.{word-found, word-lacks}
-use Rattle.vrf_bitio.specs.Laws.Answers.{gave-return}
+use Rattle.vrf_bitio.proofs.Laws.Cases.{by_cond, by_order, clash}
+use Rattle.vrf_bitio.proofs.Laws.Bits.{bits-lt}
+use Rattle.vrf_bitio.proofs.Laws.Reading.{bind_ok, bind-refused}
+use Rattle.vrf_bitio.proofs.Laws.Window.{word-found, word-lacks}
+use Rattle.vrf_bitio.proofs.Laws.Answers.{gave-return}
 use Rattle.vrf_bitio.specs.declared.Cursor.{Cursor}
 use Rattle.vrf_bitio.specs.declared.Refusal.{Refusal}
 use Rattle.vrf_text.specs.Text.{text8, text16, text_of, fstring}
 use Rattle.vrf_text.specs.Inner.Steps.{bit_at, LengthOf, FoundAnswer}
-use Rattle.vrf_text.specs.Laws.Text.{text_of-8, fstring-at}
+use Rattle.vrf_text.proofs.Laws.Text.{text_of-8, fstring-at}
 use Rattle.vrf_text.specs.declared.FoundText.{FoundText}
 use Rattle.vrf_text.specs.declared.FoundText.TheVariants.{Bytes, Units, Refused}
 use Rattle.vrf_text.specs.declared.Length.{Length}

@@ -4,9 +4,5 @@ pub mod Utf8
 pub mod Utf16
 pub mod Text
 pub mod Answers
--- their examples, computed
-pub mod Examples
 -- contracts of the functions that are not exported
 pub mod Inner
--- what is proved about these definitions
-pub mod Laws

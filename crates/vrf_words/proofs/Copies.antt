@@ -9,9 +9,9 @@ use native.Mathlib.Omega.{arith}
 use lib.ListN.{length, get_or, set, drop, length-drop}
 use lib.Seq.{take-suc, take-add, drop-drop, get_or-drop, ext_get_or}
 use Rattle.vrf_bitio.specs.Pasted.{pasted}
-use Rattle.vrf_bitio.specs.Laws.Pasted.{pasted-nil, pasted-cons, pasted_length, pasted-append, Outside, before, following, get_d-pasted-out, get_d-pasted-in}
+use Rattle.vrf_bitio.proofs.Laws.Pasted.{pasted-nil, pasted-cons, pasted_length, pasted-append, Outside, before, following, get_d-pasted-out, get_d-pasted-in}
 use Rattle.vrf_words.specs.Words.{part}
-use Rattle.vrf_words.specs.Laws.Words.{length_part, get_d_part, whole_part}
+use Rattle.vrf_words.proofs.Laws.Words.{length_part, get_d_part, whole_part}
 
 -- ---- the n bytes of t from byte a on, written into l from byte `at` on
 

@@ -8,10 +8,10 @@ use lib.ListN.{length, get_or, set, drop, replicate, length-set, length-drop, le
 use lib.Seq.{take-suc, get_or-drop}
 use Rattle.vrf_bitio.specs.Number.{low_bytes}
 use Rattle.vrf_bitio.specs.Pasted.{pasted}
-use Rattle.vrf_bitio.specs.Laws.Pasted.{pasted-nil, pasted-cons, pasted_length, pasted-append, Outside, before, following, get_d-pasted-out}
+use Rattle.vrf_bitio.proofs.Laws.Pasted.{pasted-nil, pasted-cons, pasted_length, pasted-append, Outside, before, following, get_d-pasted-out}
 use Rattle.vrf_words.specs.Words.{part}
 use Rattle.vrf_words.specs.Inner.Words.{set_word, Apart, below, above}
-use Rattle.vrf_words.specs.Laws.Words.{length_part}
+use Rattle.vrf_words.proofs.Laws.Words.{length_part}
 
 -- storing one byte
 one : (l : List ℕ) (at b : ℕ) → at < length l → set l at b ≡ pasted l at (b ∷ [])

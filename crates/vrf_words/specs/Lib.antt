@@ -2,5 +2,3 @@
 pub mod Words
 -- names used in contracts: a written word, byte ranges that do not overlap
 pub mod Inner
--- laws about words and parts
-pub mod Laws

@@ -3,5 +3,3 @@
 pub mod Writes
 -- contracts of the functions that write, measure and search
 pub mod Inner
--- laws
-pub mod Laws

@@ -4,7 +4,7 @@ use mathlib.Core.Option.{Option}
 use Prim.Native.Nat.{ℕ}
 use borrow.Author.Rules.{rules}
 use Rattle.vrf_table.specs.TextIndex.{find_path}
-use Rattle.vrf_check.specs.Laws.Steps.{alias-gone, alias-there}
+use Rattle.vrf_check.proofs.Laws.Steps.{alias-gone, alias-there}
 use Rattle.vrf_check.proofs.alias_ok.Statement.{statement}
 use Rattle.vrf_check.proofs.alias_ok.Tie as tie
 

@@ -3,7 +3,7 @@ use mathlib.Core.Path.{ap}
 use native.Mathlib.Omega.{arith}
 use lib.ListN.{length}
 use borrow.Author.Rules.{rules}
-use Rattle.vrf_table.specs.Laws.Spelled.{key-short, written-part, written-within}
+use Rattle.vrf_table.proofs.Laws.Spelled.{key-short, written-part, written-within}
 use Rattle.vrf_check.proofs.alias_reaches.Statement.{statement}
 use Rattle.vrf_check.proofs.alias_reaches.Tie as tie
 

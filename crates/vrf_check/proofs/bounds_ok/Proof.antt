@@ -7,7 +7,7 @@ use borrow.Author.Tests.{le-leb, lt-leb}
 use Rattle.vrf_store.specs.Layout
 use Rattle.vrf_store.specs.Store.{allowances_of}
 use Rattle.vrf_store.specs.Check.{bounds_ok}
-use Rattle.vrf_check.specs.Laws.Tests.{and-stop, and-on, stops, goes_on}
+use Rattle.vrf_check.proofs.Laws.Tests.{and-stop, and-on, stops, goes_on}
 use Rattle.vrf_check.proofs.bounds_ok.Statement.{statement}
 use Rattle.vrf_check.proofs.bounds_ok.Tie as tie
 

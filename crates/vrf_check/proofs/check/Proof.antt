@@ -1,9 +1,9 @@
 -- `vrf_check::check` satisfies its contract.
 use borrow.Author.Rules.{rules}
 use Rattle.vrf_store.specs.Check.{check}
-use Rattle.vrf_store.specs.Laws.Check.Steps.{holds}
-use Rattle.vrf_check.specs.Laws.Tests.{stops, goes_on}
-use Rattle.vrf_check.specs.Laws.Steps.{in_bounds}
+use Rattle.vrf_store.proofs.Laws.Check.Steps.{holds}
+use Rattle.vrf_check.proofs.Laws.Tests.{stops, goes_on}
+use Rattle.vrf_check.proofs.Laws.Steps.{in_bounds}
 use Rattle.vrf_check.proofs.check.Statement.{statement}
 use Rattle.vrf_check.proofs.check.Tie as tie
 

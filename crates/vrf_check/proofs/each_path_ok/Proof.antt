@@ -4,9 +4,9 @@ use mathlib.Core.Bool.{Bool, true}
 use Prim.Native.Nat.{ℕ, ◌-◌, ◌≤◌}
 use native.Mathlib.Omega.{arith}
 use Rattle.vrf_store.specs.UpTo.{all_below}
-use Rattle.vrf_store.specs.Laws.Check.Steps.{fails, holds}
+use Rattle.vrf_store.proofs.Laws.Check.Steps.{fails, holds}
 use Rattle.vrf_check.specs.Inner.Steps.{path_ok}
-use Rattle.vrf_check.specs.Laws.Tests.{stops, goes_on, all_first, all-last, all-next, all-stop}
+use Rattle.vrf_check.proofs.Laws.Tests.{stops, goes_on, all_first, all-last, all-next, all-stop}
 use Rattle.vrf_check.proofs.each_path_ok.Statement.{statement}
 use Rattle.vrf_check.proofs.each_path_ok.Tie as tie
 

@@ -5,8 +5,8 @@ use Prim.Native.Nat.{ℕ, ◌-◌, ◌≤◌}
 use native.Mathlib.Omega.{arith}
 use Rattle.vrf_store.specs.UpTo.{all_below}
 use Rattle.vrf_check.specs.Inner.Steps.{row_ok}
-use Rattle.vrf_store.specs.Laws.Check.Steps.{fails, holds}
-use Rattle.vrf_check.specs.Laws.Tests.{all_first, all-last, all-next, all-stop}
+use Rattle.vrf_store.proofs.Laws.Check.Steps.{fails, holds}
+use Rattle.vrf_check.proofs.Laws.Tests.{all_first, all-last, all-next, all-stop}
 use Rattle.vrf_check.proofs.each_row_ok.Statement.{statement}
 use Rattle.vrf_check.proofs.each_row_ok.Tie as tie
 

@@ -4,7 +4,7 @@ use native.Mathlib.Omega.{arith}
 use borrow.Author.Rules.{rules}
 use Rattle.vrf_table.specs.Table.{key}
 use Rattle.vrf_check.specs.Inner.Steps.{field_row_ok, slot_in}
-use Rattle.vrf_check.specs.Laws.Tests.{and-on, stops, goes_on, info-32}
+use Rattle.vrf_check.proofs.Laws.Tests.{and-on, stops, goes_on, info-32}
 use Rattle.vrf_check.proofs.field_ok.Statement.{statement}
 use Rattle.vrf_check.proofs.field_ok.Tie as tie
 

@@ -1,6 +1,6 @@
 -- `vrf_check::is_settled` satisfies its contract.
 use borrow.Author.Rules.{rules}
-use Rattle.vrf_table.specs.Laws.Answers.{claim-one}
+use Rattle.vrf_table.proofs.Laws.Answers.{claim-one}
 use Rattle.vrf_store.specs.Check.{is_settled}
 use Rattle.vrf_check.proofs.is_settled.Statement.{statement}
 use Rattle.vrf_check.proofs.is_settled.Tie as tie

@@ -10,10 +10,10 @@ use borrow.Author.Rules.{rules}
 use Rattle.vrf_table.specs.TextIndex.{key_numbered, find_path}
 use Rattle.vrf_store.specs.Check.{reach_ok}
 use Rattle.vrf_store.specs.Inner.Check.{Walked}
-use Rattle.vrf_store.specs.Laws.Check.Steps.{path-short}
+use Rattle.vrf_store.proofs.Laws.Check.Steps.{path-short}
 use Rattle.vrf_check.specs.Inner.Steps.{key_reach, keys_reach}
-use Rattle.vrf_check.specs.Laws.Tests.{stops, goes_on}
-use Rattle.vrf_check.specs.Laws.Steps.{numbered}
+use Rattle.vrf_check.proofs.Laws.Tests.{stops, goes_on}
+use Rattle.vrf_check.proofs.Laws.Steps.{numbered}
 use Rattle.vrf_check.proofs.keys_ok.Statement.{statement}
 use Rattle.vrf_check.proofs.keys_ok.Tie as tie
 

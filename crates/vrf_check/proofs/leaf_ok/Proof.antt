@@ -7,9 +7,9 @@ use Rattle.vrf_path.specs.Answers.{LeafAnswer}
 use Rattle.vrf_path.specs.declared.Leaf.TheVariants.{At}
 use Rattle.vrf_model.specs.Lookup.{Claim}
 use Rattle.vrf_table.specs.TextIndex.{claim_of}
-use Rattle.vrf_store.specs.Laws.Check.Steps.{leaf-short, leaf-dotless}
+use Rattle.vrf_store.proofs.Laws.Check.Steps.{leaf-short, leaf-dotless}
 use Rattle.vrf_check.specs.Inner.Steps.{leaf_settled}
-use Rattle.vrf_check.specs.Laws.Steps.{leaf-there, leaf-none}
+use Rattle.vrf_check.proofs.Laws.Steps.{leaf-there, leaf-none}
 use Rattle.vrf_check.proofs.leaf_ok.Statement.{statement}
 use Rattle.vrf_check.proofs.leaf_ok.Tie as tie
 

@@ -5,7 +5,7 @@ use native.Mathlib.Omega.{arith}
 use borrow.Author.Rules.{rules}
 use Rattle.vrf_table.specs.Table.{len}
 use Rattle.vrf_store.specs.UpTo.{sum_below}
-use Rattle.vrf_store.specs.Laws.Check.Steps.{sum-next}
+use Rattle.vrf_store.proofs.Laws.Check.Steps.{sum-next}
 use Rattle.vrf_check.proofs.length_sum.Statement.{statement}
 use Rattle.vrf_check.proofs.length_sum.Tie as tie
 

@@ -1,7 +1,7 @@
 -- `vrf_check::paths_ok` satisfies its contract.
 use borrow.Author.Rules.{rules}
 use Rattle.vrf_check.specs.Inner.Steps.{paths_ok}
-use Rattle.vrf_check.specs.Laws.Steps.{paths-walked, leaves-walked}
+use Rattle.vrf_check.proofs.Laws.Steps.{paths-walked, leaves-walked}
 use Rattle.vrf_check.proofs.paths_ok.Statement.{statement}
 use Rattle.vrf_check.proofs.paths_ok.Tie as tie
 

@@ -5,7 +5,7 @@ use borrow.Author.Rules.{rules}
 use borrow.Author.Tests.{le-leb, lt-leb}
 use Rattle.vrf_table.specs.Table.{info}
 use Rattle.vrf_check.specs.Inner.Steps.{row_ok}
-use Rattle.vrf_check.specs.Laws.Tests.{and-stop, and-on, is_32, not-32}
+use Rattle.vrf_check.proofs.Laws.Tests.{and-stop, and-on, is_32, not-32}
 use Rattle.vrf_check.proofs.row_ok.Statement.{statement}
 use Rattle.vrf_check.proofs.row_ok.Tie as tie
 

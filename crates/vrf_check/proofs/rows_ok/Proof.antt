@@ -1,7 +1,7 @@
 -- `vrf_check::rows_ok` satisfies its contract.
 use borrow.Author.Rules.{rules}
 use Rattle.vrf_check.specs.Inner.Steps.{rows_ok}
-use Rattle.vrf_check.specs.Laws.Tests.{stops, goes_on}
+use Rattle.vrf_check.proofs.Laws.Tests.{stops, goes_on}
 use Rattle.vrf_check.proofs.rows_ok.Statement.{statement}
 use Rattle.vrf_check.proofs.rows_ok.Tie as tie
 

@@ -5,7 +5,7 @@ use lib.Dec.{ltb}
 use borrow.Author.Rules.{rules}
 use borrow.Author.Tests.{lt-ltb, le-ltb}
 use Rattle.vrf_check.specs.Inner.Steps.{slot_in}
-use Rattle.vrf_check.specs.Laws.Tests.{and-stop, and-on}
+use Rattle.vrf_check.proofs.Laws.Tests.{and-stop, and-on}
 use Rattle.vrf_check.proofs.slot_ok.Statement.{statement}
 use Rattle.vrf_check.proofs.slot_ok.Tie as tie
 

@@ -4,10 +4,10 @@ use mathlib.Core.Bool.{Bool, ◌&&◌}
 use borrow.Author.Rules.{rules}
 use Rattle.vrf_store.specs.Store.{Store, store_of}
 use Rattle.vrf_store.specs.Check.{store_ok}
-use Rattle.vrf_store.specs.Laws.Check.Steps.{holds}
+use Rattle.vrf_store.proofs.Laws.Check.Steps.{holds}
 use Rattle.vrf_check.specs.Inner.Steps.{texts_ok, rows_ok, paths_ok}
-use Rattle.vrf_check.specs.Laws.Tests.{stops, goes_on}
-use Rattle.vrf_check.specs.Laws.Steps.{steps_ok, store-steps}
+use Rattle.vrf_check.proofs.Laws.Tests.{stops, goes_on}
+use Rattle.vrf_check.proofs.Laws.Steps.{steps_ok, store-steps}
 use Rattle.vrf_check.proofs.store_ok.Statement.{statement}
 use Rattle.vrf_check.proofs.store_ok.Tie as tie
 

@@ -5,7 +5,7 @@ use borrow.Author.Rules.{rules}
 use borrow.Author.Tests.{le-leb, lt-leb}
 use Rattle.vrf_table.specs.Table.{at, len}
 use Rattle.vrf_store.specs.Check.{text_ok}
-use Rattle.vrf_check.specs.Laws.Tests.{and-stop, and-on}
+use Rattle.vrf_check.proofs.Laws.Tests.{and-stop, and-on}
 use Rattle.vrf_check.proofs.text_ok.Statement.{statement}
 use Rattle.vrf_check.proofs.text_ok.Tie as tie
 

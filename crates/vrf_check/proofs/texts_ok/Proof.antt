@@ -5,7 +5,7 @@ use lib.ListN.{length}
 use borrow.Author.Rules.{rules}
 use Rattle.vrf_store.specs.Store.{Store, store_of}
 use Rattle.vrf_check.specs.Inner.Steps.{texts_in, texts_ok}
-use Rattle.vrf_check.specs.Laws.Tests.{stops, goes_on}
+use Rattle.vrf_check.proofs.Laws.Tests.{stops, goes_on}
 use Rattle.vrf_check.proofs.texts_ok.Statement.{statement}
 use Rattle.vrf_check.proofs.texts_ok.Tie as tie
 

@@ -4,7 +4,7 @@ use Prim.Native.Nat.{◌≤◌, ◌+◌}
 use native.Mathlib.Omega.{arith}
 use lib.ListN.{length}
 use Rattle.vrf_names.specs.Names.{decimal}
-use Rattle.vrf_names.specs.Laws.Names.{decimal-one, more-length, decimal-some, decimal-length}
+use Rattle.vrf_names.proofs.Laws.Names.{decimal-one, more-length, decimal-some, decimal-length}
 use Rattle.vrf_names.proofs.decimal_len.Statement.{statement}
 use Rattle.vrf_names.proofs.decimal_len.Tie as tie
 

@@ -3,7 +3,7 @@ use mathlib.Core.Path.{sym, ◌∙◌}
 use native.Mathlib.Omega.{arith}
 use borrow.Author.Rules.{rules}
 use Rattle.vrf_names.specs.Names.{decimal}
-use Rattle.vrf_names.specs.Laws.Names.{put-fits, put-nothing}
+use Rattle.vrf_names.proofs.Laws.Names.{put-fits, put-nothing}
 use Rattle.vrf_names.proofs.put_decimal.Statement.{statement}
 use Rattle.vrf_names.proofs.put_decimal.Tie as tie
 

@@ -5,7 +5,7 @@ use native.Mathlib.Omega.{arith}
 use lib.ListN.{length, length-set}
 use Rattle.vrf_bitio.specs.Pasted.{pasted}
 use Rattle.vrf_names.specs.Names.{decimal}
-use Rattle.vrf_names.specs.Laws.Names.{more-length, decimal-some}
+use Rattle.vrf_names.proofs.Laws.Names.{more-length, decimal-some}
 use Rattle.vrf_names.proofs.Names.{digit-next, digit-last}
 use Rattle.vrf_names.proofs.put_digits.Statement.{statement}
 use Rattle.vrf_names.proofs.put_digits.Tie as tie

@@ -4,7 +4,7 @@ use Prim.Native.Nat.{suc, ◌-◌, ◌<◌}
 use native.Mathlib.Omega.{arith}
 use lib.IntN.{pos}
 use borrow.Author.Rules.{rules}
-use Rattle.vrf_bitio.specs.Laws.Signed.{is_zero, below-zero, above_zero}
+use Rattle.vrf_bitio.proofs.Laws.Signed.{is_zero, below-zero, above_zero}
 use Rattle.vrf_names.specs.Names.{suffix}
 use Rattle.vrf_names.proofs.suffix_of.Statement.{statement}
 use Rattle.vrf_names.proofs.suffix_of.Tie as tie

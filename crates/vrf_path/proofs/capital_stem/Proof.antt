@@ -3,7 +3,7 @@ use mathlib.Core.Path.{sym, ◌∙◌}
 use Prim.Native.Nat.{◌-◌}
 use native.Mathlib.Omega.{arith}
 use borrow.Author.Rules.{rules}
-use Rattle.vrf_path.specs.Laws.Stems.{capital-short, capital-past, capital-at, rule-capital}
+use Rattle.vrf_path.proofs.Laws.Stems.{capital-short, capital-past, capital-at, rule-capital}
 use Rattle.vrf_path.proofs.capital_stem.Statement.{statement}
 use Rattle.vrf_path.proofs.capital_stem.Tie as tie
 

@@ -5,7 +5,7 @@ use lib.ListN.{length}
 use lib.Seq.{take_all}
 use borrow.Author.Rules.{rules}
 use Rattle.vrf_path.specs.Stems.{component, underscore_c}
-use Rattle.vrf_path.specs.Laws.Base.{class-by-t, class-by-C, class-by-others}
+use Rattle.vrf_path.proofs.Laws.Base.{class-by-t, class-by-C, class-by-others}
 use Rattle.vrf_path.proofs.class_base.Statement.{statement}
 use Rattle.vrf_path.proofs.class_base.Tie as tie
 

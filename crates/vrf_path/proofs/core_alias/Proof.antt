@@ -3,7 +3,7 @@ use mathlib.Core.Path.{sym, ap, ◌∙◌}
 use borrow.Author.Rules.{rules}
 use Rattle.vrf_path.specs.Keys.{core_segment, characters_root}
 use Rattle.vrf_path.specs.Inner.Text.{place}
-use Rattle.vrf_path.specs.Laws.Keys.{core-cut, core-inserted, core-none}
+use Rattle.vrf_path.proofs.Laws.Keys.{core-cut, core-inserted, core-none}
 use Rattle.vrf_path.proofs.core_alias.Statement.{statement}
 use Rattle.vrf_path.proofs.core_alias.Tie as tie
 

@@ -4,8 +4,8 @@ use native.Mathlib.Omega.{arith}
 use lib.ListN.{length}
 use lib.Seq.{take_all}
 use borrow.Author.Rules.{rules}
-use Rattle.vrf_path.specs.Laws.Text.{ends-length}
-use Rattle.vrf_path.specs.Laws.Base.{cut-there, cut-not}
+use Rattle.vrf_path.proofs.Laws.Text.{ends-length}
+use Rattle.vrf_path.proofs.Laws.Base.{cut-there, cut-not}
 use Rattle.vrf_path.proofs.cut_at.Statement.{statement}
 use Rattle.vrf_path.proofs.cut_at.Tie as tie
 

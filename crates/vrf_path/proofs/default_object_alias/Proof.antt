@@ -2,7 +2,7 @@
 use mathlib.Core.Path.{sym, ◌∙◌}
 use borrow.Author.Rules.{rules}
 use Rattle.vrf_path.specs.Keys.{default_prefix}
-use Rattle.vrf_path.specs.Laws.Keys.{default-stripped, default_none, default-prefixed}
+use Rattle.vrf_path.proofs.Laws.Keys.{default-stripped, default_none, default-prefixed}
 use Rattle.vrf_path.proofs.default_object_alias.Statement.{statement}
 use Rattle.vrf_path.proofs.default_object_alias.Tie as tie
 

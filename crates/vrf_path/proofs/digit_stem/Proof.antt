@@ -3,7 +3,7 @@ use mathlib.Core.Path.{sym, ap, ◌∙◌}
 use native.Mathlib.Omega.{arith}
 use borrow.Author.Rules.{rules}
 use Rattle.vrf_path.specs.Stems.{digit_stems}
-use Rattle.vrf_path.specs.Laws.Stems.{digit-empty, digit-some, digit-none, rule-digits}
+use Rattle.vrf_path.proofs.Laws.Stems.{digit-empty, digit-some, digit-none, rule-digits}
 use Rattle.vrf_path.proofs.digit_stem.Statement.{statement}
 use Rattle.vrf_path.proofs.digit_stem.Tie as tie
 

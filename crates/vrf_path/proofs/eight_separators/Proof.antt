@@ -3,7 +3,7 @@ use mathlib.Core.Path.{◌≡◌}
 use Prim.Native.Nat.{◌+◌}
 use native.Mathlib.Omega.{arith}
 use borrow.Author.Rules.{rules}
-use Rattle.vrf_path.specs.Laws.Keys.{or-joined}
+use Rattle.vrf_path.proofs.Laws.Keys.{or-joined}
 use Rattle.vrf_path.proofs.eight_separators.Statement.{statement}
 use Rattle.vrf_path.proofs.eight_separators.Tie as tie
 

@@ -1,7 +1,7 @@
 -- `vrf_path::ends_with` satisfies its contract.
 use mathlib.Core.Path.{sym}
 use borrow.Author.Rules.{rules}
-use Rattle.vrf_path.specs.Laws.Text.{ends-short}
+use Rattle.vrf_path.proofs.Laws.Text.{ends-short}
 use Rattle.vrf_path.proofs.Texts.{ends_at}
 use Rattle.vrf_path.proofs.ends_with.Statement.{statement}
 use Rattle.vrf_path.proofs.ends_with.Tie as tie

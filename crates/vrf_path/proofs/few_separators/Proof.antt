@@ -4,7 +4,7 @@ use Prim.Native.Nat.{◌≤◌, ◌-◌}
 use native.Mathlib.Omega.{arith}
 use lib.ListN.{length, drop}
 use Rattle.vrf_path.specs.Keys.{has_separator}
-use Rattle.vrf_path.specs.Laws.Keys.{separator-next, separator-nowhere}
+use Rattle.vrf_path.proofs.Laws.Keys.{separator-next, separator-nowhere}
 use Rattle.vrf_path.proofs.few_separators.Statement.{statement}
 use Rattle.vrf_path.proofs.few_separators.Tie as tie
 

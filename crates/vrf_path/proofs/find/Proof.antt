@@ -7,7 +7,7 @@ use native.Mathlib.Omega.{arith}
 use lib.ListN.{length, get_or, drop}
 use borrow.Author.Rules.{rules}
 use Rattle.vrf_path.specs.Text.{starts_with, first_from}
-use Rattle.vrf_path.specs.Laws.Text.{starts_other, first-here, first-later, first-nowhere}
+use Rattle.vrf_path.proofs.Laws.Text.{starts_other, first-here, first-later, first-nowhere}
 use Rattle.vrf_path.proofs.Texts.{starts-at}
 use Rattle.vrf_path.proofs.find.Statement.{statement}
 use Rattle.vrf_path.proofs.find.Tie as tie

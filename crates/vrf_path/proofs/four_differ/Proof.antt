@@ -1,7 +1,7 @@
 -- `vrf_path::four_differ` satisfies its contract: word by word.
 use native.Mathlib.Omega.{arith}
 use borrow.Author.Rules.{rules}
-use Rattle.vrf_path.specs.Laws.Text.{agree-words}
+use Rattle.vrf_path.proofs.Laws.Text.{agree-words}
 use Rattle.vrf_path.proofs.Texts.{differ-four}
 use Rattle.vrf_path.proofs.four_differ.Statement.{statement}
 use Rattle.vrf_path.proofs.four_differ.Tie as tie

@@ -1,7 +1,7 @@
 -- `vrf_path::four_separators` satisfies its contract.
 use native.Mathlib.Omega.{arith}
 use borrow.Author.Rules.{rules}
-use Rattle.vrf_path.specs.Laws.Keys.{four-next}
+use Rattle.vrf_path.proofs.Laws.Keys.{four-next}
 use Rattle.vrf_path.proofs.four_separators.Statement.{statement}
 use Rattle.vrf_path.proofs.four_separators.Tie as tie
 

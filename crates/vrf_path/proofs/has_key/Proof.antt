@@ -6,7 +6,7 @@ use mathlib.Core.Path.{◌≡◌, refl, sym}
 use Prim.Native.Nat.{ℕ}
 use borrow.Author.Rules.{rules}
 use Rattle.vrf_path.specs.Keys.{core_alias, has_key, key_is}
-use Rattle.vrf_path.specs.Laws.Keys.{core-other}
+use Rattle.vrf_path.proofs.Laws.Keys.{core-other}
 use Rattle.vrf_path.proofs.Keys.{is-path, is-default, is-core}
 use Rattle.vrf_path.proofs.has_key.Statement.{statement}
 use Rattle.vrf_path.proofs.has_key.Tie as tie

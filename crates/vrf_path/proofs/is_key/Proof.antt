@@ -5,7 +5,7 @@ use mathlib.Core.Option.{Option}
 use Prim.Native.Nat.{ℕ}
 use borrow.Author.Rules.{rules}
 use Rattle.vrf_path.specs.Keys.{key_is}
-use Rattle.vrf_path.specs.Laws.Answers.{spelled-bytes, spelled-absent}
+use Rattle.vrf_path.proofs.Laws.Answers.{spelled-bytes, spelled-absent}
 use Rattle.vrf_path.proofs.is_key.Statement.{statement}
 use Rattle.vrf_path.proofs.is_key.Tie as tie
 

@@ -6,7 +6,7 @@ use native.Mathlib.Omega.{arith}
 use lib.ListN.{length, drop}
 use borrow.Author.Rules.{rules}
 use Rattle.vrf_path.specs.Text.{same}
-use Rattle.vrf_path.specs.Laws.Text.{same_ended, agree-before}
+use Rattle.vrf_path.proofs.Laws.Text.{same_ended, agree-before}
 use Rattle.vrf_path.proofs.Texts.{differ-four}
 use Rattle.vrf_path.proofs.last_differ.Statement.{statement}
 use Rattle.vrf_path.proofs.last_differ.Tie as tie

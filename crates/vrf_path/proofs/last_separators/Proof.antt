@@ -6,7 +6,7 @@ use native.Mathlib.Omega.{arith}
 use lib.ListN.{length, drop}
 use borrow.Author.Rules.{rules}
 use Rattle.vrf_path.specs.Keys.{has_separator}
-use Rattle.vrf_path.specs.Laws.Keys.{separator-nowhere, separators-or}
+use Rattle.vrf_path.proofs.Laws.Keys.{separator-nowhere, separators-or}
 use Rattle.vrf_path.proofs.last_separators.Statement.{statement}
 use Rattle.vrf_path.proofs.last_separators.Tie as tie
 

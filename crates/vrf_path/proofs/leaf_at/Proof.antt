@@ -5,8 +5,8 @@ use native.Mathlib.Omega.{arith}
 use lib.ListN.{length}
 use borrow.Author.Rules.{rules}
 use Rattle.vrf_path.specs.Inner.Text.{place}
-use Rattle.vrf_path.specs.Laws.Text.{last_within}
-use Rattle.vrf_path.specs.Laws.Leaf.{leaf-following, leaf-empty, leaf-no-dot}
+use Rattle.vrf_path.proofs.Laws.Text.{last_within}
+use Rattle.vrf_path.proofs.Laws.Leaf.{leaf-following, leaf-empty, leaf-no-dot}
 use Rattle.vrf_path.proofs.leaf_at.Statement.{statement}
 use Rattle.vrf_path.proofs.leaf_at.Tie as tie
 

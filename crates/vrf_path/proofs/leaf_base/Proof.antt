@@ -7,7 +7,7 @@ use lib.Seq.{take-take}
 use borrow.Author.Rules.{rules}
 use Rattle.vrf_path.specs.Toggle.{class_net_cache}
 use Rattle.vrf_path.specs.Base.{class_base}
-use Rattle.vrf_path.specs.Laws.Base.{leaf-by-e, leaf-by-others}
+use Rattle.vrf_path.proofs.Laws.Base.{leaf-by-e, leaf-by-others}
 use Rattle.vrf_path.proofs.leaf_base.Statement.{statement}
 use Rattle.vrf_path.proofs.leaf_base.Tie as tie
 

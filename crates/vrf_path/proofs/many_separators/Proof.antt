@@ -4,7 +4,7 @@ use Prim.Native.Nat.{◌+◌, ◌-◌, ◌<◌}
 use native.Mathlib.Omega.{arith}
 use lib.ListN.{length, drop}
 use Rattle.vrf_path.specs.Keys.{has_separator}
-use Rattle.vrf_path.specs.Laws.Keys.{or-joined, separators-end}
+use Rattle.vrf_path.proofs.Laws.Keys.{or-joined, separators-end}
 use Rattle.vrf_path.proofs.many_separators.Statement.{statement}
 use Rattle.vrf_path.proofs.many_separators.Tie as tie
 

@@ -3,7 +3,7 @@ use mathlib.Core.Path.{◌≡◌, refl, sym, ◌∙◌}
 use Prim.Native.Nat.{◌≤◌, ◌-◌}
 use native.Mathlib.Omega.{arith}
 use Rattle.vrf_path.specs.Text.{last_below}
-use Rattle.vrf_path.specs.Laws.Text.{last-here, last-earlier}
+use Rattle.vrf_path.proofs.Laws.Text.{last-here, last-earlier}
 use Rattle.vrf_path.proofs.Texts.{last-ended}
 use Rattle.vrf_path.proofs.rfind.Statement.{statement}
 use Rattle.vrf_path.proofs.rfind.Tie as tie

@@ -1,7 +1,7 @@
 -- `vrf_path::same` satisfies its contract: texts of different lengths differ, and the two loops compare the others.
 use mathlib.Core.Path.{sym}
 use borrow.Author.Rules.{rules}
-use Rattle.vrf_path.specs.Laws.Text.{same-lengths}
+use Rattle.vrf_path.proofs.Laws.Text.{same-lengths}
 use Rattle.vrf_path.proofs.same.Statement.{statement}
 use Rattle.vrf_path.proofs.same.Tie as tie
 

@@ -4,7 +4,7 @@ use Prim.Native.Nat.{◌≤◌, ◌-◌}
 use native.Mathlib.Omega.{arith}
 use lib.ListN.{length, drop}
 use Rattle.vrf_path.specs.Text.{same}
-use Rattle.vrf_path.specs.Laws.Text.{same-differ, same-agree, same_ended}
+use Rattle.vrf_path.proofs.Laws.Text.{same-differ, same-agree, same_ended}
 use Rattle.vrf_path.proofs.same_bytes.Statement.{statement}
 use Rattle.vrf_path.proofs.same_bytes.Tie as tie
 

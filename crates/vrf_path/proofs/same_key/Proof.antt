@@ -5,7 +5,7 @@ use native.Mathlib.Omega.{arith}
 use lib.ListN.{length, drop}
 use Rattle.vrf_path.specs.Text.{same}
 use Rattle.vrf_path.specs.Answers.{key_bytes}
-use Rattle.vrf_path.specs.Laws.Text.{same-lengths, same-differ, same-agree, same_ended}
+use Rattle.vrf_path.proofs.Laws.Text.{same-lengths, same-differ, same-agree, same_ended}
 use Rattle.vrf_path.proofs.same_key.Statement.{statement}
 use Rattle.vrf_path.proofs.same_key.Tie as tie
 

@@ -4,7 +4,7 @@ use Prim.Native.Nat.{◌-◌, ◌<◌}
 use native.Mathlib.Omega.{arith}
 use lib.ListN.{length, drop}
 use Rattle.vrf_path.specs.Text.{same}
-use Rattle.vrf_path.specs.Laws.Text.{end-decides}
+use Rattle.vrf_path.proofs.Laws.Text.{end-decides}
 use Rattle.vrf_path.proofs.same_words.Statement.{statement}
 use Rattle.vrf_path.proofs.same_words.Tie as tie
 

@@ -4,7 +4,7 @@ use native.Mathlib.Omega.{arith}
 use lib.ListN.{length-take}
 use borrow.Author.Rules.{rules}
 use Rattle.vrf_path.specs.Text.{starts_with}
-use Rattle.vrf_path.specs.Laws.Text.{starts-short}
+use Rattle.vrf_path.proofs.Laws.Text.{starts-short}
 use Rattle.vrf_path.proofs.starts_with.Statement.{statement}
 use Rattle.vrf_path.proofs.starts_with.Tie as tie
 

@@ -3,7 +3,7 @@ use mathlib.Core.Path.{sym, ◌∙◌}
 use native.Mathlib.Omega.{arith}
 use borrow.Author.Rules.{rules}
 use Rattle.vrf_path.specs.Toggle.{class_net_cache}
-use Rattle.vrf_path.specs.Laws.Toggle.{toggle-stripped, toggle-empty, toggle-appended}
+use Rattle.vrf_path.proofs.Laws.Toggle.{toggle-stripped, toggle-empty, toggle-appended}
 use Rattle.vrf_path.proofs.toggle_class_net_cache.Statement.{statement}
 use Rattle.vrf_path.proofs.toggle_class_net_cache.Tie as tie
 

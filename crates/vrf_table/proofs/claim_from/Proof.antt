@@ -2,7 +2,7 @@
 use Rattle.std.proofs.Common.{ℕ, ◌<◌, Bool, ◌++◌, refl, ◌∙◌, arith, rules}
 use Rattle.vrf_words.specs.Words.{word}
 use Rattle.vrf_table.specs.TextIndex.{leaf_hit}
-use Rattle.vrf_table.specs.Laws.Answers.{claim-entry}
+use Rattle.vrf_table.proofs.Laws.Answers.{claim-entry}
 use Rattle.vrf_table.proofs.Walks.{found_below, claim-absent, claim-one, claim-several}
 use Rattle.vrf_table.proofs.claim_from.Statement.{statement}
 use Rattle.vrf_table.proofs.claim_from.Tie as tie

@@ -3,7 +3,7 @@ use Rattle.std.proofs.Common.{◌≡◌, ℕ, ◌-◌, ◌≤◌, sym, refl, ap,
 use Rattle.vrf_words.specs.Words.{word}
 use Rattle.vrf_table.specs.Chain.{walk}
 use Rattle.vrf_table.specs.Table.{key, link, key_hit, key_start, find_key}
-use Rattle.vrf_table.specs.Laws.Table.{key_bucket-lt}
+use Rattle.vrf_table.proofs.Laws.Table.{key_bucket-lt}
 use Rattle.vrf_table.proofs.Walks.{walk-ended, walk-beyond, walk-found, walk-on}
 use Rattle.vrf_table.proofs.find_key.Statement.{statement}
 use Rattle.vrf_table.proofs.find_key.Tie as tie

@@ -3,7 +3,7 @@ use Rattle.std.proofs.Common.{◌≡◌, ◌-◌, ◌*◌, ◌/◌, ◌≤◌, s
 use Rattle.vrf_words.specs.Words.{word}
 use Rattle.vrf_table.specs.Chain.{walk}
 use Rattle.vrf_table.specs.TextIndex.{text_start, path_hit, find_path}
-use Rattle.vrf_table.specs.Laws.Table.{text_bucket-lt}
+use Rattle.vrf_table.proofs.Laws.Table.{text_bucket-lt}
 use Rattle.vrf_table.proofs.Walks.{walk-ended, walk-beyond, walk-found, walk-on}
 use Rattle.vrf_table.proofs.find_path.Statement.{statement}
 use Rattle.vrf_table.proofs.find_path.Tie as tie

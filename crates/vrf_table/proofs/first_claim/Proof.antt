@@ -1,7 +1,7 @@
 -- `vrf_table::first_claim` satisfies its contract.
 use Rattle.std.proofs.Common.{sym, ◌∙◌}
 use Rattle.vrf_table.specs.Inner.TextIndex.{first_at}
-use Rattle.vrf_table.specs.Laws.Answers.{later_first, later-next}
+use Rattle.vrf_table.proofs.Laws.Answers.{later_first, later-next}
 use Rattle.vrf_table.proofs.first_claim.Statement.{statement}
 use Rattle.vrf_table.proofs.first_claim.Tie as tie
 

@@ -1,7 +1,7 @@
 -- `vrf_table::key_bucket` satisfies its contract.
 use Rattle.std.proofs.Common.{◌≡◌, ◌-◌, true, false, ltb, arith, rules, le-ltb, lt-ltb}
 use Rattle.vrf_table.specs.Table.{key_bucket}
-use Rattle.vrf_table.specs.Laws.Table.{bucket-lt}
+use Rattle.vrf_table.proofs.Laws.Table.{bucket-lt}
 use Rattle.vrf_table.proofs.key_bucket.Statement.{statement}
 use Rattle.vrf_table.proofs.key_bucket.Tie as tie
 

@@ -1,7 +1,7 @@
 -- `vrf_table::key_is` satisfies its contract: one case for each key number.
 use Rattle.std.proofs.Common.{◌≡◌, sym, rules}
 use Rattle.vrf_path.specs.Keys.{core_alias, key_is}
-use Rattle.vrf_path.specs.Laws.Keys.{core-other}
+use Rattle.vrf_path.proofs.Laws.Keys.{core-other}
 use Rattle.vrf_table.specs.TextIndex.{key_numbered}
 use Rattle.vrf_table.proofs.Texts.{numbered-core}
 use Rattle.vrf_table.proofs.key_is.Statement.{statement}

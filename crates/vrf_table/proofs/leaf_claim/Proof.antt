@@ -4,7 +4,7 @@ use Rattle.vrf_path.specs.Base.{leaf_base}
 use Rattle.vrf_words.specs.Words.{word}
 use Rattle.vrf_table.specs.TextIndex.{text_start, leaf_start, claim_at, claim_of}
 use Rattle.vrf_table.specs.Inner.TextIndex.{leaf_bucket}
-use Rattle.vrf_table.specs.Laws.Table.{text_bucket-lt}
+use Rattle.vrf_table.proofs.Laws.Table.{text_bucket-lt}
 use Rattle.vrf_table.proofs.leaf_claim.Statement.{statement}
 use Rattle.vrf_table.proofs.leaf_claim.Tie as tie
 

@@ -1,7 +1,7 @@
 -- `vrf_tally::put_counts` satisfies its contract.
 use borrow.Author.Rules.{rules}
 use Rattle.vrf_model.specs.Answers.{counts_of}
-use Rattle.vrf_tally.specs.Laws.Printed.{counts-put}
+use Rattle.vrf_tally.proofs.Laws.Printed.{counts-put}
 use Rattle.vrf_tally.proofs.put_counts.Statement.{statement}
 use Rattle.vrf_tally.proofs.put_counts.Tie as tie
 

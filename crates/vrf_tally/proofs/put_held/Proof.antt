@@ -3,7 +3,7 @@ use native.Mathlib.Omega.{arith}
 use borrow.Author.Rules.{rules}
 use Rattle.vrf_bitio.specs.Ascii.{ascii}
 use Rattle.vrf_model.specs.Answers.{counts_of}
-use Rattle.vrf_tally.specs.Laws.Printed.{held-put}
+use Rattle.vrf_tally.proofs.Laws.Printed.{held-put}
 use Rattle.vrf_tally.proofs.put_held.Statement.{statement}
 use Rattle.vrf_tally.proofs.put_held.Tie as tie
 

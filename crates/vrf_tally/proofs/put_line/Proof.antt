@@ -3,7 +3,7 @@ use mathlib.Core.Path.{◌∙◌}
 use native.Mathlib.Omega.{arith}
 use lib.ListN.{length-set}
 use borrow.Author.Rules.{rules}
-use Rattle.vrf_tally.specs.Laws.Printed.{line-put}
+use Rattle.vrf_tally.proofs.Laws.Printed.{line-put}
 use Rattle.vrf_tally.proofs.put_line.Statement.{statement}
 use Rattle.vrf_tally.proofs.put_line.Tie as tie
 

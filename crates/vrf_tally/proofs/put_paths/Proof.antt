@@ -2,7 +2,7 @@
 use borrow.Author.Rules.{rules}
 use Rattle.vrf_bitio.specs.Ascii.{ascii}
 use Rattle.vrf_model.specs.Answers.{counts_of}
-use Rattle.vrf_tally.specs.Laws.Printed.{paths-put}
+use Rattle.vrf_tally.proofs.Laws.Printed.{paths-put}
 use Rattle.vrf_tally.proofs.put_paths.Statement.{statement}
 use Rattle.vrf_tally.proofs.put_paths.Tie as tie
 

@@ -1,7 +1,7 @@
 -- `vrf_tally::put_refusal` satisfies its contract.
 use borrow.Author.Rules.{rules}
 use Rattle.vrf_bitio.specs.Ascii.{ascii}
-use Rattle.vrf_tally.specs.Laws.Printed.{refusal-put}
+use Rattle.vrf_tally.proofs.Laws.Printed.{refusal-put}
 use Rattle.vrf_tally.proofs.put_refusal.Statement.{statement}
 use Rattle.vrf_tally.proofs.put_refusal.Tie as tie
 

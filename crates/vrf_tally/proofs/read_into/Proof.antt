@@ -5,7 +5,7 @@ use Rattle.vrf_model.specs.Calls.{whole}
 use Rattle.vrf_model.specs.declared.Acted.{Acted}
 use Rattle.vrf_schema.specs.OpenContract.{OpenContract}
 use Rattle.vrf_tally.specs.Tally.{allowances}
-use Rattle.vrf_tally.specs.Laws.Reading.{never-refused, answered-by}
+use Rattle.vrf_tally.proofs.Laws.Reading.{never-refused, answered-by}
 use Rattle.vrf_tally.proofs.read_into.Statement.{statement}
 use Rattle.vrf_tally.proofs.read_into.Tie as tie
 

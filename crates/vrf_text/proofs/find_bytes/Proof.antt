@@ -7,7 +7,7 @@ use borrow.Author.Tests.{not-true, not-false}
 use Rattle.vrf_bitio.specs.Bits.{bytes_of}
 use Rattle.vrf_bitio.specs.Answers.{read_at}
 use Rattle.vrf_bitio.specs.Inner.Cursor.{moved}
-use Rattle.vrf_bitio.specs.Laws.Window.{bytes-length}
+use Rattle.vrf_bitio.proofs.Laws.Window.{bytes-length}
 use Rattle.vrf_text.specs.Text.{as_utf8, text8}
 use Rattle.vrf_text.specs.Inner.Steps.{bit_at}
 use Rattle.vrf_text.proofs.Texts.{few, Reached, bytes-refused, bytes-reached, bad-text, long-text, good-text, not-utf8, is-utf8}

@@ -1,6 +1,6 @@
 -- `vrf_text::length_of` satisfies its contract.
 use borrow.Author.Rules.{rules}
-use Rattle.vrf_bitio.specs.Laws.Signed.{is_zero, below-zero, above_zero}
+use Rattle.vrf_bitio.proofs.Laws.Signed.{is_zero, below-zero, above_zero}
 use Rattle.vrf_text.proofs.length_of.Statement.{statement}
 use Rattle.vrf_text.proofs.length_of.Tie as tie
 

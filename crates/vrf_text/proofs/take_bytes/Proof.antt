@@ -3,7 +3,7 @@ use mathlib.Core.Path.{refl, sym}
 use lib.ListN.{length}
 use borrow.Author.Rules.{rules}
 use Rattle.vrf_bitio.specs.Bits.{bytes_of}
-use Rattle.vrf_bitio.specs.Laws.Window.{bytes-length}
+use Rattle.vrf_bitio.proofs.Laws.Window.{bytes-length}
 use Rattle.vrf_text.specs.Inner.Steps.{bit_at}
 use Rattle.vrf_text.proofs.Takes.{target-short, space, copied-bytes, never-refused}
 use Rattle.vrf_text.proofs.take_bytes.Statement.{statement}

@@ -4,7 +4,7 @@ use Prim.Native.Nat.{◌-◌}
 use native.Mathlib.Omega.{arith}
 use lib.ListN.{drop}
 use Rattle.vrf_bitio.specs.Bits.{bytes_of}
-use Rattle.vrf_bitio.specs.Laws.Window.{bytes-length}
+use Rattle.vrf_bitio.proofs.Laws.Window.{bytes-length}
 use Rattle.vrf_text.specs.Utf8.{utf8}
 use Rattle.vrf_text.proofs.Walks.{bad, on, end, rest_at}
 use Rattle.vrf_text.proofs.utf8_bits.Statement.{statement}

@@ -5,7 +5,7 @@ use lib.ListN.{length-set}
 use borrow.Author.Rules.{rules}
 use Rattle.vrf_bitio.specs.Pasted.{pasted}
 use Rattle.vrf_words.specs.Inner.Words.{eight_bytes}
-use Rattle.vrf_words.specs.Laws.Words.{whole_part}
+use Rattle.vrf_words.proofs.Laws.Words.{whole_part}
 use Rattle.vrf_words.proofs.Copies.{eight}
 use Rattle.vrf_words.proofs.put_eight_bytes.Statement.{statement}
 use Rattle.vrf_words.proofs.put_eight_bytes.Tie as tie

@@ -5,7 +5,7 @@ use native.Mathlib.Omega.{arith}
 use native.Mathlib.Nat.{zero-add}
 use lib.ListN.{length, get_or}
 use Rattle.vrf_bitio.specs.Pasted.{pasted}
-use Rattle.vrf_words.specs.Laws.Words.{whole_part}
+use Rattle.vrf_words.proofs.Laws.Words.{whole_part}
 use Rattle.vrf_words.proofs.Writes.{CopyLoop, copy_start, copy_step, copy-end}
 use Rattle.vrf_words.proofs.put_few.Statement.{statement}
 use Rattle.vrf_words.proofs.put_few.Tie as tie

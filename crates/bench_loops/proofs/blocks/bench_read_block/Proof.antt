@@ -1,5 +1,5 @@
 use Rattle.std.proofs.Common.{rules}
-use Rattle.vrf_store.specs.Laws.Memory.Check.{check-good}
+use Rattle.vrf_store.proofs.Laws.Memory.Check.{check-good}
 use Rattle.bench_loops.proofs.blocks.bench_read_block.Statement.{statement}
 use Rattle.bench_loops.proofs.blocks.bench_read_block.Tie as tie
 

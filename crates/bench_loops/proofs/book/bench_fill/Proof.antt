@@ -1,5 +1,5 @@
 use Rattle.std.proofs.Common.{rules}
-use Rattle.vrf_store.specs.Laws.Memory.Check.{check-good}
+use Rattle.vrf_store.proofs.Laws.Memory.Check.{check-good}
 use Rattle.bench_loops.proofs.book.bench_fill.Statement.{statement}
 use Rattle.bench_loops.proofs.book.bench_fill.Tie as tie
 

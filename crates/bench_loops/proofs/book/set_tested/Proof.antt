@@ -1,5 +1,5 @@
 use Rattle.std.proofs.Common.{rules}
-use Rattle.vrf_text.specs.Laws.Text.{caller_text-text}
+use Rattle.vrf_text.proofs.Laws.Text.{caller_text-text}
 use Rattle.bench_loops.proofs.book.set_tested.Statement.{statement}
 use Rattle.bench_loops.proofs.book.set_tested.Tie as tie
 

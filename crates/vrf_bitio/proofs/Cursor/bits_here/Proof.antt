@@ -1,6 +1,6 @@
 -- `vrf_bitio::Cursor::bits_here` satisfies its contract.
 use borrow.Author.Rules.{rules}
-use Rattle.vrf_bitio.specs.Laws.Bits.{bits-lt}
+use Rattle.vrf_bitio.proofs.Laws.Bits.{bits-lt}
 use Rattle.vrf_bitio.proofs.Cursor.bits_here.Statement.{statement}
 use Rattle.vrf_bitio.proofs.Cursor.bits_here.Tie as tie
 

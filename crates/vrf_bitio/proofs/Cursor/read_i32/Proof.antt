@@ -4,7 +4,7 @@ use borrow.Author.Rules.{rules}
 use mir.Facts.{to_z-of_z}
 use Rattle.vrf_bitio.specs.Number.{word32, int32}
 use Rattle.vrf_bitio.specs.Answers.{WordAnswer, read_at}
-use Rattle.vrf_bitio.specs.Laws.Answers.{refused-first, gave_then, gave-return}
+use Rattle.vrf_bitio.proofs.Laws.Answers.{refused-first, gave_then, gave-return}
 use Rattle.vrf_bitio.proofs.Cursor.read_i32.Statement.{statement}
 use Rattle.vrf_bitio.proofs.Cursor.read_i32.Tie as tie
 

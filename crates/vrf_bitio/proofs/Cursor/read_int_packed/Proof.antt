@@ -2,7 +2,7 @@
 use Prim.Native.Nat.{◌-◌}
 use native.Mathlib.Omega.{arith}
 use borrow.Author.Rules.{rules}
-use Rattle.vrf_bitio.specs.Laws.Answers.{word-from}
+use Rattle.vrf_bitio.proofs.Laws.Answers.{word-from}
 use Rattle.vrf_bitio.proofs.Cursor.read_int_packed.Statement.{statement}
 use Rattle.vrf_bitio.proofs.Cursor.read_int_packed.Tie as tie
 use Rattle.vrf_bitio.proofs.Packed.{SoFar, started, ended, chunk-fits, last, next, full, fifth}

@@ -2,7 +2,7 @@
 use Prim.Native.Nat.{◌^◌}
 use borrow.Author.Rules.{rules}
 use Rattle.vrf_bitio.specs.Answers.{rest_of}
-use Rattle.vrf_bitio.specs.Laws.Number.{chunks-lacks, last-runs-on, last-too-large, last-ends}
+use Rattle.vrf_bitio.proofs.Laws.Number.{chunks-lacks, last-runs-on, last-too-large, last-ends}
 use Rattle.vrf_bitio.proofs.Cursor.read_last_chunk.Statement.{statement}
 use Rattle.vrf_bitio.proofs.Cursor.read_last_chunk.Tie as tie
 

@@ -1,7 +1,7 @@
 -- `vrf_bitio::Cursor::read_u32` satisfies its contract: the 32 bits at the position are the next four bytes left there.
 use native.Mathlib.Omega.{arith}
 use borrow.Author.Rules.{rules}
-use Rattle.vrf_bitio.specs.Laws.Window.{word-lacks, word-found}
+use Rattle.vrf_bitio.proofs.Laws.Window.{word-lacks, word-found}
 use Rattle.vrf_bitio.proofs.Cursors.{gave-moved}
 use Rattle.vrf_bitio.proofs.Cursor.read_u32.Statement.{statement}
 use Rattle.vrf_bitio.proofs.Cursor.read_u32.Tie as tie

@@ -1,7 +1,7 @@
 -- `vrf_bitio::Cursor::read_u8` satisfies its contract: the eight bits at the position are the next byte left there.
 use native.Mathlib.Omega.{arith}
 use borrow.Author.Rules.{rules}
-use Rattle.vrf_bitio.specs.Laws.Window.{byte-lacks, byte-found}
+use Rattle.vrf_bitio.proofs.Laws.Window.{byte-lacks, byte-found}
 use Rattle.vrf_bitio.proofs.Cursors.{gave-moved}
 use Rattle.vrf_bitio.proofs.Cursor.read_u8.Statement.{statement}
 use Rattle.vrf_bitio.proofs.Cursor.read_u8.Tie as tie

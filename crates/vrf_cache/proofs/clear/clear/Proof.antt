@@ -1,6 +1,6 @@
 -- `vrf_cache::clear::clear` satisfies its contract.
 use borrow.Author.Rules.{rules}
-use Rattle.vrf_cache.specs.Laws.Clear.{cleared-taken}
+use Rattle.vrf_cache.proofs.Laws.Clear.{cleared-taken}
 use Rattle.vrf_cache.proofs.clear.clear.Statement.{statement}
 use Rattle.vrf_cache.proofs.clear.clear.Tie as tie
 

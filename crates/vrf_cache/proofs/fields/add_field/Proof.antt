@@ -1,7 +1,7 @@
 -- `vrf_cache::fields::add_field` satisfies its contract, by the laws about one more field.
 use mathlib.Core.Path.{refl}
 use borrow.Author.Rules.{rules}
-use Rattle.vrf_cache.specs.Laws.Fields.{new-full, new-space, new-field, new-taken}
+use Rattle.vrf_cache.proofs.Laws.Fields.{new-full, new-space, new-field, new-taken}
 use Rattle.vrf_cache.proofs.fields.add_field.Statement.{statement}
 use Rattle.vrf_cache.proofs.fields.add_field.Tie as tie
 

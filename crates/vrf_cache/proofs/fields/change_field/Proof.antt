@@ -1,7 +1,7 @@
 -- `vrf_cache::fields::change_field` satisfies its contract.
 use mathlib.Core.Path.{sym, ◌∙◌}
 use borrow.Author.Rules.{rules}
-use Rattle.vrf_cache.specs.Laws.Fields.{same_taken}
+use Rattle.vrf_cache.proofs.Laws.Fields.{same_taken}
 use Rattle.vrf_cache.proofs.fields.change_field.Statement.{statement}
 use Rattle.vrf_cache.proofs.fields.change_field.Tie as tie
 

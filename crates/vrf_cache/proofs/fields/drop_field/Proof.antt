@@ -1,6 +1,6 @@
 -- `vrf_cache::fields::drop_field` satisfies its contract.
 use borrow.Author.Rules.{rules}
-use Rattle.vrf_cache.specs.Laws.Fields.{dropped}
+use Rattle.vrf_cache.proofs.Laws.Fields.{dropped}
 use Rattle.vrf_cache.proofs.fields.drop_field.Statement.{statement}
 use Rattle.vrf_cache.proofs.fields.drop_field.Tie as tie
 

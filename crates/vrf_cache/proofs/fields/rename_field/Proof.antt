@@ -2,7 +2,7 @@
 use mathlib.Core.Path.{refl, ◌∙◌}
 use native.Mathlib.Omega.{arith}
 use borrow.Author.Rules.{rules}
-use Rattle.vrf_cache.specs.Laws.Fields.{name-held, other-full, release-path, other-space, other-taken, other_name}
+use Rattle.vrf_cache.proofs.Laws.Fields.{name-held, other-full, release-path, other-space, other-taken, other_name}
 use Rattle.vrf_cache.proofs.fields.rename_field.Statement.{statement}
 use Rattle.vrf_cache.proofs.fields.rename_field.Tie as tie
 

@@ -1,7 +1,7 @@
 -- `vrf_cache::fields::row_name` satisfies its contract.
 use mathlib.Core.Path.{◌∙◌}
 use borrow.Author.Rules.{rules}
-use Rattle.vrf_store.specs.Laws.Memory.WellFormed.{field_row, field-text}
+use Rattle.vrf_store.proofs.Laws.Memory.WellFormed.{field_row, field-text}
 use Rattle.vrf_cache.proofs.fields.row_name.Statement.{statement}
 use Rattle.vrf_cache.proofs.fields.row_name.Tie as tie
 

@@ -4,9 +4,9 @@ use mathlib.Core.Path.{◌≡◌, ap, ◌∙◌}
 use Prim.Native.Nat.{ℕ}
 use borrow.Author.Rules.{rules}
 use Rattle.vrf_table.specs.Table.{at, len}
-use Rattle.vrf_store.specs.Laws.Memory.WellFormed.{field_row}
+use Rattle.vrf_store.proofs.Laws.Memory.WellFormed.{field_row}
 use Rattle.vrf_store.specs.Store.{store_of}
-use Rattle.vrf_cache.specs.Laws.Fields.{name-stays, name-kept}
+use Rattle.vrf_cache.proofs.Laws.Fields.{name-stays, name-kept}
 use Rattle.vrf_cache.proofs.fields.set_checksum.Statement.{statement}
 use Rattle.vrf_cache.proofs.fields.set_checksum.Tie as tie
 

@@ -3,7 +3,7 @@ use mathlib.Core.Path.{sym, ap, ◌∙◌}
 use borrow.Author.Rules.{rules}
 use Rattle.vrf_table.specs.Inner.Answers.{entry}
 use Rattle.vrf_store.specs.Inner.Stepped.{held}
-use Rattle.vrf_cache.specs.Laws.Fields.{set-unknown, set_known}
+use Rattle.vrf_cache.proofs.Laws.Fields.{set-unknown, set_known}
 use Rattle.vrf_cache.proofs.fields.set_field_on_group.Statement.{statement}
 use Rattle.vrf_cache.proofs.fields.set_field_on_group.Tie as tie
 

@@ -5,7 +5,7 @@ use borrow.Author.Rules.{rules}
 use Rattle.vrf_table.specs.Inner.Answers.{entry}
 use Rattle.vrf_store.specs.Inner.Stepped.{held}
 use Rattle.vrf_cache.specs.Inner.Slots.{slots_at}
-use Rattle.vrf_cache.specs.Laws.Fields.{slot-free, set_past, set-within, row-known, set-row}
+use Rattle.vrf_cache.proofs.Laws.Fields.{slot-free, set_past, set-within, row-known, set-row}
 use Rattle.vrf_cache.proofs.fields.set_slot.Statement.{statement}
 use Rattle.vrf_cache.proofs.fields.set_slot.Tie as tie
 

@@ -3,7 +3,7 @@ use mathlib.Core.Path.{sym, ap}
 use native.Mathlib.Omega.{arith}
 use borrow.Author.Rules.{rules}
 use Rattle.vrf_store.specs.Inner.Opening.{or_zero}
-use Rattle.vrf_cache.specs.Laws.Passed.{passes-guids, passes-groups, passes-fields, passes-text, passes_none}
+use Rattle.vrf_cache.proofs.Laws.Passed.{passes-guids, passes-groups, passes-fields, passes-text, passes_none}
 use Rattle.vrf_cache.proofs.full.passed.Statement.{statement}
 use Rattle.vrf_cache.proofs.full.passed.Tie as tie
 

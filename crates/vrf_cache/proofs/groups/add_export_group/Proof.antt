@@ -3,7 +3,7 @@ use mathlib.Core.Path.{sym, ap, ◌∙◌}
 use borrow.Author.Rules.{rules}
 use Rattle.vrf_table.specs.Inner.Answers.{entry}
 use Rattle.vrf_store.specs.Inner.Stepped.{held}
-use Rattle.vrf_cache.specs.Laws.Groups.Added.{path-found, added-by}
+use Rattle.vrf_cache.proofs.Laws.Groups.Added.{path-found, added-by}
 use Rattle.vrf_cache.proofs.groups.add_export_group.Statement.{statement}
 use Rattle.vrf_cache.proofs.groups.add_export_group.Tie as tie
 

@@ -5,7 +5,7 @@ use borrow.Author.Rules.{rules}
 use Rattle.vrf_model.specs.Lookup.{index_place}
 use Rattle.vrf_table.specs.Inner.Answers.{entry}
 use Rattle.vrf_store.specs.Inner.Stepped.{held}
-use Rattle.vrf_cache.specs.Laws.Groups.Added.{replace-asked, replaced-by, append-asked, appended-by}
+use Rattle.vrf_cache.proofs.Laws.Groups.Added.{replace-asked, replaced-by, append-asked, appended-by}
 use Rattle.vrf_cache.proofs.groups.add_unknown.Statement.{statement}
 use Rattle.vrf_cache.proofs.groups.add_unknown.Tie as tie
 

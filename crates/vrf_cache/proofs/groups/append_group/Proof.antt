@@ -1,7 +1,7 @@
 -- `vrf_cache::groups::append_group` satisfies its contract, by the laws about one more group.
 use mathlib.Core.Path.{refl}
 use borrow.Author.Rules.{rules}
-use Rattle.vrf_cache.specs.Laws.Groups.Steps.{new-full, new-space, new-group, new-taken}
+use Rattle.vrf_cache.proofs.Laws.Groups.Steps.{new-full, new-space, new-group, new-taken}
 use Rattle.vrf_cache.proofs.groups.append_group.Statement.{statement}
 use Rattle.vrf_cache.proofs.groups.append_group.Tie as tie
 

@@ -4,7 +4,7 @@ use Prim.Native.Nat.{◌-◌, ◌≤◌}
 use native.Mathlib.Omega.{arith}
 use borrow.Author.Rules.{rules}
 use Rattle.vrf_store.specs.Inner.Stepped.{held}
-use Rattle.vrf_cache.specs.Laws.Groups.Replaced.{text_up_to, text-first, text-next, text-all, text-fits}
+use Rattle.vrf_cache.proofs.Laws.Groups.Replaced.{text_up_to, text-first, text-next, text-all, text-fits}
 use Rattle.vrf_cache.proofs.groups.group_text.Statement.{statement}
 use Rattle.vrf_cache.proofs.groups.group_text.Tie as tie
 

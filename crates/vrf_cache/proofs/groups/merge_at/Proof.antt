@@ -3,7 +3,7 @@ use mathlib.Core.Path.{refl, sym, ap, ◌∙◌}
 use borrow.Author.Rules.{rules}
 use Rattle.vrf_table.specs.Inner.Answers.{entry}
 use Rattle.vrf_cache.specs.Inner.Groups.{GroupRequest}
-use Rattle.vrf_cache.specs.Laws.Groups.Added.{merge-asked, merged_by, crossed-by}
+use Rattle.vrf_cache.proofs.Laws.Groups.Added.{merge-asked, merged_by, crossed-by}
 use Rattle.vrf_cache.proofs.groups.merge_at.Statement.{statement}
 use Rattle.vrf_cache.proofs.groups.merge_at.Tie as tie
 

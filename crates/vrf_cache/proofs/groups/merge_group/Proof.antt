@@ -1,7 +1,7 @@
 -- `vrf_cache::groups::merge_group` satisfies its contract: the group only grows, or is also renamed.
 use mathlib.Core.Path.{sym, ◌∙◌}
 use borrow.Author.Rules.{rules}
-use Rattle.vrf_cache.specs.Laws.Groups.Steps.{named, grow-taken}
+use Rattle.vrf_cache.proofs.Laws.Groups.Steps.{named, grow-taken}
 use Rattle.vrf_cache.proofs.groups.merge_group.Statement.{statement}
 use Rattle.vrf_cache.proofs.groups.merge_group.Tie as tie
 

@@ -1,6 +1,6 @@
 -- `vrf_cache::groups::put_path` satisfies its contract: after `release_path` the path fits.
 use borrow.Author.Rules.{rules}
-use Rattle.vrf_cache.specs.Laws.Groups.Steps.{given}
+use Rattle.vrf_cache.proofs.Laws.Groups.Steps.{given}
 use Rattle.vrf_cache.proofs.groups.put_path.Statement.{statement}
 use Rattle.vrf_cache.proofs.groups.put_path.Tie as tie
 

@@ -1,7 +1,7 @@
 -- `vrf_cache::groups::release_path` satisfies its contract: n more bytes fit, or they fit once the path is released.
 use native.Mathlib.Omega.{arith}
 use borrow.Author.Rules.{rules}
-use Rattle.vrf_cache.specs.Laws.Groups.Steps.{still, release-path, gone}
+use Rattle.vrf_cache.proofs.Laws.Groups.Steps.{still, release-path, gone}
 use Rattle.vrf_cache.proofs.groups.release_path.Statement.{statement}
 use Rattle.vrf_cache.proofs.groups.release_path.Tie as tie
 

@@ -6,8 +6,8 @@ use borrow.Author.Rules.{rules}
 use Rattle.vrf_store.specs.Inner.Stepped.{held}
 use Rattle.vrf_cache.specs.Inner.Passed.{passes_by}
 use Rattle.vrf_cache.specs.Inner.Groups.{path_bytes}
-use Rattle.vrf_cache.specs.Laws.Groups.Held.{path-held}
-use Rattle.vrf_cache.specs.Laws.Groups.Steps.{old-group, merge-full, merge-fits, merge-taken}
+use Rattle.vrf_cache.proofs.Laws.Groups.Held.{path-held}
+use Rattle.vrf_cache.proofs.Laws.Groups.Steps.{old-group, merge-full, merge-fits, merge-taken}
 use Rattle.vrf_cache.proofs.groups.rename_group.Statement.{statement}
 use Rattle.vrf_cache.proofs.groups.rename_group.Tie as tie
 

@@ -7,8 +7,8 @@ use Rattle.vrf_model.specs.Book.{group_text}
 use Rattle.vrf_store.specs.Inner.Stepped.{held}
 use Rattle.vrf_cache.specs.Inner.Passed.{passes_by}
 use Rattle.vrf_cache.specs.Inner.Groups.{group_at}
-use Rattle.vrf_cache.specs.Laws.Groups.Held.{texts-held}
-use Rattle.vrf_cache.specs.Laws.Groups.Replaced.{replace-full, replace-fits, replace-old, replace-taken}
+use Rattle.vrf_cache.proofs.Laws.Groups.Held.{texts-held}
+use Rattle.vrf_cache.proofs.Laws.Groups.Replaced.{replace-full, replace-fits, replace-old, replace-taken}
 use Rattle.vrf_cache.proofs.groups.replace_at.Statement.{statement}
 use Rattle.vrf_cache.proofs.groups.replace_at.Tie as tie
 

@@ -1,7 +1,7 @@
 -- `vrf_cache::guids::add_guid` satisfies its contract, by the laws about a new record.
 use mathlib.Core.Path.{refl}
 use borrow.Author.Rules.{rules}
-use Rattle.vrf_cache.specs.Laws.Guids.{new-full, new-space, new-guid, new-taken}
+use Rattle.vrf_cache.proofs.Laws.Guids.{new-full, new-space, new-guid, new-taken}
 use Rattle.vrf_cache.proofs.guids.add_guid.Statement.{statement}
 use Rattle.vrf_cache.proofs.guids.add_guid.Tie as tie
 

@@ -2,7 +2,7 @@
 use mathlib.Core.Path.{refl, ◌∙◌}
 use native.Mathlib.Omega.{arith}
 use borrow.Author.Rules.{rules}
-use Rattle.vrf_cache.specs.Laws.Guids.{other-full, release-path, other-space, other-guid, other-taken}
+use Rattle.vrf_cache.proofs.Laws.Guids.{other-full, release-path, other-space, other-guid, other-taken}
 use Rattle.vrf_cache.proofs.guids.change_guid.Statement.{statement}
 use Rattle.vrf_cache.proofs.guids.change_guid.Tie as tie
 

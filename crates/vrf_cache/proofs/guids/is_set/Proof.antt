@@ -1,6 +1,6 @@
 -- `vrf_cache::guids::is_set` satisfies its contract.
 use borrow.Author.Rules.{rules}
-use Rattle.vrf_cache.specs.Laws.Guids.{has_both}
+use Rattle.vrf_cache.proofs.Laws.Guids.{has_both}
 use Rattle.vrf_cache.proofs.guids.is_set.Statement.{statement}
 use Rattle.vrf_cache.proofs.guids.is_set.Tie as tie
 

@@ -1,7 +1,7 @@
 -- `vrf_cache::guids::other_passes` satisfies its contract: the texts held include the old path.
 use native.Mathlib.Omega.{arith}
 use borrow.Author.Rules.{rules}
-use Rattle.vrf_cache.specs.Laws.Guids.{path-held}
+use Rattle.vrf_cache.proofs.Laws.Guids.{path-held}
 use Rattle.vrf_cache.proofs.guids.other_passes.Statement.{statement}
 use Rattle.vrf_cache.proofs.guids.other_passes.Tie as tie
 

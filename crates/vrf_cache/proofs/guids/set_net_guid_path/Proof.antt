@@ -6,7 +6,7 @@ use Rattle.vrf_model.specs.Lookup.{guid_place}
 use Rattle.vrf_table.specs.Inner.Answers.{entry}
 use Rattle.vrf_store.specs.Inner.Stepped.{held}
 use Rattle.vrf_cache.specs.Inner.Guids.{GuidToChange}
-use Rattle.vrf_cache.specs.Laws.Guids.{set_new, found, set_same, set_other}
+use Rattle.vrf_cache.proofs.Laws.Guids.{set_new, found, set_same, set_other}
 use Rattle.vrf_cache.proofs.guids.set_net_guid_path.Statement.{statement}
 use Rattle.vrf_cache.proofs.guids.set_net_guid_path.Tie as tie
 

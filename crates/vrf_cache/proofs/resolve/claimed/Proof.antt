@@ -1,7 +1,7 @@
 -- `vrf_cache::resolve::claimed` satisfies its contract.
 use borrow.Author.Rules.{rules}
 use Rattle.vrf_model.specs.Lookup.{claim_or_next}
-use Rattle.vrf_table.specs.Laws.Answers.{claim-one}
+use Rattle.vrf_table.proofs.Laws.Answers.{claim-one}
 use Rattle.vrf_cache.proofs.resolve.claimed.Statement.{statement}
 use Rattle.vrf_cache.proofs.resolve.claimed.Tie as tie
 

@@ -2,11 +2,11 @@
 use mathlib.Core.Path.{◌≡◌, sym, ap, ◌∙◌}
 use mathlib.Core.Option.{some}
 use borrow.Author.Rules.{rules}
-use Rattle.vrf_path.specs.Laws.Answers.{spelled-bytes, spelled-absent}
+use Rattle.vrf_path.proofs.Laws.Answers.{spelled-bytes, spelled-absent}
 use Rattle.vrf_path.specs.Answers.{spelled, key_bytes}
 use Rattle.vrf_store.specs.Inner.Stepped.{held}
 use Rattle.vrf_cache.specs.Inner.Resolve.{with_toggle}
-use Rattle.vrf_cache.specs.Laws.Resolve.{toggle-none}
+use Rattle.vrf_cache.proofs.Laws.Resolve.{toggle-none}
 use Rattle.vrf_cache.proofs.resolve.find_alias.Statement.{statement}
 use Rattle.vrf_cache.proofs.resolve.find_alias.Tie as tie
 

@@ -1,7 +1,7 @@
 -- `vrf_cache::resolve::find_alias_in` satisfies its contract.
 use native.Mathlib.Omega.{arith}
 use borrow.Author.Rules.{rules}
-use Rattle.vrf_table.specs.Laws.Spelled.{written-part}
+use Rattle.vrf_table.proofs.Laws.Spelled.{written-part}
 use Rattle.vrf_cache.proofs.resolve.find_alias_in.Statement.{statement}
 use Rattle.vrf_cache.proofs.resolve.find_alias_in.Tie as tie
 

@@ -6,7 +6,7 @@ use Rattle.vrf_model.specs.Lookup.{found_or_next}
 use Rattle.vrf_table.specs.Inner.Answers.{entry}
 use Rattle.vrf_store.specs.Inner.Stepped.{held}
 use Rattle.vrf_cache.specs.Inner.Resolve.{with_toggle}
-use Rattle.vrf_cache.specs.Laws.Resolve.{alias-turn, default-fits, core-fits}
+use Rattle.vrf_cache.proofs.Laws.Resolve.{alias-turn, default-fits, core-fits}
 use Rattle.vrf_cache.proofs.resolve.find_aliases.Statement.{statement}
 use Rattle.vrf_cache.proofs.resolve.find_aliases.Tie as tie
 

@@ -4,7 +4,7 @@ use borrow.Author.Rules.{rules}
 use Rattle.vrf_model.specs.Lookup.{found_or_next}
 use Rattle.vrf_table.specs.Inner.Answers.{entry}
 use Rattle.vrf_store.specs.Inner.Stepped.{held}
-use Rattle.vrf_cache.specs.Laws.Resolve.{keys-turn}
+use Rattle.vrf_cache.proofs.Laws.Resolve.{keys-turn}
 use Rattle.vrf_cache.proofs.resolve.find_class_net_cache_key.Statement.{statement}
 use Rattle.vrf_cache.proofs.resolve.find_class_net_cache_key.Tie as tie
 

@@ -7,7 +7,7 @@ use lib.ListN.{length-take, length, take}
 use borrow.Author.Rules.{rules}
 use Rattle.vrf_path.specs.Toggle.{class_net_cache, toggle}
 use Rattle.vrf_store.specs.Inner.Stepped.{held}
-use Rattle.vrf_cache.specs.Laws.Resolve.{path-alone, path-missing}
+use Rattle.vrf_cache.proofs.Laws.Resolve.{path-alone, path-missing}
 use Rattle.vrf_cache.proofs.resolve.find_toggled.Statement.{statement}
 use Rattle.vrf_cache.proofs.resolve.find_toggled.Tie as tie
 

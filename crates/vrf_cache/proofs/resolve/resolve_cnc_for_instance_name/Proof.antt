@@ -6,10 +6,10 @@ use native.Mathlib.Omega.{arith}
 use lib.ListN.{length, length-take}
 use borrow.Author.Rules.{rules}
 use Rattle.vrf_path.specs.Answers.{stems_from, stem_length}
-use Rattle.vrf_path.specs.Laws.Leaf.{separators-take}
+use Rattle.vrf_path.proofs.Laws.Leaf.{separators-take}
 use Rattle.vrf_model.specs.Lookup.{first_claim, stems_leaves, resolve_cnc}
 use Rattle.vrf_store.specs.Inner.Stepped.{held}
-use Rattle.vrf_cache.specs.Laws.Resolve.{stem-decides, stem-passes, no-stems, stems-fewer, resolve-path, resolve-name}
+use Rattle.vrf_cache.proofs.Laws.Resolve.{stem-decides, stem-passes, no-stems, stems-fewer, resolve-path, resolve-name}
 use Rattle.vrf_cache.proofs.resolve.resolve_cnc_for_instance_name.Statement.{statement}
 use Rattle.vrf_cache.proofs.resolve.resolve_cnc_for_instance_name.Tie as tie
 

@@ -3,7 +3,7 @@ use borrow.Author.Rules.{rules}
 use Rattle.vrf_path.specs.Toggle.{class_net_cache}
 use Rattle.vrf_path.specs.Stems.{component, underscore_c}
 use Rattle.vrf_store.specs.Inner.Stepped.{held}
-use Rattle.vrf_cache.specs.Laws.Resolve.{stem-in-turn, stem-leaves}
+use Rattle.vrf_cache.proofs.Laws.Resolve.{stem-in-turn, stem-leaves}
 use Rattle.vrf_cache.proofs.resolve.try_cnc_leaf_candidates.Statement.{statement}
 use Rattle.vrf_cache.proofs.resolve.try_cnc_leaf_candidates.Tie as tie
 

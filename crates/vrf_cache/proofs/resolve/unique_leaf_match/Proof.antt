@@ -3,7 +3,7 @@ use mathlib.Core.Path.{◌∙◌}
 use borrow.Author.Rules.{rules}
 use Rattle.vrf_path.specs.Stems.{component, underscore_c}
 use Rattle.vrf_store.specs.Inner.Stepped.{held}
-use Rattle.vrf_cache.specs.Laws.Resolve.{match-path, match-name, name-in-turn, name-leaves}
+use Rattle.vrf_cache.proofs.Laws.Resolve.{match-path, match-name, name-in-turn, name-leaves}
 use Rattle.vrf_cache.proofs.resolve.unique_leaf_match.Statement.{statement}
 use Rattle.vrf_cache.proofs.resolve.unique_leaf_match.Tie as tie
 

@@ -1,6 +1,6 @@
 -- `vrf_cache::texts::keep_text` satisfies its contract: what `make_space` leaves is enough for the text.
 use borrow.Author.Rules.{rules}
-use Rattle.vrf_cache.specs.Laws.Texts.{put_written}
+use Rattle.vrf_cache.proofs.Laws.Texts.{put_written}
 use Rattle.vrf_cache.proofs.texts.keep_text.Statement.{statement}
 use Rattle.vrf_cache.proofs.texts.keep_text.Tie as tie
 

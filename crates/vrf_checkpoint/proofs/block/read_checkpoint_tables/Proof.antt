@@ -4,7 +4,7 @@ use native.Mathlib.Omega.{arith}
 use borrow.Author.Rules.{rules}
 use Rattle.vrf_checkpoint.specs.Inner.Block.{BlockHeadRefines}
 use Rattle.vrf_checkpoint.specs.declared.block.BlockHead.{BlockHead}
-use Rattle.vrf_checkpoint.specs.Laws.Block.{block-then, block-no-guids, block-guids}
+use Rattle.vrf_checkpoint.proofs.Laws.Block.{block-then, block-no-guids, block-guids}
 use Rattle.vrf_checkpoint.proofs.block.read_checkpoint_tables.Statement.{statement}
 use Rattle.vrf_checkpoint.proofs.block.read_checkpoint_tables.Tie as tie
 

@@ -5,7 +5,7 @@ use borrow.Author.Rules.{rules}
 use Rattle.vrf_bitio.specs.Number.{word32}
 use Rattle.vrf_bitio.specs.Answers.{read_at, WordAnswer}
 use Rattle.vrf_bitio.specs.declared.Word.{Word}
-use Rattle.vrf_checkpoint.specs.Laws.Block.{count-over, count-read, count-refused}
+use Rattle.vrf_checkpoint.proofs.Laws.Block.{count-over, count-read, count-refused}
 use Rattle.vrf_checkpoint.proofs.block.read_count.Statement.{statement}
 use Rattle.vrf_checkpoint.proofs.block.read_count.Tie as tie
 

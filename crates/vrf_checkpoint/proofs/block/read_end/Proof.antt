@@ -1,6 +1,6 @@
 -- `vrf_checkpoint::block::read_end` satisfies its contract.
 use borrow.Author.Rules.{rules}
-use Rattle.vrf_checkpoint.specs.Laws.Block.{end-missed, end-met}
+use Rattle.vrf_checkpoint.proofs.Laws.Block.{end-missed, end-met}
 use Rattle.vrf_checkpoint.proofs.block.read_end.Statement.{statement}
 use Rattle.vrf_checkpoint.proofs.block.read_end.Tie as tie
 

@@ -10,7 +10,7 @@ use Rattle.vrf_reader.specs.Inner.Simulates.{RefinesReading, number_outcome}
 use Rattle.vrf_reader.specs.declared.Advanced.{Advanced}
 use Rattle.vrf_reader.specs.declared.ReadNumber.{ReadNumber}
 use Rattle.vrf_checkpoint.specs.Inner.Block.{UpTo, ZerosRead}
-use Rattle.vrf_checkpoint.specs.Laws.Block.{head-refused, head-not-zero, head-no-count, head_read}
+use Rattle.vrf_checkpoint.proofs.Laws.Block.{head-refused, head-not-zero, head-no-count, head_read}
 use Rattle.vrf_checkpoint.proofs.block.read_head.Statement.{statement}
 use Rattle.vrf_checkpoint.proofs.block.read_head.Tie as tie
 

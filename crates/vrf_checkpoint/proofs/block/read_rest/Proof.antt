@@ -5,7 +5,7 @@ use Rattle.vrf_model.specs.Block.{count_up_to}
 use Rattle.vrf_reader.specs.Inner.Simulates.{RefinesReading, number_outcome}
 use Rattle.vrf_reader.specs.declared.ReadNumber.{ReadNumber}
 use Rattle.vrf_checkpoint.specs.Inner.Block.{UpTo}
-use Rattle.vrf_checkpoint.specs.Laws.Block.{rest-no-count, rest-no-groups, rest-no-end, rest_read}
+use Rattle.vrf_checkpoint.proofs.Laws.Block.{rest-no-count, rest-no-groups, rest-no-end, rest_read}
 use Rattle.vrf_checkpoint.proofs.block.read_rest.Statement.{statement}
 use Rattle.vrf_checkpoint.proofs.block.read_rest.Tie as tie
 

@@ -4,7 +4,7 @@ use borrow.Author.Rules.{rules}
 use Rattle.vrf_bitio.specs.Number.{word32}
 use Rattle.vrf_bitio.specs.Answers.{read_at, WordAnswer}
 use Rattle.vrf_bitio.specs.declared.Word.{Word}
-use Rattle.vrf_checkpoint.specs.Laws.Block.{zero-set, zero-read, zero-refused}
+use Rattle.vrf_checkpoint.proofs.Laws.Block.{zero-set, zero-read, zero-refused}
 use Rattle.vrf_checkpoint.proofs.block.read_zero.Statement.{statement}
 use Rattle.vrf_checkpoint.proofs.block.read_zero.Tie as tie
 

@@ -4,7 +4,7 @@ use borrow.Author.Rules.{rules}
 use Rattle.vrf_model.specs.Block.{zero_word}
 use Rattle.vrf_reader.specs.Inner.Simulates.{RefinesReading, cursor_outcome}
 use Rattle.vrf_reader.specs.declared.Advanced.{Advanced}
-use Rattle.vrf_checkpoint.specs.Laws.Block.{zeros-stop, zeros-stop-2, zeros-read}
+use Rattle.vrf_checkpoint.proofs.Laws.Block.{zeros-stop, zeros-stop-2, zeros-read}
 use Rattle.vrf_checkpoint.proofs.block.read_zeros.Statement.{statement}
 use Rattle.vrf_checkpoint.proofs.block.read_zeros.Tie as tie
 

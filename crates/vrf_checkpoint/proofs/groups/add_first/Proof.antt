@@ -4,7 +4,7 @@ use Prim.Native.Nat.{ℕ}
 use borrow.Author.Rules.{rules}
 use Rattle.vrf_model.specs.Setting.{Step}
 use Rattle.vrf_cache.specs.Inner.Taken.{AddedBy}
-use Rattle.vrf_checkpoint.specs.Laws.Groups.{already, first-asked, first-added}
+use Rattle.vrf_checkpoint.proofs.Laws.Groups.{already, first-asked, first-added}
 use Rattle.vrf_checkpoint.proofs.groups.add_first.Statement.{statement}
 use Rattle.vrf_checkpoint.proofs.groups.add_first.Tie as tie
 

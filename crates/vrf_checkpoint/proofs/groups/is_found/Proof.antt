@@ -2,7 +2,7 @@
 use mathlib.Core.Path.{sym, ap, ◌∙◌}
 use borrow.Author.Rules.{rules}
 use Rattle.vrf_table.specs.Inner.Answers.{entry}
-use Rattle.vrf_checkpoint.specs.Laws.Groups.{index-found, path-found, none_found}
+use Rattle.vrf_checkpoint.proofs.Laws.Groups.{index-found, path-found, none_found}
 use Rattle.vrf_checkpoint.proofs.groups.is_found.Statement.{statement}
 use Rattle.vrf_checkpoint.proofs.groups.is_found.Tie as tie
 

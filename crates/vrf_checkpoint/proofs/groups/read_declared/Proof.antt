@@ -1,6 +1,6 @@
 -- `vrf_checkpoint::groups::read_declared` satisfies its contract: index, slots and adding, in sequence.
 use borrow.Author.Rules.{rules}
-use Rattle.vrf_checkpoint.specs.Laws.Groups.{no_index, no-count, too_many, not-added, added}
+use Rattle.vrf_checkpoint.proofs.Laws.Groups.{no_index, no-count, too_many, not-added, added}
 use Rattle.vrf_checkpoint.proofs.groups.read_declared.Statement.{statement}
 use Rattle.vrf_checkpoint.proofs.groups.read_declared.Tie as tie
 

@@ -5,7 +5,7 @@ use borrow.Author.Rules.{rules}
 use Rattle.vrf_bitio.specs.Number.{packed}
 use Rattle.vrf_bitio.specs.Answers.{read_at, WordAnswer}
 use Rattle.vrf_bitio.specs.declared.Word.{Word}
-use Rattle.vrf_checkpoint.specs.Laws.Groups.{no-handle, other-handle, field-refused, field-read}
+use Rattle.vrf_checkpoint.proofs.Laws.Groups.{no-handle, other-handle, field-refused, field-read}
 use Rattle.vrf_checkpoint.proofs.groups.read_field.Statement.{statement}
 use Rattle.vrf_checkpoint.proofs.groups.read_field.Tie as tie
 

@@ -4,10 +4,10 @@ use borrow.Author.Rules.{rules}
 use Rattle.vrf_bitio.specs.Answers.{read_at}
 use Rattle.vrf_text.specs.Text.{fstring}
 use Rattle.vrf_text.specs.declared.Text.TheVariants.{Read}
-use Rattle.vrf_model.specs.Laws.Readings.{fstring-reads}
+use Rattle.vrf_model.proofs.Laws.Readings.{fstring-reads}
 use Rattle.vrf_reader.specs.Inner.Texts.{TextIn}
-use Rattle.vrf_reader.specs.Laws.Texts.{scratch-length, scratch-text}
-use Rattle.vrf_checkpoint.specs.Laws.Groups.{no-path, group-refused, group-then}
+use Rattle.vrf_reader.proofs.Laws.Texts.{scratch-length, scratch-text}
+use Rattle.vrf_checkpoint.proofs.Laws.Groups.{no-path, group-refused, group-then}
 use Rattle.vrf_checkpoint.proofs.groups.read_group.Statement.{statement}
 use Rattle.vrf_checkpoint.proofs.groups.read_group.Tie as tie
 

@@ -1,7 +1,7 @@
 -- `vrf_checkpoint::groups::read_slot` satisfies its contract: the slot byte, then the field if it is not 0.
 use native.Mathlib.Omega.{arith}
 use borrow.Author.Rules.{rules}
-use Rattle.vrf_checkpoint.specs.Laws.Groups.{no_byte, slot-empty, slot-filled}
+use Rattle.vrf_checkpoint.proofs.Laws.Groups.{no_byte, slot-empty, slot-filled}
 use Rattle.vrf_checkpoint.proofs.groups.read_slot.Statement.{statement}
 use Rattle.vrf_checkpoint.proofs.groups.read_slot.Tie as tie
 

@@ -7,7 +7,7 @@ use borrow.Author.Rules.{rules}
 use Rattle.vrf_model.specs.Block.{block_slot}
 use Rattle.vrf_checkpoint.specs.Inner.Groups.{CountReads}
 use Rattle.vrf_checkpoint.specs.declared.groups.Fields.{Fields}
-use Rattle.vrf_checkpoint.specs.Laws.Sums.{SumLeft, none_read, one-read, one-refused, all_read}
+use Rattle.vrf_checkpoint.proofs.Laws.Sums.{SumLeft, none_read, one-read, one-refused, all_read}
 use Rattle.vrf_checkpoint.proofs.groups.read_slots.Statement.{statement}
 use Rattle.vrf_checkpoint.proofs.groups.read_slots.Tie as tie
 

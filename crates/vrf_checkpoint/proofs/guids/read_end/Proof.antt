@@ -4,7 +4,7 @@ use borrow.Author.Rules.{rules}
 use Rattle.vrf_bitio.specs.Number.{byte}
 use Rattle.vrf_bitio.specs.Answers.{read_at, ByteAnswer}
 use Rattle.vrf_bitio.specs.declared.Byte.{Byte}
-use Rattle.vrf_checkpoint.specs.Laws.Guids.{no-flags, set-taken, set-refused}
+use Rattle.vrf_checkpoint.proofs.Laws.Guids.{no-flags, set-taken, set-refused}
 use Rattle.vrf_checkpoint.proofs.guids.read_end.Statement.{statement}
 use Rattle.vrf_checkpoint.proofs.guids.read_end.Tie as tie
 

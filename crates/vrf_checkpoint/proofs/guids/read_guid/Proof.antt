@@ -5,7 +5,7 @@ use borrow.Author.Rules.{rules}
 use Rattle.vrf_bitio.specs.Number.{packed}
 use Rattle.vrf_bitio.specs.Answers.{read_at, WordAnswer}
 use Rattle.vrf_bitio.specs.declared.Word.{Word}
-use Rattle.vrf_checkpoint.specs.Laws.Guids.{represents-on, counting-on, no-guid, no_outer, guid-simulates, guid-on}
+use Rattle.vrf_checkpoint.proofs.Laws.Guids.{represents-on, counting-on, no-guid, no_outer, guid-simulates, guid-on}
 use Rattle.vrf_checkpoint.proofs.guids.read_guid.Statement.{statement}
 use Rattle.vrf_checkpoint.proofs.guids.read_guid.Tie as tie
 

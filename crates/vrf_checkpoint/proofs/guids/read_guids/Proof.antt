@@ -7,7 +7,7 @@ use borrow.Author.Rules.{rules}
 use Rattle.vrf_model.specs.Block.{by_table, block_guid}
 use Rattle.vrf_checkpoint.specs.Inner.Guids.{GuidReads}
 use Rattle.vrf_checkpoint.specs.declared.guids.Guids.{Guids}
-use Rattle.vrf_checkpoint.specs.Laws.Guids.{EntriesRead, entries_none, entries-counting, entries-more, entries-refused, entries-all}
+use Rattle.vrf_checkpoint.proofs.Laws.Guids.{EntriesRead, entries_none, entries-counting, entries-more, entries-refused, entries-all}
 use Rattle.vrf_checkpoint.proofs.guids.read_guids.Statement.{statement}
 use Rattle.vrf_checkpoint.proofs.guids.read_guids.Tie as tie
 

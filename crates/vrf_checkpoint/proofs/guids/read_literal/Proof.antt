@@ -6,7 +6,7 @@ use Rattle.vrf_bitio.specs.Answers.{read_at}
 use Rattle.vrf_text.specs.Text.{fstring}
 use Rattle.vrf_text.specs.declared.Text.{Text}
 use Rattle.vrf_reader.specs.Inner.Texts.{TextIn}
-use Rattle.vrf_checkpoint.specs.Laws.Guids.{no-literal, literal-passed, literal-taken}
+use Rattle.vrf_checkpoint.proofs.Laws.Guids.{no-literal, literal-passed, literal-taken}
 use Rattle.vrf_checkpoint.proofs.guids.read_literal.Statement.{statement}
 use Rattle.vrf_checkpoint.proofs.guids.read_literal.Tie as tie
 

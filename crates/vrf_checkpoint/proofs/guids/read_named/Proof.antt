@@ -5,7 +5,7 @@ use borrow.Author.Rules.{rules}
 use Rattle.vrf_text.specs.Text.{IsText}
 use Rattle.vrf_checkpoint.specs.Inner.Guids.{path_at, PathOf, PathBy}
 use Rattle.vrf_checkpoint.specs.declared.guids.Path.{Path}
-use Rattle.vrf_checkpoint.specs.Laws.Guids.{no-path, entry-ended, entry-refused}
+use Rattle.vrf_checkpoint.proofs.Laws.Guids.{no-path, entry-ended, entry-refused}
 use Rattle.vrf_checkpoint.proofs.guids.read_named.Statement.{statement}
 use Rattle.vrf_checkpoint.proofs.guids.read_named.Tie as tie
 

@@ -5,7 +5,7 @@ use Rattle.vrf_bitio.specs.Number.{byte}
 use Rattle.vrf_bitio.specs.Answers.{read_at, ByteAnswer}
 use Rattle.vrf_bitio.specs.declared.Byte.{Byte}
 use Rattle.vrf_checkpoint.specs.Inner.Guids.{BeforeEntry}
-use Rattle.vrf_checkpoint.specs.Laws.Guids.{represents-on, counting-on, no_kind, place-kind, literal-kind, bad_kind, path-on}
+use Rattle.vrf_checkpoint.proofs.Laws.Guids.{represents-on, counting-on, no_kind, place-kind, literal-kind, bad_kind, path-on}
 use Rattle.vrf_checkpoint.proofs.guids.read_path.Statement.{statement}
 use Rattle.vrf_checkpoint.proofs.guids.read_path.Tie as tie
 

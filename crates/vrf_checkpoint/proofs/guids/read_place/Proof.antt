@@ -4,7 +4,7 @@ use borrow.Author.Rules.{rules}
 use Rattle.vrf_bitio.specs.Number.{packed}
 use Rattle.vrf_bitio.specs.Answers.{read_at, WordAnswer}
 use Rattle.vrf_bitio.specs.declared.Word.{Word}
-use Rattle.vrf_checkpoint.specs.Laws.Guids.{no_place, place-beyond, place_found, place-taken}
+use Rattle.vrf_checkpoint.proofs.Laws.Guids.{no_place, place-beyond, place_found, place-taken}
 use Rattle.vrf_checkpoint.proofs.guids.read_place.Statement.{statement}
 use Rattle.vrf_checkpoint.proofs.guids.read_place.Tie as tie
 

@@ -3,11 +3,11 @@ use borrow.Author.Rules.{rules}
 use Rattle.vrf_bitio.specs.Answers.{read_at}
 use Rattle.vrf_text.specs.Text.{fstring}
 use Rattle.vrf_model.specs.Runs.{declared_group}
-use Rattle.vrf_model.specs.Laws.Readings.{fstring-reads}
+use Rattle.vrf_model.proofs.Laws.Readings.{fstring-reads}
 use Rattle.vrf_reader.specs.Inner.Texts.{TextRead}
-use Rattle.vrf_reader.specs.Laws.Simulates.{read-stops}
-use Rattle.vrf_reader.specs.Laws.Texts.{scratch-length, scratch-text}
-use Rattle.vrf_reader.specs.Laws.Fields.{no-slots, too_many, adding-refused, group-added}
+use Rattle.vrf_reader.proofs.Laws.Simulates.{read-stops}
+use Rattle.vrf_reader.proofs.Laws.Texts.{scratch-length, scratch-text}
+use Rattle.vrf_reader.proofs.Laws.Fields.{no-slots, too_many, adding-refused, group-added}
 use Rattle.vrf_reader.proofs.fields.declared_group.Statement.{statement}
 use Rattle.vrf_reader.proofs.fields.declared_group.Tie as tie
 

@@ -4,8 +4,8 @@ use borrow.Author.Rules.{rules}
 use Rattle.vrf_bitio.specs.Number.{packed}
 use Rattle.vrf_model.specs.Runs.{export_entry}
 use Rattle.vrf_reader.specs.Inner.Simulates.{cursor_outcome}
-use Rattle.vrf_reader.specs.Laws.Simulates.{read-stops}
-use Rattle.vrf_reader.specs.Laws.Fields.{no_flag, group-refused, group-then}
+use Rattle.vrf_reader.proofs.Laws.Simulates.{read-stops}
+use Rattle.vrf_reader.proofs.Laws.Fields.{no_flag, group-refused, group-then}
 use Rattle.vrf_reader.proofs.fields.export_entry.Statement.{statement}
 use Rattle.vrf_reader.proofs.fields.export_entry.Tie as tie
 

@@ -3,7 +3,7 @@ use borrow.Author.Rules.{rules}
 use Rattle.vrf_bitio.specs.Number.{packed}
 use Rattle.vrf_model.specs.Runs.{exported_field}
 use Rattle.vrf_reader.specs.Inner.Simulates.{cursor_outcome}
-use Rattle.vrf_reader.specs.Laws.Simulates.{read-on, read-stops, reads}
+use Rattle.vrf_reader.proofs.Laws.Simulates.{read-on, read-stops, reads}
 use Rattle.vrf_reader.proofs.fields.exported_field.Statement.{statement}
 use Rattle.vrf_reader.proofs.fields.exported_field.Tie as tie
 

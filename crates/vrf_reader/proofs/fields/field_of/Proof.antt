@@ -3,8 +3,8 @@ use borrow.Author.Rules.{rules}
 use Rattle.vrf_bitio.specs.Number.{byte}
 use Rattle.vrf_reader.specs.Inner.Simulates.{cursor_outcome}
 use Rattle.vrf_reader.specs.Inner.Fields.{field_of}
-use Rattle.vrf_reader.specs.Laws.Simulates.{read-stops}
-use Rattle.vrf_reader.specs.Laws.Fields.{field-absent, field-present}
+use Rattle.vrf_reader.proofs.Laws.Simulates.{read-stops}
+use Rattle.vrf_reader.proofs.Laws.Fields.{field-absent, field-present}
 use Rattle.vrf_reader.proofs.fields.field_of.Statement.{statement}
 use Rattle.vrf_reader.proofs.fields.field_of.Tie as tie
 

@@ -3,7 +3,7 @@ use mathlib.Core.Path.{sym, ap, ◌∙◌}
 use borrow.Author.Rules.{rules}
 use Rattle.vrf_table.specs.Inner.Answers.{entry}
 use Rattle.vrf_reader.specs.Inner.Simulates.{cursor_outcome}
-use Rattle.vrf_reader.specs.Laws.Fields.{index-known, index-unknown, bad-flag, group-declared}
+use Rattle.vrf_reader.proofs.Laws.Fields.{index-known, index-unknown, bad-flag, group-declared}
 use Rattle.vrf_reader.proofs.fields.group_of.Statement.{statement}
 use Rattle.vrf_reader.proofs.fields.group_of.Tie as tie
 

@@ -4,11 +4,11 @@ use Rattle.vrf_bitio.specs.Number.{word32}
 use Rattle.vrf_bitio.specs.Answers.{read_at, WordAnswer}
 use Rattle.vrf_bitio.specs.declared.Word.TheVariants.{Value}
 use Rattle.vrf_model.specs.Names.{fname}
-use Rattle.vrf_model.specs.Laws.Names.{fname-reads}
+use Rattle.vrf_model.proofs.Laws.Names.{fname-reads}
 use Rattle.vrf_reader.specs.Inner.Texts.{TextRead}
-use Rattle.vrf_reader.specs.Laws.Simulates.{read-stops}
-use Rattle.vrf_reader.specs.Laws.Texts.{scratch-length, scratch-text}
-use Rattle.vrf_reader.specs.Laws.Fields.{no_name, field-refused, field-set}
+use Rattle.vrf_reader.proofs.Laws.Simulates.{read-stops}
+use Rattle.vrf_reader.proofs.Laws.Texts.{scratch-length, scratch-text}
+use Rattle.vrf_reader.proofs.Laws.Fields.{no_name, field-refused, field-set}
 use Rattle.vrf_reader.proofs.fields.named_field.Statement.{statement}
 use Rattle.vrf_reader.proofs.fields.named_field.Tie as tie
 

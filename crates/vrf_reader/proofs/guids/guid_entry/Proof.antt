@@ -2,9 +2,9 @@
 use borrow.Author.Rules.{rules}
 use Rattle.vrf_bitio.specs.Number.{word32}
 use Rattle.vrf_model.specs.Runs.{guid_entry}
-use Rattle.vrf_reader.specs.Laws.Simulates.{read-stops}
-use Rattle.vrf_reader.specs.Laws.Within.{same-window}
-use Rattle.vrf_reader.specs.Laws.Guids.{entry-negative, entry-refused, entry_read}
+use Rattle.vrf_reader.proofs.Laws.Simulates.{read-stops}
+use Rattle.vrf_reader.proofs.Laws.Within.{same-window}
+use Rattle.vrf_reader.proofs.Laws.Guids.{entry-negative, entry-refused, entry_read}
 use Rattle.vrf_reader.proofs.guids.guid_entry.Statement.{statement}
 use Rattle.vrf_reader.proofs.guids.guid_entry.Tie as tie
 

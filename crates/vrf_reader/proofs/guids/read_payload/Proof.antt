@@ -1,8 +1,8 @@
 -- `vrf_reader::guids::read_payload` satisfies its contract: the window, its object, and the bytes that the object left.
 use borrow.Author.Rules.{rules}
 use Rattle.vrf_model.specs.Runs.{object_at}
-use Rattle.vrf_reader.specs.Laws.Within.{Inside, sub-inside}
-use Rattle.vrf_reader.specs.Laws.Guids.{payload-short, payload-refused, payload-whole, payload-trailing}
+use Rattle.vrf_reader.proofs.Laws.Within.{Inside, sub-inside}
+use Rattle.vrf_reader.proofs.Laws.Guids.{payload-short, payload-refused, payload-whole, payload-trailing}
 use Rattle.vrf_reader.proofs.guids.read_payload.Statement.{statement}
 use Rattle.vrf_reader.proofs.guids.read_payload.Tie as tie
 

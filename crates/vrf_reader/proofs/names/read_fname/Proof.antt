@@ -1,9 +1,9 @@
 -- `vrf_reader::names::read_fname` satisfies its contract: the kind byte, then a name of that kind.
 use borrow.Author.Rules.{rules}
 use Rattle.vrf_bitio.specs.Number.{byte}
-use Rattle.vrf_bitio.specs.Laws.Answers.{refused-first}
+use Rattle.vrf_bitio.proofs.Laws.Answers.{refused-first}
 use Rattle.vrf_model.specs.Names.{fname}
-use Rattle.vrf_reader.specs.Laws.Texts.{text-kind, index-kind}
+use Rattle.vrf_reader.proofs.Laws.Texts.{text-kind, index-kind}
 use Rattle.vrf_reader.proofs.names.read_fname.Statement.{statement}
 use Rattle.vrf_reader.proofs.names.read_fname.Tie as tie
 

@@ -2,9 +2,9 @@
 use native.Mathlib.Omega.{arith}
 use borrow.Author.Rules.{rules}
 use Rattle.vrf_bitio.specs.Number.{packed}
-use Rattle.vrf_bitio.specs.Laws.Answers.{refused-first}
+use Rattle.vrf_bitio.proofs.Laws.Answers.{refused-first}
 use Rattle.vrf_model.specs.Names.{index_name}
-use Rattle.vrf_reader.specs.Laws.Texts.{is-small, index_in}
+use Rattle.vrf_reader.proofs.Laws.Texts.{is-small, index_in}
 use Rattle.vrf_reader.proofs.names.read_index_name.Statement.{statement}
 use Rattle.vrf_reader.proofs.names.read_index_name.Tie as tie
 

@@ -2,8 +2,8 @@
 use borrow.Author.Rules.{rules}
 use mir.Facts.{to_z-of_z}
 use Rattle.vrf_bitio.specs.Number.{int32}
-use Rattle.vrf_bitio.specs.Laws.Answers.{refused-first}
-use Rattle.vrf_reader.specs.Laws.Texts.{is-small, numbered-in}
+use Rattle.vrf_bitio.proofs.Laws.Answers.{refused-first}
+use Rattle.vrf_reader.proofs.Laws.Texts.{is-small, numbered-in}
 use Rattle.vrf_reader.proofs.names.read_number.Statement.{statement}
 use Rattle.vrf_reader.proofs.names.read_number.Tie as tie
 

@@ -1,6 +1,6 @@
 -- `vrf_reader::names::read_text` satisfies its contract.
 use borrow.Author.Rules.{rules}
-use Rattle.vrf_reader.specs.Laws.Texts.{text_in}
+use Rattle.vrf_reader.proofs.Laws.Texts.{text_in}
 use Rattle.vrf_reader.proofs.names.read_text.Statement.{statement}
 use Rattle.vrf_reader.proofs.names.read_text.Tie as tie
 

@@ -1,10 +1,10 @@
 -- `vrf_reader::names::read_text_name` satisfies its contract: a text, then its number.
 use native.Mathlib.Omega.{arith}
 use borrow.Author.Rules.{rules}
-use Rattle.vrf_bitio.specs.Laws.Answers.{refused-first}
+use Rattle.vrf_bitio.proofs.Laws.Answers.{refused-first}
 use Rattle.vrf_text.specs.Text.{fstring}
 use Rattle.vrf_model.specs.Names.{text_name}
-use Rattle.vrf_reader.specs.Laws.Texts.{name-after}
+use Rattle.vrf_reader.proofs.Laws.Texts.{name-after}
 use Rattle.vrf_reader.proofs.names.read_text_name.Statement.{statement}
 use Rattle.vrf_reader.proofs.names.read_text_name.Tie as tie
 

@@ -5,7 +5,7 @@ use borrow.Author.Rules.{rules}
 use borrow.Fn.Kinds.{In}
 use borrow.Fn.PlainCycle.{Measures, is, falls, and}
 use Rattle.vrf_reader.specs.Inner.Simulates.{number_outcome}
-use Rattle.vrf_reader.specs.Laws.Objects.{too-deep, object-refused, object-ends, outer-refused, outer-then}
+use Rattle.vrf_reader.proofs.Laws.Objects.{too-deep, object-refused, object-ends, outer-refused, outer-then}
 use Rattle.vrf_reader.proofs.objects.+load_object.{statement}
 use Rattle.vrf_reader.proofs.objects.+load_object.Lts-load_object as lts
 use Rattle.vrf_reader.proofs.objects.+load_object.Tie.{close}

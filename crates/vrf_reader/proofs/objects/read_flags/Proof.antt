@@ -1,7 +1,7 @@
 -- `vrf_reader::objects::read_flags` satisfies its contract.
 use mathlib.Core.Logic.{⊎_elim}
 use borrow.Author.Rules.{rules}
-use Rattle.vrf_reader.specs.Laws.Objects.{flags-read, flags-none}
+use Rattle.vrf_reader.proofs.Laws.Objects.{flags-read, flags-none}
 use Rattle.vrf_reader.proofs.objects.read_flags.Statement.{statement}
 use Rattle.vrf_reader.proofs.objects.read_flags.Tie as tie
 

@@ -1,6 +1,6 @@
 -- `vrf_reader::objects::read_head` satisfies its contract: the GUID, then its flags.
 use borrow.Author.Rules.{rules}
-use Rattle.vrf_reader.specs.Laws.Objects.{head-refused, head-zero, head-flagless, head-path, head-ends}
+use Rattle.vrf_reader.proofs.Laws.Objects.{head-refused, head-zero, head-flagless, head-path, head-ends}
 use Rattle.vrf_reader.proofs.objects.read_head.Statement.{statement}
 use Rattle.vrf_reader.proofs.objects.read_head.Tie as tie
 

@@ -2,12 +2,12 @@
 use borrow.Author.Rules.{rules}
 use Rattle.vrf_bitio.specs.Answers.{read_at}
 use Rattle.vrf_text.specs.Text.{fstring}
-use Rattle.vrf_model.specs.Laws.Readings.{fstring-reads}
+use Rattle.vrf_model.proofs.Laws.Readings.{fstring-reads}
 use Rattle.vrf_reader.specs.Inner.Objects.{recorded}
 use Rattle.vrf_reader.specs.Inner.Texts.{TextRead}
-use Rattle.vrf_reader.specs.Laws.Simulates.{read-stops}
-use Rattle.vrf_reader.specs.Laws.Texts.{scratch-length, scratch-text}
-use Rattle.vrf_reader.specs.Laws.Objects.{record-sumless, record-set, record-refused}
+use Rattle.vrf_reader.proofs.Laws.Simulates.{read-stops}
+use Rattle.vrf_reader.proofs.Laws.Texts.{scratch-length, scratch-text}
+use Rattle.vrf_reader.proofs.Laws.Objects.{record-sumless, record-set, record-refused}
 use Rattle.vrf_reader.proofs.objects.record_object.Statement.{statement}
 use Rattle.vrf_reader.proofs.objects.record_object.Tie as tie
 

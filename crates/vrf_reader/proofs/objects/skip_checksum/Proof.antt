@@ -1,6 +1,6 @@
 -- `vrf_reader::objects::skip_checksum` satisfies its contract.
 use borrow.Author.Rules.{rules}
-use Rattle.vrf_reader.specs.Laws.Objects.{checksum-none, checksum-read, checksum-refused}
+use Rattle.vrf_reader.proofs.Laws.Objects.{checksum-none, checksum-read, checksum-refused}
 use Rattle.vrf_reader.proofs.objects.skip_checksum.Statement.{statement}
 use Rattle.vrf_reader.proofs.objects.skip_checksum.Tie as tie
 

@@ -5,8 +5,8 @@ use native.Mathlib.Omega.{arith}
 use lib.ListN.{length}
 use borrow.Author.Rules.{rules}
 use Rattle.vrf_reader.specs.Inner.Runs.{entry_of}
-use Rattle.vrf_reader.specs.Laws.Times.{EntriesLeft, none_read, one-more, one-refused, all_read}
-use Rattle.vrf_reader.specs.Laws.Within.{same-window}
+use Rattle.vrf_reader.proofs.Laws.Times.{EntriesLeft, none_read, one-more, one-refused, all_read}
+use Rattle.vrf_reader.proofs.Laws.Within.{same-window}
 use Rattle.vrf_reader.proofs.runs.read_entries.Statement.{statement}
 use Rattle.vrf_reader.proofs.runs.read_entries.Tie as tie
 

@@ -2,9 +2,9 @@
 use borrow.Author.Rules.{rules}
 use Rattle.vrf_model.specs.Names.{number}
 use Rattle.vrf_model.specs.Runs.{run_of}
-use Rattle.vrf_reader.specs.Laws.Simulates.{read-stops}
-use Rattle.vrf_reader.specs.Laws.Times.{run-refused, run-read}
-use Rattle.vrf_reader.specs.Laws.Within.{same-window}
+use Rattle.vrf_reader.proofs.Laws.Simulates.{read-stops}
+use Rattle.vrf_reader.proofs.Laws.Times.{run-refused, run-read}
+use Rattle.vrf_reader.proofs.Laws.Within.{same-window}
 use Rattle.vrf_reader.proofs.runs.read_run.Statement.{statement}
 use Rattle.vrf_reader.proofs.runs.read_run.Tie as tie
 

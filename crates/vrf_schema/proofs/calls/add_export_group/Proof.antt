@@ -3,7 +3,7 @@ use mathlib.Core.Path.{refl}
 use native.Mathlib.Omega.{arith}
 use borrow.Author.Rules.{rules}
 use Rattle.vrf_model.specs.Calls.{at_place, if_text_accepted, run}
-use Rattle.vrf_schema.specs.Laws.Checked.{step-refused, admitted-good, admitted-text, too_many, added-directly}
+use Rattle.vrf_schema.proofs.Laws.Checked.{step-refused, admitted-good, admitted-text, too_many, added-directly}
 use Rattle.vrf_schema.proofs.calls.add_export_group.Statement.{statement}
 use Rattle.vrf_schema.proofs.calls.add_export_group.Tie as tie
 

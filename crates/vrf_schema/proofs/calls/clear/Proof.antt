@@ -1,7 +1,7 @@
 -- `vrf_schema::calls::clear` satisfies its contract.
 use borrow.Author.Rules.{rules}
 use Rattle.vrf_model.specs.Calls.{if_text_accepted, run}
-use Rattle.vrf_schema.specs.Laws.Checked.{call-refused, admitted-good, acted-by}
+use Rattle.vrf_schema.proofs.Laws.Checked.{call-refused, admitted-good, acted-by}
 use Rattle.vrf_schema.proofs.calls.clear.Statement.{statement}
 use Rattle.vrf_schema.proofs.calls.clear.Tie as tie
 

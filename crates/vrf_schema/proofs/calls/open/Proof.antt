@@ -1,6 +1,6 @@
 -- `vrf_schema::calls::open` satisfies its contract.
 use borrow.Author.Rules.{rules}
-use Rattle.vrf_schema.specs.Laws.Open.{open-contract}
+use Rattle.vrf_schema.proofs.Laws.Open.{open-contract}
 use Rattle.vrf_schema.proofs.calls.open.Statement.{statement}
 use Rattle.vrf_schema.proofs.calls.open.Tie as tie
 

@@ -2,7 +2,7 @@
 use mathlib.Core.Path.{refl}
 use borrow.Author.Rules.{rules}
 use Rattle.vrf_model.specs.Calls.{field_placed, if_text_accepted, run}
-use Rattle.vrf_schema.specs.Laws.Checked.{step-refused, admitted-good, admitted-text, placed_by}
+use Rattle.vrf_schema.proofs.Laws.Checked.{step-refused, admitted-good, admitted-text, placed_by}
 use Rattle.vrf_schema.proofs.calls.set_field_on_group.Statement.{statement}
 use Rattle.vrf_schema.proofs.calls.set_field_on_group.Tie as tie
 

@@ -2,7 +2,7 @@
 use mathlib.Core.Path.{refl}
 use borrow.Author.Rules.{rules}
 use Rattle.vrf_model.specs.Calls.{acted, if_text_accepted, run}
-use Rattle.vrf_schema.specs.Laws.Checked.{step-refused, admitted-good, admitted-text, acted-by}
+use Rattle.vrf_schema.proofs.Laws.Checked.{step-refused, admitted-good, admitted-text, acted-by}
 use Rattle.vrf_schema.proofs.calls.set_net_guid_path.Statement.{statement}
 use Rattle.vrf_schema.proofs.calls.set_net_guid_path.Tie as tie
 

@@ -1,6 +1,6 @@
 -- `vrf_schema::checked::check_book` satisfies its contract.
 use borrow.Author.Rules.{rules}
-use Rattle.vrf_store.specs.Laws.Check.Steps.{fails, holds}
+use Rattle.vrf_store.proofs.Laws.Check.Steps.{fails, holds}
 use Rattle.vrf_schema.proofs.checked.check_book.Statement.{statement}
 use Rattle.vrf_schema.proofs.checked.check_book.Tie as tie
 

@@ -1,6 +1,6 @@
 -- `vrf_schema::checked::check_book_text` satisfies its contract.
 use borrow.Author.Rules.{rules}
-use Rattle.vrf_schema.specs.Laws.Checked.{book-refused, book-accepted}
+use Rattle.vrf_schema.proofs.Laws.Checked.{book-refused, book-accepted}
 use Rattle.vrf_schema.proofs.checked.check_book_text.Statement.{statement}
 use Rattle.vrf_schema.proofs.checked.check_book_text.Tie as tie
 

@@ -1,9 +1,9 @@
 -- `vrf_schema::lookups::field_name` satisfies its contract.
 use borrow.Author.Rules.{rules}
 use Rattle.vrf_model.specs.Calls.{look_groups, look}
-use Rattle.vrf_store.specs.Laws.Memory.Check.{check-good}
-use Rattle.vrf_store.specs.Laws.Check.Steps.{fails, holds}
-use Rattle.vrf_schema.specs.Laws.Checked.{text-refused, text-found}
+use Rattle.vrf_store.proofs.Laws.Memory.Check.{check-good}
+use Rattle.vrf_store.proofs.Laws.Check.Steps.{fails, holds}
+use Rattle.vrf_schema.proofs.Laws.Checked.{text-refused, text-found}
 use Rattle.vrf_schema.proofs.lookups.field_name.Statement.{statement}
 use Rattle.vrf_schema.proofs.lookups.field_name.Tie as tie
 

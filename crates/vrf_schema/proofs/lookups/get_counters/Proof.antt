@@ -1,8 +1,8 @@
 -- `vrf_schema::lookups::get_counters` satisfies its contract.
 use native.Mathlib.Omega.{arith}
 use borrow.Author.Rules.{rules}
-use Rattle.vrf_schema.specs.Laws.Checked.{admitted-good}
-use Rattle.vrf_schema.specs.Laws.Counters.{counters-refused, counters-read}
+use Rattle.vrf_schema.proofs.Laws.Checked.{admitted-good}
+use Rattle.vrf_schema.proofs.Laws.Counters.{counters-refused, counters-read}
 use Rattle.vrf_schema.proofs.lookups.get_counters.Statement.{statement}
 use Rattle.vrf_schema.proofs.lookups.get_counters.Tie as tie
 

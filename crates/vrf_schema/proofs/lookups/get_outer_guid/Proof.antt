@@ -1,7 +1,7 @@
 -- `vrf_schema::lookups::get_outer_guid` satisfies its contract.
 use borrow.Author.Rules.{rules}
 use Rattle.vrf_model.specs.Calls.{if_text_accepted, look_guids, look}
-use Rattle.vrf_schema.specs.Laws.Checked.{call-refused, admitted-good, looked}
+use Rattle.vrf_schema.proofs.Laws.Checked.{call-refused, admitted-good, looked}
 use Rattle.vrf_schema.proofs.lookups.get_outer_guid.Statement.{statement}
 use Rattle.vrf_schema.proofs.lookups.get_outer_guid.Tie as tie
 

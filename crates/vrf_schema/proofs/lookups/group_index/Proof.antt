@@ -1,7 +1,7 @@
 -- `vrf_schema::lookups::group_index` satisfies its contract.
 use borrow.Author.Rules.{rules}
 use Rattle.vrf_model.specs.Calls.{if_text_accepted, look_groups, look}
-use Rattle.vrf_schema.specs.Laws.Checked.{call-refused, admitted-good, looked}
+use Rattle.vrf_schema.proofs.Laws.Checked.{call-refused, admitted-good, looked}
 use Rattle.vrf_schema.proofs.lookups.group_index.Statement.{statement}
 use Rattle.vrf_schema.proofs.lookups.group_index.Tie as tie
 

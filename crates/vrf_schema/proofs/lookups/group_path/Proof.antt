@@ -1,9 +1,9 @@
 -- `vrf_schema::lookups::group_path` satisfies its contract.
 use borrow.Author.Rules.{rules}
 use Rattle.vrf_model.specs.Calls.{look_groups, look}
-use Rattle.vrf_store.specs.Laws.Memory.Check.{check-good}
-use Rattle.vrf_store.specs.Laws.Check.Steps.{fails, holds}
-use Rattle.vrf_schema.specs.Laws.Checked.{text-refused, text-found}
+use Rattle.vrf_store.proofs.Laws.Memory.Check.{check-good}
+use Rattle.vrf_store.proofs.Laws.Check.Steps.{fails, holds}
+use Rattle.vrf_schema.proofs.Laws.Checked.{text-refused, text-found}
 use Rattle.vrf_schema.proofs.lookups.group_path.Statement.{statement}
 use Rattle.vrf_schema.proofs.lookups.group_path.Tie as tie
 

@@ -3,7 +3,7 @@ use mathlib.Core.Path.{refl}
 use native.Mathlib.Omega.{arith}
 use borrow.Author.Rules.{rules}
 use Rattle.vrf_model.specs.Calls.{if_text_accepted, look_groups, look}
-use Rattle.vrf_schema.specs.Laws.Checked.{look-refused, admitted-good, admitted-text, looked}
+use Rattle.vrf_schema.proofs.Laws.Checked.{look-refused, admitted-good, admitted-text, looked}
 use Rattle.vrf_schema.proofs.lookups.resolve_cnc_for_instance_name.Statement.{statement}
 use Rattle.vrf_schema.proofs.lookups.resolve_cnc_for_instance_name.Tie as tie
 

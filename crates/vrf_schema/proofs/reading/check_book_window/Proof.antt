@@ -1,6 +1,6 @@
 -- `vrf_schema::reading::check_book_window` satisfies its contract.
 use borrow.Author.Rules.{rules}
-use Rattle.vrf_schema.specs.Laws.Reading.{book-corrupt, book-passed}
+use Rattle.vrf_schema.proofs.Laws.Reading.{book-corrupt, book-passed}
 use Rattle.vrf_schema.proofs.reading.check_book_window.Statement.{statement}
 use Rattle.vrf_schema.proofs.reading.check_book_window.Tie as tie
 

@@ -6,7 +6,7 @@ use borrow.Author.Rules.{rules}
 use Rattle.vrf_model.specs.Runs.{object, object_at}
 use Rattle.vrf_model.specs.Calls.{ran, read_window, run}
 use Rattle.vrf_reader.specs.Inner.Simulates.{Refines, number_outcome}
-use Rattle.vrf_schema.specs.Laws.Reading.{window-good, window-refused, run-read}
+use Rattle.vrf_schema.proofs.Laws.Reading.{window-good, window-refused, run-read}
 use Rattle.vrf_schema.proofs.reading.load_object.Statement.{statement}
 use Rattle.vrf_schema.proofs.reading.load_object.Tie as tie
 

@@ -3,7 +3,7 @@ use native.Mathlib.Omega.{arith}
 use borrow.Author.Rules.{rules}
 use Rattle.vrf_model.specs.Block.{by_table, block}
 use Rattle.vrf_model.specs.Calls.{block_counts, read_window, run}
-use Rattle.vrf_schema.specs.Laws.Reading.{window-good, window-refused, block_read}
+use Rattle.vrf_schema.proofs.Laws.Reading.{window-good, window-refused, block_read}
 use Rattle.vrf_schema.proofs.reading.read_checkpoint_tables.Statement.{statement}
 use Rattle.vrf_schema.proofs.reading.read_checkpoint_tables.Tie as tie
 

@@ -3,7 +3,7 @@ use native.Mathlib.Omega.{arith}
 use borrow.Author.Rules.{rules}
 use Rattle.vrf_model.specs.Runs.{fields_run}
 use Rattle.vrf_model.specs.Calls.{ran, read_window, run}
-use Rattle.vrf_schema.specs.Laws.Reading.{window-good, window-refused, run-read}
+use Rattle.vrf_schema.proofs.Laws.Reading.{window-good, window-refused, run-read}
 use Rattle.vrf_schema.proofs.reading.read_net_field_exports.Statement.{statement}
 use Rattle.vrf_schema.proofs.reading.read_net_field_exports.Tie as tie
 

@@ -1,7 +1,7 @@
 -- `vrf_schema::writing::write_checkpoint_tables` satisfies its contract.
 use borrow.Author.Rules.{rules}
-use Rattle.vrf_schema.specs.Laws.Checked.{admitted-good}
-use Rattle.vrf_schema.specs.Laws.Write.{not-written, written-by}
+use Rattle.vrf_schema.proofs.Laws.Checked.{admitted-good}
+use Rattle.vrf_schema.proofs.Laws.Write.{not-written, written-by}
 use Rattle.vrf_schema.proofs.writing.write_checkpoint_tables.Statement.{statement}
 use Rattle.vrf_schema.proofs.writing.write_checkpoint_tables.Tie as tie
 

@@ -1,5 +1,5 @@
 use Rattle.std.proofs.Common.{rules}
-use Rattle.vrf_script_calls.specs.Laws.Blocks.{wrote-within}
+use Rattle.vrf_script_calls.proofs.Laws.Blocks.{wrote-within}
 use Rattle.vrf_script_calls.proofs.blocks.write_at.Statement.{statement}
 use Rattle.vrf_script_calls.proofs.blocks.write_at.Tie as tie
 

@@ -1,5 +1,5 @@
 use Rattle.std.proofs.Common.{rules}
-use Rattle.vrf_script_calls.specs.Laws.Blocks.{wrote-within}
+use Rattle.vrf_script_calls.proofs.Laws.Blocks.{wrote-within}
 use Rattle.vrf_script_calls.proofs.Written.{wrote-in}
 use Rattle.vrf_script_calls.proofs.blocks.write_into.Statement.{statement}
 use Rattle.vrf_script_calls.proofs.blocks.write_into.Tie as tie

@@ -1,6 +1,6 @@
 -- `vrf_store::counters::step_dropped` satisfies its contract: it changes one counter and nothing else.
 use Rattle.std.proofs.Common.{rules}
-use Rattle.vrf_store.specs.Laws.Counters.{counted-dropped}
+use Rattle.vrf_store.proofs.Laws.Counters.{counted-dropped}
 use Rattle.vrf_store.proofs.counters.step_dropped.Statement.{statement}
 use Rattle.vrf_store.proofs.counters.step_dropped.Tie as tie
 

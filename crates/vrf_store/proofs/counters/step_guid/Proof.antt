@@ -1,6 +1,6 @@
 -- `vrf_store::counters::step_guid` satisfies its contract: it changes one counter and nothing else.
 use Rattle.std.proofs.Common.{rules}
-use Rattle.vrf_store.specs.Laws.Counters.{counted-guid}
+use Rattle.vrf_store.proofs.Laws.Counters.{counted-guid}
 use Rattle.vrf_store.proofs.counters.step_guid.Statement.{statement}
 use Rattle.vrf_store.proofs.counters.step_guid.Tie as tie
 

@@ -1,6 +1,6 @@
 -- `vrf_store::counters::step_renamed` satisfies its contract: it changes one counter and nothing else.
 use Rattle.std.proofs.Common.{rules}
-use Rattle.vrf_store.specs.Laws.Counters.{counted-renamed}
+use Rattle.vrf_store.proofs.Laws.Counters.{counted-renamed}
 use Rattle.vrf_store.proofs.counters.step_renamed.Statement.{statement}
 use Rattle.vrf_store.proofs.counters.step_renamed.Tie as tie
 

@@ -1,6 +1,6 @@
 -- `vrf_store::counters::step_replaced` satisfies its contract: it changes one counter and nothing else.
 use Rattle.std.proofs.Common.{rules}
-use Rattle.vrf_store.specs.Laws.Counters.{counted-replaced}
+use Rattle.vrf_store.proofs.Laws.Counters.{counted-replaced}
 use Rattle.vrf_store.proofs.counters.step_replaced.Statement.{statement}
 use Rattle.vrf_store.proofs.counters.step_replaced.Tie as tie
 

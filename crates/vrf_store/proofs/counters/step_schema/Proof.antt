@@ -1,6 +1,6 @@
 -- `vrf_store::counters::step_schema` satisfies its contract: it changes one counter and nothing else.
 use Rattle.std.proofs.Common.{rules}
-use Rattle.vrf_store.specs.Laws.Counters.{counted-schema}
+use Rattle.vrf_store.proofs.Laws.Counters.{counted-schema}
 use Rattle.vrf_store.proofs.counters.step_schema.Statement.{statement}
 use Rattle.vrf_store.proofs.counters.step_schema.Tie as tie
 

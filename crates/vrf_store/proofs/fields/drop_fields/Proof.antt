@@ -2,7 +2,7 @@
 -- the
 -- names that are dropped.
 use Rattle.std.proofs.Common.{arith, rules}
-use Rattle.vrf_store.specs.Laws.Fields.Memory.{dropped-held, drop-fields}
+use Rattle.vrf_store.proofs.Laws.Fields.Memory.{dropped-held, drop-fields}
 use Rattle.vrf_store.proofs.fields.drop_fields.Statement.{statement}
 use Rattle.vrf_store.proofs.fields.drop_fields.Tie as tie
 

@@ -1,8 +1,8 @@
 -- `vrf_store::fields::pass_row` satisfies its contract: the row is dropped or kept.
 use Rattle.std.proofs.Common.{◌+◌, ◌*◌, arith, rules}
-use Rattle.vrf_words.specs.Laws.Words.{word_bound}
+use Rattle.vrf_words.proofs.Laws.Words.{word_bound}
 use Rattle.vrf_table.specs.Table.{key, at, len, info}
-use Rattle.vrf_store.specs.Laws.Fields.Drop.{dropped-row, kept_row}
+use Rattle.vrf_store.proofs.Laws.Fields.Drop.{dropped-row, kept_row}
 use Rattle.vrf_store.proofs.fields.pass_row.Statement.{statement}
 use Rattle.vrf_store.proofs.fields.pass_row.Tie as tie
 

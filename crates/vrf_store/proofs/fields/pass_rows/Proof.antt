@@ -1,6 +1,6 @@
 -- `vrf_store::fields::pass_rows` satisfies its contract. The loop invariant: e rows are passed.
 use Rattle.std.proofs.Common.{◌≡◌, ◌+◌, ◌-◌, ◌*◌, ◌≤◌, length, ◌∙◌, arith, rules}
-use Rattle.vrf_store.specs.Laws.Fields.Drop.{Passing, pass-start, pass_step}
+use Rattle.vrf_store.proofs.Laws.Fields.Drop.{Passing, pass-start, pass_step}
 use Rattle.vrf_store.proofs.fields.pass_rows.Statement.{statement}
 use Rattle.vrf_store.proofs.fields.pass_rows.Tie as tie
 

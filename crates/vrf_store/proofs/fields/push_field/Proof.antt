@@ -1,6 +1,6 @@
 -- `vrf_store::fields::push_field` satisfies its contract: the law `push-field` gives the memory after its writes.
 use Rattle.std.proofs.Common.{rules}
-use Rattle.vrf_store.specs.Laws.Fields.Memory.{push-field}
+use Rattle.vrf_store.proofs.Laws.Fields.Memory.{push-field}
 use Rattle.vrf_store.proofs.fields.push_field.Statement.{statement}
 use Rattle.vrf_store.proofs.fields.push_field.Tie as tie
 

@@ -2,8 +2,8 @@
 -- include
 -- the old name.
 use Rattle.std.proofs.Common.{arith, rules}
-use Rattle.vrf_store.specs.Laws.Fields.Changes.{len-held}
-use Rattle.vrf_store.specs.Laws.Fields.Memory.{set-field-row}
+use Rattle.vrf_store.proofs.Laws.Fields.Changes.{len-held}
+use Rattle.vrf_store.proofs.Laws.Fields.Memory.{set-field-row}
 use Rattle.vrf_store.proofs.fields.set_field_row.Statement.{statement}
 use Rattle.vrf_store.proofs.fields.set_field_row.Tie as tie
 

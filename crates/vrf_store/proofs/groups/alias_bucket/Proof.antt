@@ -1,7 +1,7 @@
 -- `vrf_store::groups::alias_bucket` satisfies its contract: the path has this alias or not.
 use Rattle.std.proofs.Common.{ap, rules}
 use mathlib.Core.Option.{some}
-use Rattle.vrf_path.specs.Laws.Answers.{spelled-absent, spelled-bytes}
+use Rattle.vrf_path.proofs.Laws.Answers.{spelled-absent, spelled-bytes}
 use Rattle.vrf_store.specs.Inner.Groups.{bucket_of}
 use Rattle.vrf_store.proofs.groups.alias_bucket.Statement.{statement}
 use Rattle.vrf_store.proofs.groups.alias_bucket.Tie as tie

@@ -3,7 +3,7 @@ use Rattle.std.proofs.Common.{◌≤◌, length, ap, arith, rules}
 use Rattle.vrf_table.specs.Table.{key}
 use Rattle.vrf_table.specs.TextIndex.{key_numbered}
 use Rattle.vrf_store.specs.Inner.Groups.{bucket_of}
-use Rattle.vrf_store.specs.Laws.Groups.Memory.{row_inside, path_inside, path-short}
+use Rattle.vrf_store.proofs.Laws.Groups.Memory.{row_inside, path_inside, path-short}
 use Rattle.vrf_store.proofs.groups.buckets_of.Statement.{statement}
 use Rattle.vrf_store.proofs.groups.buckets_of.Tie as tie
 

@@ -1,6 +1,6 @@
 -- `vrf_store::groups::clear_heads` satisfies its contract: the law `clear-all` gives the memory after its writes.
 use Rattle.std.proofs.Common.{rules}
-use Rattle.vrf_store.specs.Laws.Groups.Rebuild.{clear-all}
+use Rattle.vrf_store.proofs.Laws.Groups.Rebuild.{clear-all}
 use Rattle.vrf_store.proofs.groups.clear_heads.Statement.{statement}
 use Rattle.vrf_store.proofs.groups.clear_heads.Tie as tie
 

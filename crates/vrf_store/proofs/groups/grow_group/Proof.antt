@@ -1,6 +1,6 @@
 -- `vrf_store::groups::grow_group` satisfies its contract: the law `grow-stepped` gives the memory after the write, if there is one.
 use Rattle.std.proofs.Common.{arith, rules}
-use Rattle.vrf_store.specs.Laws.Groups.Merged.{info-word, grow-stepped, grow-skipped}
+use Rattle.vrf_store.proofs.Laws.Groups.Merged.{info-word, grow-stepped, grow-skipped}
 use Rattle.vrf_store.proofs.groups.grow_group.Statement.{statement}
 use Rattle.vrf_store.proofs.groups.grow_group.Tie as tie
 

@@ -2,9 +2,9 @@
 use Rattle.std.proofs.Common.{◌+◌, ◌*◌, arith, rules}
 use Rattle.vrf_store.specs.Store.{store_of}
 use Rattle.vrf_store.specs.Inner.Groups.{BucketsOf}
-use Rattle.vrf_store.specs.Laws.Memory.Written.{unwritten}
-use Rattle.vrf_store.specs.Laws.Groups.Links.{key_below, path-below, leaf-below}
-use Rattle.vrf_store.specs.Laws.Groups.Memory.{after, pushable, group-written, group-joined}
+use Rattle.vrf_store.proofs.Laws.Memory.Written.{unwritten}
+use Rattle.vrf_store.proofs.Laws.Groups.Links.{key_below, path-below, leaf-below}
+use Rattle.vrf_store.proofs.Laws.Groups.Memory.{after, pushable, group-written, group-joined}
 use Rattle.vrf_store.proofs.groups.index_group.Statement.{statement}
 use Rattle.vrf_store.proofs.groups.index_group.Tie as tie
 

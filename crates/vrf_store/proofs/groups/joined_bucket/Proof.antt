@@ -4,7 +4,7 @@ use Rattle.std.proofs.Common.{ap, ◌∙◌, rules}
 use Rattle.vrf_model.specs.Lookup.{Claim}
 use Rattle.vrf_table.specs.Inner.TextIndex.{leaf_bucket}
 use Rattle.vrf_store.specs.Inner.Groups.{unless_shared}
-use Rattle.vrf_store.specs.Laws.Groups.Buckets.{not-shared}
+use Rattle.vrf_store.proofs.Laws.Groups.Buckets.{not-shared}
 use Rattle.vrf_store.proofs.groups.joined_bucket.Statement.{statement}
 use Rattle.vrf_store.proofs.groups.joined_bucket.Tie as tie
 

@@ -1,6 +1,6 @@
 -- `vrf_store::groups::leaf_bucket_in` satisfies its contract.
 use Rattle.std.proofs.Common.{rules}
-use Rattle.vrf_store.specs.Laws.Groups.Memory.{leaves-walked}
+use Rattle.vrf_store.proofs.Laws.Groups.Memory.{leaves-walked}
 use Rattle.vrf_store.proofs.groups.leaf_bucket_in.Statement.{statement}
 use Rattle.vrf_store.proofs.groups.leaf_bucket_in.Tie as tie
 

@@ -5,8 +5,8 @@ use Rattle.vrf_path.specs.declared.Leaf.TheVariants.{At}
 use Rattle.vrf_model.specs.Lookup.{Claim}
 use Rattle.vrf_table.specs.TextIndex.{claim_of}
 use Rattle.vrf_table.specs.Inner.TextIndex.{leaf_bucket}
-use Rattle.vrf_store.specs.Laws.Check.Steps.{leaf-short, leaf-dotless}
-use Rattle.vrf_store.specs.Laws.Groups.Buckets.{leaf-joins, no-leaf-joins}
+use Rattle.vrf_store.proofs.Laws.Check.Steps.{leaf-short, leaf-dotless}
+use Rattle.vrf_store.proofs.Laws.Groups.Buckets.{leaf-joins, no-leaf-joins}
 use Rattle.vrf_store.proofs.groups.leaf_bucket_of.Statement.{statement}
 use Rattle.vrf_store.proofs.groups.leaf_bucket_of.Tie as tie
 

@@ -1,6 +1,6 @@
 -- `vrf_store::groups::push_entry` satisfies its contract: it writes two words of the index, or none.
 use Rattle.std.proofs.Common.{arith, rules}
-use Rattle.vrf_store.specs.Laws.Memory.Entries.{entry-written, entry_absent}
+use Rattle.vrf_store.proofs.Laws.Memory.Entries.{entry-written, entry_absent}
 use Rattle.vrf_store.proofs.groups.push_entry.Statement.{statement}
 use Rattle.vrf_store.proofs.groups.push_entry.Tie as tie
 

@@ -2,7 +2,7 @@
 use Rattle.std.proofs.Common.{suc, ◌+◌, rules}
 use Rattle.vrf_store.specs.Store.{header_of, store_of}
 use Rattle.vrf_store.specs.Inner.Memory.{WrittenStore}
-use Rattle.vrf_store.specs.Laws.Groups.Changes.{with_group_row, push-written, push-indexable, push-stepped}
+use Rattle.vrf_store.proofs.Laws.Groups.Changes.{with_group_row, push-written, push-indexable, push-stepped}
 use Rattle.vrf_store.proofs.groups.push_group.Statement.{statement}
 use Rattle.vrf_store.proofs.groups.push_group.Tie as tie
 

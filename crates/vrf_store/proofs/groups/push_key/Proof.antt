@@ -1,6 +1,6 @@
 -- `vrf_store::groups::push_key` satisfies its contract: the law `key-written` gives the memory after its write.
 use Rattle.std.proofs.Common.{arith, rules}
-use Rattle.vrf_store.specs.Laws.Groups.Memory.{key-written}
+use Rattle.vrf_store.proofs.Laws.Groups.Memory.{key-written}
 use Rattle.vrf_store.proofs.groups.push_key.Statement.{statement}
 use Rattle.vrf_store.proofs.groups.push_key.Tie as tie
 

@@ -1,6 +1,6 @@
 -- `vrf_store::groups::push_leaf` satisfies its contract: the law `leaf-written` gives the memory after its write.
 use Rattle.std.proofs.Common.{arith, rules}
-use Rattle.vrf_store.specs.Laws.Groups.Memory.{leaf-written}
+use Rattle.vrf_store.proofs.Laws.Groups.Memory.{leaf-written}
 use Rattle.vrf_store.proofs.groups.push_leaf.Statement.{statement}
 use Rattle.vrf_store.proofs.groups.push_leaf.Tie as tie
 

@@ -1,6 +1,6 @@
 -- `vrf_store::groups::push_path` satisfies its contract: the law `path-written` gives the memory after its write.
 use Rattle.std.proofs.Common.{arith, rules}
-use Rattle.vrf_store.specs.Laws.Groups.Memory.{path-written}
+use Rattle.vrf_store.proofs.Laws.Groups.Memory.{path-written}
 use Rattle.vrf_store.proofs.groups.push_path.Statement.{statement}
 use Rattle.vrf_store.proofs.groups.push_path.Tie as tie
 

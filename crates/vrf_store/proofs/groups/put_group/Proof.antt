@@ -1,6 +1,6 @@
 -- `vrf_store::groups::put_group` satisfies its contract: the law `row_written` gives the memory after its write.
 use Rattle.std.proofs.Common.{rules}
-use Rattle.vrf_store.specs.Laws.Groups.Changes.{row_written}
+use Rattle.vrf_store.proofs.Laws.Groups.Changes.{row_written}
 use Rattle.vrf_store.proofs.groups.put_group.Statement.{statement}
 use Rattle.vrf_store.proofs.groups.put_group.Tie as tie
 

@@ -1,7 +1,7 @@
 -- `vrf_store::groups::rebuild_group_indexes` satisfies its contract. The loop invariant: the first g groups are in the indexes.
 use Rattle.std.proofs.Common.{◌-◌, ◌≤◌, ◌∙◌, arith, rules}
 use Rattle.vrf_store.specs.Inner.Groups.{MoreIndexed}
-use Rattle.vrf_store.specs.Laws.Groups.Rebuild.{joined-refl, joined-trans, next-indexable, rebuilt}
+use Rattle.vrf_store.proofs.Laws.Groups.Rebuild.{joined-refl, joined-trans, next-indexable, rebuilt}
 use Rattle.vrf_store.proofs.groups.rebuild_group_indexes.Statement.{statement}
 use Rattle.vrf_store.proofs.groups.rebuild_group_indexes.Tie as tie
 

@@ -1,6 +1,6 @@
 -- `vrf_store::groups::replace_group` satisfies its contract: the group has no fields.
 use Rattle.std.proofs.Common.{rules}
-use Rattle.vrf_store.specs.Laws.Groups.Replaced.{replace-handles, replace-content, stepped-as}
+use Rattle.vrf_store.proofs.Laws.Groups.Replaced.{replace-handles, replace-content, stepped-as}
 use Rattle.vrf_store.proofs.groups.replace_group.Statement.{statement}
 use Rattle.vrf_store.proofs.groups.replace_group.Tie as tie
 

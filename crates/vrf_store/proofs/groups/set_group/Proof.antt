@@ -1,7 +1,7 @@
 -- `vrf_store::groups::set_group` satisfies its contract: the group keeps its fields, which are below the larger slot count.
 use Rattle.std.proofs.Common.{ℕ, ◌+◌, ◌-◌, List, ap, ◌∙◌, rules}
 use Rattle.vrf_table.specs.Table.{info}
-use Rattle.vrf_store.specs.Laws.Groups.Replaced.{row_in, merge-old, merge-handles, merge-content, stepped-as}
+use Rattle.vrf_store.proofs.Laws.Groups.Replaced.{row_in, merge-old, merge-handles, merge-content, stepped-as}
 use Rattle.vrf_store.proofs.groups.set_group.Statement.{statement}
 use Rattle.vrf_store.proofs.groups.set_group.Tie as tie
 

@@ -3,8 +3,8 @@ use Rattle.std.proofs.Common.{ℕ, ◌+◌, ◌-◌, List, ap, ◌∙◌, rules}
 use Rattle.vrf_table.specs.Table.{len}
 use Rattle.vrf_store.specs.Store.{Store, header_of, store_of}
 use Rattle.vrf_store.specs.Inner.Memory.{WrittenStore}
-use Rattle.vrf_store.specs.Laws.Groups.Changes.{with_group_row}
-use Rattle.vrf_store.specs.Laws.Groups.Replaced.{row_in, path-held, set-written, set-ready, set-stepped}
+use Rattle.vrf_store.proofs.Laws.Groups.Changes.{with_group_row}
+use Rattle.vrf_store.proofs.Laws.Groups.Replaced.{row_in, path-held, set-written, set-ready, set-stepped}
 use Rattle.vrf_store.proofs.groups.set_row.Statement.{statement}
 use Rattle.vrf_store.proofs.groups.set_row.Tie as tie
 

@@ -1,7 +1,7 @@
 -- `vrf_store::groups::spelled_bucket` satisfies its contract: the key fits in the buffer in which it is written out.
 use Rattle.std.proofs.Common.{ap, ◌∙◌, arith, rules}
 use Rattle.vrf_table.specs.TextIndex.{text_bucket}
-use Rattle.vrf_table.specs.Laws.Spelled.{key-short, written-part, written-within}
+use Rattle.vrf_table.proofs.Laws.Spelled.{key-short, written-part, written-within}
 use Rattle.vrf_store.proofs.groups.spelled_bucket.Statement.{statement}
 use Rattle.vrf_store.proofs.groups.spelled_bucket.Tie as tie
 

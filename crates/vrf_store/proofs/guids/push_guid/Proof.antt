@@ -1,6 +1,6 @@
 -- `vrf_store::guids::push_guid` satisfies its contract: the law `push-guid` gives the memory after its writes.
 use Rattle.std.proofs.Common.{rules}
-use Rattle.vrf_store.specs.Laws.Guids.{push-guid}
+use Rattle.vrf_store.proofs.Laws.Guids.{push-guid}
 use Rattle.vrf_store.proofs.guids.push_guid.Statement.{statement}
 use Rattle.vrf_store.proofs.guids.push_guid.Tie as tie
 

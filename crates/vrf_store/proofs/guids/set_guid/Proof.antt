@@ -1,7 +1,7 @@
 -- `vrf_store::guids::set_guid` satisfies its contract: the law `set-guid` gives the memory after its writes. The bytes held include the old
 -- path.
 use Rattle.std.proofs.Common.{rules}
-use Rattle.vrf_store.specs.Laws.Guids.{row_in, path-held, set-guid}
+use Rattle.vrf_store.proofs.Laws.Guids.{row_in, path-held, set-guid}
 use Rattle.vrf_store.proofs.guids.set_guid.Statement.{statement}
 use Rattle.vrf_store.proofs.guids.set_guid.Tie as tie
 

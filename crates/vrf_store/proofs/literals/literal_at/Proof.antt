@@ -1,6 +1,6 @@
 -- `vrf_store::literals::literal_at` satisfies its contract.
 use Rattle.std.proofs.Common.{length, ap, arith, rules}
-use Rattle.vrf_store.specs.Laws.Literals.{literals-long}
+use Rattle.vrf_store.proofs.Laws.Literals.{literals-long}
 use Rattle.vrf_store.proofs.literals.literal_at.Statement.{statement}
 use Rattle.vrf_store.proofs.literals.literal_at.Tie as tie
 

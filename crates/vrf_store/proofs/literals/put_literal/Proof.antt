@@ -1,6 +1,6 @@
 -- `vrf_store::literals::put_literal` satisfies its contract: the law `literal-put` gives the memory after its write.
 use Rattle.std.proofs.Common.{rules}
-use Rattle.vrf_store.specs.Laws.Literals.{literal-put}
+use Rattle.vrf_store.proofs.Laws.Literals.{literal-put}
 use Rattle.vrf_store.proofs.literals.put_literal.Statement.{statement}
 use Rattle.vrf_store.proofs.literals.put_literal.Tie as tie
 

@@ -1,7 +1,7 @@
 -- `vrf_store::look::claim_of` satisfies its contract.
 use Rattle.std.proofs.Common.{rules}
-use Rattle.vrf_store.specs.Laws.Memory.WellFormed.{leaf-walk}
-use Rattle.vrf_store.specs.Laws.Lookups.{first_found}
+use Rattle.vrf_store.proofs.Laws.Memory.WellFormed.{leaf-walk}
+use Rattle.vrf_store.proofs.Laws.Lookups.{first_found}
 use Rattle.vrf_store.proofs.look.claim_of.Statement.{statement}
 use Rattle.vrf_store.proofs.look.claim_of.Tie as tie
 

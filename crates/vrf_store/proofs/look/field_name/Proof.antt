@@ -2,8 +2,8 @@
 use Rattle.std.proofs.Common.{rules}
 use Rattle.vrf_model.specs.Lookup.{slot_name}
 use Rattle.vrf_store.specs.Store.{field_at}
-use Rattle.vrf_store.specs.Laws.Memory.WellFormed.{field_row, field-text}
-use Rattle.vrf_store.specs.Laws.Fields.Row.{slot-filled, slot-empty, slot-row-below}
+use Rattle.vrf_store.proofs.Laws.Memory.WellFormed.{field_row, field-text}
+use Rattle.vrf_store.proofs.Laws.Fields.Row.{slot-filled, slot-empty, slot-row-below}
 use Rattle.vrf_store.proofs.look.field_name.Statement.{statement}
 use Rattle.vrf_store.proofs.look.field_name.Tie as tie
 

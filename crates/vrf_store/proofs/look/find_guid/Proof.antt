@@ -1,6 +1,6 @@
 -- `vrf_store::look::find_guid` satisfies its contract.
 use Rattle.std.proofs.Common.{length, ap, arith, rules}
-use Rattle.vrf_store.specs.Laws.Lookups.{guid-found}
+use Rattle.vrf_store.proofs.Laws.Lookups.{guid-found}
 use Rattle.vrf_store.proofs.look.find_guid.Statement.{statement}
 use Rattle.vrf_store.proofs.look.find_guid.Tie as tie
 

@@ -1,6 +1,6 @@
 -- `vrf_store::look::find_index` satisfies its contract.
 use Rattle.std.proofs.Common.{length, ap, arith, rules}
-use Rattle.vrf_store.specs.Laws.Lookups.{index-found}
+use Rattle.vrf_store.proofs.Laws.Lookups.{index-found}
 use Rattle.vrf_store.proofs.look.find_index.Statement.{statement}
 use Rattle.vrf_store.proofs.look.find_index.Tie as tie
 

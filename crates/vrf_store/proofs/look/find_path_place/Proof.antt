@@ -1,8 +1,8 @@
 -- `vrf_store::look::find_path_place` satisfies its contract.
 use Rattle.std.proofs.Common.{ap, rules}
 use Rattle.vrf_table.specs.Inner.Answers.{entry}
-use Rattle.vrf_store.specs.Laws.Memory.WellFormed.{path-walk}
-use Rattle.vrf_store.specs.Laws.Lookups.{third, path-found}
+use Rattle.vrf_store.proofs.Laws.Memory.WellFormed.{path-walk}
+use Rattle.vrf_store.proofs.Laws.Lookups.{third, path-found}
 use Rattle.vrf_store.proofs.look.find_path_place.Statement.{statement}
 use Rattle.vrf_store.proofs.look.find_path_place.Tie as tie
 

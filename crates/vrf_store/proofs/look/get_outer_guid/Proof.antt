@@ -2,7 +2,7 @@
 use Rattle.std.proofs.Common.{sym, ap, ◌∙◌, rules}
 use Rattle.vrf_model.specs.Lookup.{outer_guid, then_lookup}
 use Rattle.vrf_table.specs.Inner.Answers.{entry}
-use Rattle.vrf_store.specs.Laws.Fields.Row.{outer-place}
+use Rattle.vrf_store.proofs.Laws.Fields.Row.{outer-place}
 use Rattle.vrf_store.proofs.look.get_outer_guid.Statement.{statement}
 use Rattle.vrf_store.proofs.look.get_outer_guid.Tie as tie
 

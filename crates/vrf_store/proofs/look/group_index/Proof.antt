@@ -3,8 +3,8 @@ use Rattle.std.proofs.Common.{ℕ, List, sym, ap, ◌∙◌, arith, rules}
 use Rattle.vrf_model.specs.Book.{Group}
 use Rattle.vrf_table.specs.Table.{key}
 use Rattle.vrf_store.specs.Store.{store_of, group_by}
-use Rattle.vrf_store.specs.Laws.Memory.WellFormed.{group-row}
-use Rattle.vrf_store.specs.Laws.Lookups.{group-at, group-past}
+use Rattle.vrf_store.proofs.Laws.Memory.WellFormed.{group-row}
+use Rattle.vrf_store.proofs.Laws.Lookups.{group-at, group-past}
 use Rattle.vrf_store.proofs.look.group_index.Statement.{statement}
 use Rattle.vrf_store.proofs.look.group_index.Tie as tie
 

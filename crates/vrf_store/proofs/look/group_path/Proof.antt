@@ -2,8 +2,8 @@
 use Rattle.std.proofs.Common.{[], sym, arith, rules}
 use Rattle.vrf_model.specs.Book.{Group}
 use Rattle.vrf_store.specs.Store.{store_of, group_by}
-use Rattle.vrf_store.specs.Laws.Memory.WellFormed.{group-row, group-text}
-use Rattle.vrf_store.specs.Laws.Lookups.{group-at, group-past}
+use Rattle.vrf_store.proofs.Laws.Memory.WellFormed.{group-row, group-text}
+use Rattle.vrf_store.proofs.Laws.Lookups.{group-at, group-past}
 use Rattle.vrf_store.proofs.look.group_path.Statement.{statement}
 use Rattle.vrf_store.proofs.look.group_path.Tie as tie
 

@@ -3,9 +3,9 @@ use Rattle.std.proofs.Common.{length, sym, arith, rules}
 use Rattle.vrf_model.specs.Book.{Group}
 use Rattle.vrf_table.specs.Table.{info}
 use Rattle.vrf_store.specs.Store.{store_of, slot_by, group_by}
-use Rattle.vrf_store.specs.Laws.Memory.UpTo.{length-up_to}
-use Rattle.vrf_store.specs.Laws.Memory.WellFormed.{group-row}
-use Rattle.vrf_store.specs.Laws.Lookups.{group-at, group-past}
+use Rattle.vrf_store.proofs.Laws.Memory.UpTo.{length-up_to}
+use Rattle.vrf_store.proofs.Laws.Memory.WellFormed.{group-row}
+use Rattle.vrf_store.proofs.Laws.Lookups.{group-at, group-past}
 use Rattle.vrf_store.proofs.look.group_slots.Statement.{statement}
 use Rattle.vrf_store.proofs.look.group_slots.Tie as tie
 

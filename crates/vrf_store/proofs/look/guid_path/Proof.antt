@@ -2,8 +2,8 @@
 use Rattle.std.proofs.Common.{[], sym, arith, rules}
 use Rattle.vrf_model.specs.Book.{Guid}
 use Rattle.vrf_store.specs.Store.{store_of, guid_at}
-use Rattle.vrf_store.specs.Laws.Memory.WellFormed.{guid-row, guid-text}
-use Rattle.vrf_store.specs.Laws.Lookups.{guid-at, guid-past}
+use Rattle.vrf_store.proofs.Laws.Memory.WellFormed.{guid-row, guid-text}
+use Rattle.vrf_store.proofs.Laws.Lookups.{guid-at, guid-past}
 use Rattle.vrf_store.proofs.look.guid_path.Statement.{statement}
 use Rattle.vrf_store.proofs.look.guid_path.Tie as tie
 

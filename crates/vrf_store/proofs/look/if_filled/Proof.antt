@@ -2,7 +2,7 @@
 use Rattle.std.proofs.Common.{rules}
 use Rattle.vrf_model.specs.Lookup.{if_filled}
 use Rattle.vrf_store.specs.Store.{field_at}
-use Rattle.vrf_store.specs.Laws.Fields.Row.{slot-filled, slot-empty}
+use Rattle.vrf_store.proofs.Laws.Fields.Row.{slot-filled, slot-empty}
 use Rattle.vrf_store.proofs.look.if_filled.Statement.{statement}
 use Rattle.vrf_store.proofs.look.if_filled.Tie as tie
 

@@ -1,7 +1,7 @@
 -- `vrf_store::look::leaf_start` satisfies its contract.
 use Rattle.std.proofs.Common.{length, ap, arith, rules}
 use Rattle.vrf_table.specs.TextIndex.{text_start}
-use Rattle.vrf_table.specs.Laws.Table.{text_bucket-lt}
+use Rattle.vrf_table.proofs.Laws.Table.{text_bucket-lt}
 use Rattle.vrf_store.proofs.look.leaf_start.Statement.{statement}
 use Rattle.vrf_store.proofs.look.leaf_start.Tie as tie
 

@@ -1,6 +1,6 @@
 -- `vrf_store::open::clear_book` satisfies its contract: the header is then that of a book that holds nothing.
 use Rattle.std.proofs.Common.{rules}
-use Rattle.vrf_store.specs.Laws.Opening.Opening.{emptied-enough, cleared}
+use Rattle.vrf_store.proofs.Laws.Opening.Opening.{emptied-enough, cleared}
 use Rattle.vrf_store.proofs.open.clear_book.Statement.{statement}
 use Rattle.vrf_store.proofs.open.clear_book.Tie as tie
 

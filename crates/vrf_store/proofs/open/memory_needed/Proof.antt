@@ -1,6 +1,6 @@
 -- `vrf_store::open::memory_needed` satisfies its contract: one case for each outcome of `above_top`.
 use Rattle.std.proofs.Common.{sym, ◌∙◌, rules}
-use Rattle.vrf_store.specs.Laws.Opening.Opening.{within-tops, needed-above, needed-within}
+use Rattle.vrf_store.proofs.Laws.Opening.Opening.{within-tops, needed-above, needed-within}
 use Rattle.vrf_store.proofs.open.memory_needed.Statement.{statement}
 use Rattle.vrf_store.proofs.open.memory_needed.Tie as tie
 

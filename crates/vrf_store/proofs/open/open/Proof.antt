@@ -3,7 +3,7 @@ use Rattle.std.proofs.Common.{◌≤◌, length, refl, arith, rules}
 use Rattle.vrf_model.specs.Book.{Allowances}
 use Rattle.vrf_model.specs.Lawful.{Allowed}
 use Rattle.vrf_store.specs.Layout
-use Rattle.vrf_store.specs.Laws.Opening.Opening.{within-tops, empty-enough, opened-fresh, refused-above, refused-short, accepted}
+use Rattle.vrf_store.proofs.Laws.Opening.Opening.{within-tops, empty-enough, opened-fresh, refused-above, refused-short, accepted}
 use Rattle.vrf_store.proofs.open.open.Statement.{statement}
 use Rattle.vrf_store.proofs.open.open.Tie as tie
 

@@ -1,6 +1,6 @@
 -- `vrf_store::open::write_header` satisfies its contract: it makes six writes.
 use Rattle.std.proofs.Common.{rules}
-use Rattle.vrf_store.specs.Laws.Opening.Opening.{written-header}
+use Rattle.vrf_store.proofs.Laws.Opening.Opening.{written-header}
 use Rattle.vrf_store.proofs.open.write_header.Statement.{statement}
 use Rattle.vrf_store.proofs.open.write_header.Tie as tie
 

@@ -1,6 +1,6 @@
 -- `vrf_store::open::zero_heads` satisfies its contract: all five writes are after the header.
 use Rattle.std.proofs.Common.{rules}
-use Rattle.vrf_store.specs.Laws.Opening.Opening.{kept-heads}
+use Rattle.vrf_store.proofs.Laws.Opening.Opening.{kept-heads}
 use Rattle.vrf_store.proofs.open.zero_heads.Statement.{statement}
 use Rattle.vrf_store.proofs.open.zero_heads.Tie as tie
 

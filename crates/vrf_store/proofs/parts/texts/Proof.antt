@@ -3,7 +3,7 @@ use Rattle.std.proofs.Common.{◌≡◌, ◌+◌, ◌-◌, ◌≤◌, arith, rul
 use Rattle.vrf_words.specs.Words.{part}
 use Rattle.vrf_store.specs.Layout
 use Rattle.vrf_store.specs.Store.{allowances_of, header_of, half_at}
-use Rattle.vrf_store.specs.Laws.Memory.Regions.{half-within}
+use Rattle.vrf_store.proofs.Laws.Memory.Regions.{half-within}
 use Rattle.vrf_store.proofs.parts.texts.Statement.{statement}
 use Rattle.vrf_store.proofs.parts.texts.Tie as tie
 

@@ -1,7 +1,7 @@
 -- `vrf_store::rows::push_row` satisfies its contract: its writes are those of `pushed`.
 use Rattle.std.proofs.Common.{add-one, arith, rules}
-use Rattle.vrf_table.specs.Laws.Table.{key_bucket-lt}
-use Rattle.vrf_store.specs.Laws.Memory.Tables.{pushed-by}
+use Rattle.vrf_table.proofs.Laws.Table.{key_bucket-lt}
+use Rattle.vrf_store.proofs.Laws.Memory.Tables.{pushed-by}
 use Rattle.vrf_store.proofs.rows.push_row.Statement.{statement}
 use Rattle.vrf_store.proofs.rows.push_row.Tie as tie
 

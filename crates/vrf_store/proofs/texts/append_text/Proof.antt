@@ -1,8 +1,8 @@
 -- `vrf_store::texts::append_text` satisfies its contract: the text is after the bytes used, where no row has its text, and inside its half.
 use Rattle.std.proofs.Common.{arith, rules}
 use Rattle.vrf_store.specs.Store.{allowances_of, header_of}
-use Rattle.vrf_store.specs.Laws.Memory.Regions.{half-within}
-use Rattle.vrf_store.specs.Laws.Texts.Appended.{append-written}
+use Rattle.vrf_store.proofs.Laws.Memory.Regions.{half-within}
+use Rattle.vrf_store.proofs.Laws.Texts.Appended.{append-written}
 use Rattle.vrf_store.proofs.texts.append_text.Statement.{statement}
 use Rattle.vrf_store.proofs.texts.append_text.Tie as tie
 

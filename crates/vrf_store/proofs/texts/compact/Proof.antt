@@ -1,6 +1,6 @@
 -- `vrf_store::texts::compact` satisfies its contract: the numbers it reads first stay true, and after each table the next can be moved.
 use Rattle.std.proofs.Common.{◌+◌, ◌*◌, ◌≤◌, length, arith, rules}
-use Rattle.vrf_store.specs.Laws.Texts.Compacted.{CompactionStart, first-movable, second-movable, third-movable, compact-written}
+use Rattle.vrf_store.proofs.Laws.Texts.Compacted.{CompactionStart, first-movable, second-movable, third-movable, compact-written}
 use Rattle.vrf_store.proofs.texts.compact.Statement.{statement}
 use Rattle.vrf_store.proofs.texts.compact.Tie as tie
 

@@ -1,6 +1,6 @@
 -- `vrf_store::texts::make_space` satisfies its contract: if there is not enough space, there is after the texts are moved.
 use Rattle.std.proofs.Common.{rules}
-use Rattle.vrf_store.specs.Laws.Texts.Space.{space-made}
+use Rattle.vrf_store.proofs.Laws.Texts.Space.{space-made}
 use Rattle.vrf_store.proofs.texts.make_space.Statement.{statement}
 use Rattle.vrf_store.proofs.texts.make_space.Tie as tie
 

@@ -2,7 +2,7 @@
 -- unchanged.
 use Rattle.std.proofs.Common.{◌≡◌, ◌-◌, ◌≤◌, arith, rules}
 use Rattle.vrf_store.specs.Inner.Texts.{TextsMoved}
-use Rattle.vrf_store.specs.Laws.Texts.Moved.{moved_none, next-fitting, moved-next}
+use Rattle.vrf_store.proofs.Laws.Texts.Moved.{moved_none, next-fitting, moved-next}
 use Rattle.vrf_store.proofs.texts.move_texts.Statement.{statement}
 use Rattle.vrf_store.proofs.texts.move_texts.Tie as tie
 

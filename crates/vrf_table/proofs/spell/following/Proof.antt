@@ -1,6 +1,6 @@
 -- `vrf_table::spell::following` satisfies its contract.
 use Rattle.std.proofs.Common.{rules}
-use Rattle.vrf_table.specs.Laws.Spelled.{part-following}
+use Rattle.vrf_table.proofs.Laws.Spelled.{part-following}
 use Rattle.vrf_table.proofs.spell.following.Statement.{statement}
 use Rattle.vrf_table.proofs.spell.following.Tie as tie
 

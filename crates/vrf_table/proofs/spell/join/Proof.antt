@@ -1,6 +1,6 @@
 -- `vrf_table::spell::join` satisfies its contract.
 use Rattle.std.proofs.Common.{arith, rules}
-use Rattle.vrf_table.specs.Laws.Spelled.{joined}
+use Rattle.vrf_table.proofs.Laws.Spelled.{joined}
 use Rattle.vrf_table.proofs.spell.join.Statement.{statement}
 use Rattle.vrf_table.proofs.spell.join.Tie as tie
 

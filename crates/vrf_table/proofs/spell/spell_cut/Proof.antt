@@ -1,6 +1,6 @@
 -- `vrf_table::spell::spell_cut` satisfies its contract: the bytes before the place, the slash, and the bytes after.
 use Rattle.std.proofs.Common.{ℕ, length, ap, ◌∙◌, arith, length-append, length-set, length-take, rules}
-use Rattle.vrf_table.specs.Laws.Spelled.{cut-front, cut-following, cut-written}
+use Rattle.vrf_table.proofs.Laws.Spelled.{cut-front, cut-following, cut-written}
 use Rattle.vrf_table.proofs.spell.spell_cut.Statement.{statement}
 use Rattle.vrf_table.proofs.spell.spell_cut.Tie as tie
 

@@ -3,8 +3,8 @@ use Rattle.std.proofs.Common.{◌≡◌, ◌+◌, ◌≤◌, length, ◌∙◌, 
 use Rattle.vrf_model.specs.Book.{Content}
 use Rattle.vrf_model.specs.Writer.{encode_book}
 use Rattle.vrf_store.specs.Inner.Stepped.{held}
-use Rattle.vrf_writer.specs.Laws.Prefix.{back_from}
-use Rattle.vrf_writer.specs.Laws.Block.{block-length, tables-lent, tables-long, tables-count, word-last}
+use Rattle.vrf_writer.proofs.Laws.Prefix.{back_from}
+use Rattle.vrf_writer.proofs.Laws.Block.{block-length, tables-lent, tables-long, tables-count, word-last}
 use Rattle.vrf_writer.proofs.block.put_block.Statement.{statement}
 use Rattle.vrf_writer.proofs.block.put_block.Tie as tie
 

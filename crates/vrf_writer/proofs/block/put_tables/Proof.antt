@@ -5,9 +5,9 @@ use Rattle.vrf_model.specs.Book.{Content}
 use Rattle.vrf_model.specs.Writer.{encode_guid, encode_group, encode_all, encode_tables}
 use Rattle.vrf_store.specs.Store.{store_of}
 use Rattle.vrf_store.specs.Inner.Stepped.{held}
-use Rattle.vrf_writer.specs.Laws.Prefix.{PartlyWritten, back_from, under-space, under-long, under-lent, under_next, last-lent, last-put, last-space, last-long}
-use Rattle.vrf_writer.specs.Laws.Numbers.{word-length}
-use Rattle.vrf_writer.specs.Laws.Block.{guids_on, groups_on, tables-length, zeros-put, guids-count, groups-count}
+use Rattle.vrf_writer.proofs.Laws.Prefix.{PartlyWritten, back_from, under-space, under-long, under-lent, under_next, last-lent, last-put, last-space, last-long}
+use Rattle.vrf_writer.proofs.Laws.Numbers.{word-length}
+use Rattle.vrf_writer.proofs.Laws.Block.{guids_on, groups_on, tables-length, zeros-put, guids-count, groups-count}
 use Rattle.vrf_writer.proofs.block.put_tables.Statement.{statement}
 use Rattle.vrf_writer.proofs.block.put_tables.Tie as tie
 

@@ -1,9 +1,9 @@
 -- `vrf_writer::clash::clash_after` satisfies its contract: each key narrows down what the key before it left.
 use Rattle.std.proofs.Common.{◌≡◌, ◌≤◌, [], length, ◌∙◌, arith, rules}
 use Rattle.vrf_store.specs.Store.{store_of, group_by}
-use Rattle.vrf_store.specs.Laws.Lookups.{group-at}
+use Rattle.vrf_store.proofs.Laws.Lookups.{group-at}
 use Rattle.vrf_writer.specs.Inner.Clash.{path_at}
-use Rattle.vrf_writer.specs.Laws.Clash.{narrowed-keys}
+use Rattle.vrf_writer.proofs.Laws.Clash.{narrowed-keys}
 use Rattle.vrf_writer.proofs.clash.clash_after.Statement.{statement}
 use Rattle.vrf_writer.proofs.clash.clash_after.Tie as tie
 

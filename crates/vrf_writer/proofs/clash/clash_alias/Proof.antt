@@ -1,9 +1,9 @@
 -- `vrf_writer::clash::clash_alias` satisfies its contract: the first bytes of the scratch buffer are the alias.
 use Rattle.std.proofs.Common.{length, sym, ap, ◌∙◌, arith, length-take, rules}
-use Rattle.vrf_path.specs.Laws.Answers.{spelled-bytes, spelled-absent}
-use Rattle.vrf_table.specs.Laws.Spelled.{key-short}
+use Rattle.vrf_path.proofs.Laws.Answers.{spelled-bytes, spelled-absent}
+use Rattle.vrf_table.proofs.Laws.Spelled.{key-short}
 use Rattle.vrf_store.specs.Store.{store_of}
-use Rattle.vrf_writer.specs.Laws.Clash.{alias-none, alias-some}
+use Rattle.vrf_writer.proofs.Laws.Clash.{alias-none, alias-some}
 use Rattle.vrf_writer.proofs.clash.clash_alias.Statement.{statement}
 use Rattle.vrf_writer.proofs.clash.clash_alias.Tie as tie
 

@@ -2,7 +2,7 @@
 use Rattle.std.proofs.Common.{◌≡◌, ◌-◌, ◌≤◌, length, refl, arith, rules}
 use Rattle.vrf_store.specs.Store.{Store, store_of}
 use Rattle.vrf_writer.specs.Inner.Clash.{is_key_at}
-use Rattle.vrf_writer.specs.Laws.Clash.{sought-start, sought-step, sought-some, sought-none, Sought}
+use Rattle.vrf_writer.proofs.Laws.Clash.{sought-start, sought-step, sought-some, sought-none, Sought}
 use Rattle.vrf_writer.proofs.clash.first_clash_in.Statement.{statement}
 use Rattle.vrf_writer.proofs.clash.first_clash_in.Tie as tie
 

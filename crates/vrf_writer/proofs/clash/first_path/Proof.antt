@@ -2,9 +2,9 @@
 use mathlib.Core.Option.{some}
 use Rattle.std.proofs.Common.{◌≡◌, ◌-◌, [], ◌∙◌, arith, rules}
 use Rattle.vrf_store.specs.Store.{store_of}
-use Rattle.vrf_store.specs.Laws.Lookups.{group-at}
+use Rattle.vrf_store.proofs.Laws.Lookups.{group-at}
 use Rattle.vrf_writer.specs.Inner.Clash.{is_at}
-use Rattle.vrf_writer.specs.Laws.Clash.{path-test, scanned-start, scanned-step, scanned-hit, scanned-end, Scanned}
+use Rattle.vrf_writer.proofs.Laws.Clash.{path-test, scanned-start, scanned-step, scanned-hit, scanned-end, Scanned}
 use Rattle.vrf_writer.proofs.clash.first_path.Statement.{statement}
 use Rattle.vrf_writer.proofs.clash.first_path.Tie as tie
 

@@ -1,6 +1,6 @@
 -- `vrf_writer::clash::first_with_key` satisfies its contract: no group after the last one with the key has that path.
 use Rattle.std.proofs.Common.{arith, rules}
-use Rattle.vrf_writer.specs.Laws.Clash.{narrowed-less, narrowed-not}
+use Rattle.vrf_writer.proofs.Laws.Clash.{narrowed-less, narrowed-not}
 use Rattle.vrf_writer.proofs.clash.first_with_key.Statement.{statement}
 use Rattle.vrf_writer.proofs.clash.first_with_key.Tie as tie
 

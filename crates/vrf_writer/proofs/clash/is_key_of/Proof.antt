@@ -1,6 +1,6 @@
 -- `vrf_writer::clash::is_key_of` satisfies its contract: a key differs from its path by 0, 6 or 9 bytes in length.
 use Rattle.std.proofs.Common.{sym, rules}
-use Rattle.vrf_writer.specs.Laws.Clash.{far-key}
+use Rattle.vrf_writer.proofs.Laws.Clash.{far-key}
 use Rattle.vrf_writer.proofs.clash.is_key_of.Statement.{statement}
 use Rattle.vrf_writer.proofs.clash.is_key_of.Tie as tie
 

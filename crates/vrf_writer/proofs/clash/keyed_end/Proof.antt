@@ -4,11 +4,11 @@ use Rattle.vrf_path.specs.Keys.{has_key}
 use Rattle.vrf_words.specs.Words.{word}
 use Rattle.vrf_table.specs.Table.{text}
 use Rattle.vrf_table.specs.TextIndex.{text_bucket, text_start}
-use Rattle.vrf_table.specs.Laws.Table.{text_bucket-lt}
+use Rattle.vrf_table.proofs.Laws.Table.{text_bucket-lt}
 use Rattle.vrf_store.specs.Store.{Store, store_of}
-use Rattle.vrf_store.specs.Laws.Memory.WellFormed.{group-row, group-text, path-walk}
+use Rattle.vrf_store.proofs.Laws.Memory.WellFormed.{group-row, group-text, path-walk}
 use Rattle.vrf_writer.specs.Inner.Clash.{Keyed}
-use Rattle.vrf_writer.specs.Laws.Clash.{walking_start, walking-step, keyed-from, Walking}
+use Rattle.vrf_writer.proofs.Laws.Clash.{walking_start, walking-step, keyed-from, Walking}
 use Rattle.vrf_writer.proofs.clash.keyed_end.Statement.{statement}
 use Rattle.vrf_writer.proofs.clash.keyed_end.Tie as tie
 

@@ -2,8 +2,8 @@
 use Rattle.std.proofs.Common.{ℕ, List, sym, ap, ◌∙◌, arith, rules}
 use Rattle.vrf_table.specs.Table.{key}
 use Rattle.vrf_store.specs.Store.{slot_key}
-use Rattle.vrf_store.specs.Laws.Memory.WellFormed.{field_row}
-use Rattle.vrf_writer.specs.Laws.Groups.{row-found}
+use Rattle.vrf_store.proofs.Laws.Memory.WellFormed.{field_row}
+use Rattle.vrf_writer.proofs.Laws.Groups.{row-found}
 use Rattle.vrf_writer.proofs.groups.find_slot.Statement.{statement}
 use Rattle.vrf_writer.proofs.groups.find_slot.Tie as tie
 

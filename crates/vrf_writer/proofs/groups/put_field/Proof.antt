@@ -4,11 +4,11 @@ use Rattle.vrf_bitio.specs.Number.{encode_packed, encode_word32}
 use Rattle.vrf_model.specs.Writer.{encode_slot}
 use Rattle.vrf_table.specs.Table.{info, text}
 use Rattle.vrf_store.specs.Store.{store_of, field_at}
-use Rattle.vrf_store.specs.Laws.Memory.WellFormed.{field_row, field-text}
+use Rattle.vrf_store.proofs.Laws.Memory.WellFormed.{field_row, field-text}
 use Rattle.vrf_writer.specs.Inner.Groups.{name_code}
-use Rattle.vrf_writer.specs.Laws.Prefix.{PartlyWritten, back_from, under-space, under-long, under-lent, under_next, under-byte, last-lent, last-put, last-space, last-long}
-use Rattle.vrf_writer.specs.Laws.Numbers.{word-length}
-use Rattle.vrf_writer.specs.Laws.Groups.{checksum_on, field-start}
+use Rattle.vrf_writer.proofs.Laws.Prefix.{PartlyWritten, back_from, under-space, under-long, under-lent, under_next, under-byte, last-lent, last-put, last-space, last-long}
+use Rattle.vrf_writer.proofs.Laws.Numbers.{word-length}
+use Rattle.vrf_writer.proofs.Laws.Groups.{checksum_on, field-start}
 use Rattle.vrf_writer.proofs.groups.put_field.Statement.{statement}
 use Rattle.vrf_writer.proofs.groups.put_field.Tie as tie
 

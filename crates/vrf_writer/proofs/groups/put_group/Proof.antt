@@ -5,10 +5,10 @@ use Rattle.vrf_text.specs.Text.{encode_text}
 use Rattle.vrf_model.specs.Book.{Group}
 use Rattle.vrf_model.specs.Writer.{encode_slots, encode_group}
 use Rattle.vrf_store.specs.Store.{store_of, group_by}
-use Rattle.vrf_store.specs.Laws.Lookups.{group-at}
+use Rattle.vrf_store.proofs.Laws.Lookups.{group-at}
 use Rattle.vrf_writer.specs.Inner.Groups.{group_at}
-use Rattle.vrf_writer.specs.Laws.Prefix.{PartlyWritten, first-lent, first-put, back_from, under-space, under-long, under-lent, under_next, last-lent, last-put, last-space, last-long}
-use Rattle.vrf_writer.specs.Laws.Groups.{index_on, slots_on, group-code}
+use Rattle.vrf_writer.proofs.Laws.Prefix.{PartlyWritten, first-lent, first-put, back_from, under-space, under-long, under-lent, under_next, last-lent, last-put, last-space, last-long}
+use Rattle.vrf_writer.proofs.Laws.Groups.{index_on, slots_on, group-code}
 use Rattle.vrf_writer.proofs.groups.put_group.Statement.{statement}
 use Rattle.vrf_writer.proofs.groups.put_group.Tie as tie
 

@@ -3,9 +3,9 @@ use Rattle.std.proofs.Common.{◌-◌, refl, arith, rules}
 use Rattle.vrf_model.specs.Writer.{encode_group}
 use Rattle.vrf_store.specs.Store.{Store, store_of}
 use Rattle.vrf_writer.specs.Inner.Groups.{group_at}
-use Rattle.vrf_writer.specs.Laws.Prefix.{writes_as, fits-as, under-space, last-lent}
-use Rattle.vrf_writer.specs.Laws.Each.{Sent, sent-start, sent-under, sent-step, sent-end, sent-space, sent-long}
-use Rattle.vrf_writer.specs.Laws.Groups.{groups-code}
+use Rattle.vrf_writer.proofs.Laws.Prefix.{writes_as, fits-as, under-space, last-lent}
+use Rattle.vrf_writer.proofs.Laws.Each.{Sent, sent-start, sent-under, sent-step, sent-end, sent-space, sent-long}
+use Rattle.vrf_writer.proofs.Laws.Groups.{groups-code}
 use Rattle.vrf_writer.proofs.groups.put_groups.Statement.{statement}
 use Rattle.vrf_writer.proofs.groups.put_groups.Tie as tie
 

@@ -3,9 +3,9 @@ use Rattle.std.proofs.Common.{◌+◌, ◌∷◌, ◌++◌, set, refl, arith, ru
 use Rattle.vrf_bitio.specs.Number.{encode_word32}
 use Rattle.vrf_text.specs.Text.{encode_text}
 use Rattle.vrf_writer.specs.Inner.Groups.{name_code}
-use Rattle.vrf_writer.specs.Laws.Prefix.{PartlyWritten, back_from, under-space, under-long, under-lent, under_next, under-byte, last-lent, last-put, last-space, last-long}
-use Rattle.vrf_writer.specs.Laws.Numbers.{word-length}
-use Rattle.vrf_writer.specs.Laws.Groups.{name-start}
+use Rattle.vrf_writer.proofs.Laws.Prefix.{PartlyWritten, back_from, under-space, under-long, under-lent, under_next, under-byte, last-lent, last-put, last-space, last-long}
+use Rattle.vrf_writer.proofs.Laws.Numbers.{word-length}
+use Rattle.vrf_writer.proofs.Laws.Groups.{name-start}
 use Rattle.vrf_writer.proofs.groups.put_name.Statement.{statement}
 use Rattle.vrf_writer.proofs.groups.put_name.Tie as tie
 

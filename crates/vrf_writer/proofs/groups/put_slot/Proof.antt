@@ -4,8 +4,8 @@ use Rattle.std.proofs.Common.{◌≡◌, ℕ, List, [], ◌∷◌, sym, refl, ap
 use Rattle.vrf_model.specs.Writer.{encode_slot}
 use Rattle.vrf_table.specs.Inner.Answers.{entry}
 use Rattle.vrf_store.specs.Store.{store_of, field_at, or_empty}
-use Rattle.vrf_writer.specs.Laws.Prefix.{PartlyWritten, writes_as, fits-as, under-start, under-space, under-byte, under-end}
-use Rattle.vrf_writer.specs.Laws.Groups.{slot-field, slot-none}
+use Rattle.vrf_writer.proofs.Laws.Prefix.{PartlyWritten, writes_as, fits-as, under-start, under-space, under-byte, under-end}
+use Rattle.vrf_writer.proofs.Laws.Groups.{slot-field, slot-none}
 use Rattle.vrf_writer.proofs.groups.put_slot.Statement.{statement}
 use Rattle.vrf_writer.proofs.groups.put_slot.Tie as tie
 

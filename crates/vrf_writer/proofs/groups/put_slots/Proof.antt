@@ -5,9 +5,9 @@ use Rattle.vrf_table.specs.Inner.Answers.{entry}
 use Rattle.vrf_store.specs.UpTo.{up_to}
 use Rattle.vrf_store.specs.Store.{store_of, field_at, or_empty}
 use Rattle.vrf_writer.specs.Inner.Groups.{group_at}
-use Rattle.vrf_writer.specs.Laws.Prefix.{back_from, writes_as, fits-as, under-space, last-lent}
-use Rattle.vrf_writer.specs.Laws.Each.{Sent, sent-start, sent-under, sent-step, sent-end, sent-space, sent-long}
-use Rattle.vrf_writer.specs.Laws.Groups.{slot_at, slot-code, slot-below, group-slots-code}
+use Rattle.vrf_writer.proofs.Laws.Prefix.{back_from, writes_as, fits-as, under-space, last-lent}
+use Rattle.vrf_writer.proofs.Laws.Each.{Sent, sent-start, sent-under, sent-step, sent-end, sent-space, sent-long}
+use Rattle.vrf_writer.proofs.Laws.Groups.{slot_at, slot-code, slot-below, group-slots-code}
 use Rattle.vrf_writer.proofs.groups.put_slots.Statement.{statement}
 use Rattle.vrf_writer.proofs.groups.put_slots.Tie as tie
 

@@ -5,8 +5,8 @@ use Rattle.vrf_text.specs.Text.{encode_text}
 use Rattle.vrf_model.specs.Book.{Guid}
 use Rattle.vrf_model.specs.Writer.{encode_guid}
 use Rattle.vrf_writer.specs.Inner.Rows.{guid_in}
-use Rattle.vrf_writer.specs.Laws.Prefix.{PartlyWritten, first-lent, first-put, back_from, under-space, under-long, under-lent, under_next, under-byte, under-end}
-use Rattle.vrf_writer.specs.Laws.Guids.{outer_on, path_on, guid-code}
+use Rattle.vrf_writer.proofs.Laws.Prefix.{PartlyWritten, first-lent, first-put, back_from, under-space, under-long, under-lent, under_next, under-byte, under-end}
+use Rattle.vrf_writer.proofs.Laws.Guids.{outer_on, path_on, guid-code}
 use Rattle.vrf_writer.proofs.guids.put_guid.Statement.{statement}
 use Rattle.vrf_writer.proofs.guids.put_guid.Tie as tie
 

@@ -5,10 +5,10 @@ use Rattle.vrf_store.specs.UpTo.{up_to}
 use Rattle.vrf_store.specs.Store.{store_of}
 use Rattle.vrf_store.specs.Inner.Stepped.{held}
 use Rattle.vrf_writer.specs.Inner.Rows.{guid_in}
-use Rattle.vrf_writer.specs.Laws.Prefix.{fits-as, writes_as, under-space, last-lent}
-use Rattle.vrf_writer.specs.Laws.Each.{sent-space, sent-long, Sent, sent-start, sent-under, sent-step, sent-end}
-use Rattle.vrf_writer.specs.Laws.Rows.{guid-good}
-use Rattle.vrf_writer.specs.Laws.Guids.{guids-code}
+use Rattle.vrf_writer.proofs.Laws.Prefix.{fits-as, writes_as, under-space, last-lent}
+use Rattle.vrf_writer.proofs.Laws.Each.{sent-space, sent-long, Sent, sent-start, sent-under, sent-step, sent-end}
+use Rattle.vrf_writer.proofs.Laws.Rows.{guid-good}
+use Rattle.vrf_writer.proofs.Laws.Guids.{guids-code}
 use Rattle.vrf_writer.proofs.guids.put_guids.Statement.{statement}
 use Rattle.vrf_writer.proofs.guids.put_guids.Tie as tie
 

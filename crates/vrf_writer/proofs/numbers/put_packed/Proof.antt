@@ -1,7 +1,7 @@
 -- `vrf_writer::numbers::put_packed` satisfies its contract: after an iteration, one more chunk is written.
 use Rattle.std.proofs.Common.{◌*◌, ◌∙◌, arith, length-set}
-use Rattle.vrf_writer.specs.Laws.Prefix.{under-long}
-use Rattle.vrf_writer.specs.Laws.Numbers.{Chunks, chunks_start, chunk-step, chunk_end, chunk-space}
+use Rattle.vrf_writer.proofs.Laws.Prefix.{under-long}
+use Rattle.vrf_writer.proofs.Laws.Numbers.{Chunks, chunks_start, chunk-step, chunk_end, chunk-space}
 use Rattle.vrf_writer.proofs.numbers.put_packed.Statement.{statement}
 use Rattle.vrf_writer.proofs.numbers.put_packed.Tie as tie
 

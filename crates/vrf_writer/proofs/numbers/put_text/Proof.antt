@@ -1,6 +1,6 @@
 -- `vrf_writer::numbers::put_text` satisfies its contract: the text follows its length.
 use Rattle.std.proofs.Common.{◌+◌, ◌≤◌, length, arith, length-set, rules}
-use Rattle.vrf_writer.specs.Laws.Numbers.{text-four, empty-put, text_space, text-put}
+use Rattle.vrf_writer.proofs.Laws.Numbers.{text-four, empty-put, text_space, text-put}
 use Rattle.vrf_writer.proofs.numbers.put_text.Statement.{statement}
 use Rattle.vrf_writer.proofs.numbers.put_text.Tie as tie
 

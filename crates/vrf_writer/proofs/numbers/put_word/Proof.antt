@@ -1,6 +1,6 @@
 -- `vrf_writer::numbers::put_word` satisfies its contract.
 use Rattle.std.proofs.Common.{rules}
-use Rattle.vrf_writer.specs.Laws.Numbers.{word-put}
+use Rattle.vrf_writer.proofs.Laws.Numbers.{word-put}
 use Rattle.vrf_writer.proofs.numbers.put_word.Statement.{statement}
 use Rattle.vrf_writer.proofs.numbers.put_word.Tie as tie
 

@@ -1,6 +1,6 @@
 -- `vrf_writer::size::block_len` satisfies its contract.
 use Rattle.std.proofs.Common.{arith, rules}
-use Rattle.vrf_writer.specs.Laws.Size.{block-bytes, block-short}
+use Rattle.vrf_writer.proofs.Laws.Size.{block-bytes, block-short}
 use Rattle.vrf_writer.proofs.size.block_len.Statement.{statement}
 use Rattle.vrf_writer.proofs.size.block_len.Tie as tie
 

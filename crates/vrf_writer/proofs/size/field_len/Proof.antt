@@ -4,9 +4,9 @@ use Rattle.vrf_bitio.specs.Number.{encode_packed}
 use Rattle.vrf_text.specs.Text.{encode_text}
 use Rattle.vrf_table.specs.Table.{key, text}
 use Rattle.vrf_store.specs.Store.{store_of, field_at}
-use Rattle.vrf_store.specs.Laws.Memory.WellFormed.{field_row, field-text}
+use Rattle.vrf_store.proofs.Laws.Memory.WellFormed.{field_row, field-text}
 use Rattle.vrf_writer.specs.Inner.Size.{beyond}
-use Rattle.vrf_writer.specs.Laws.Size.{field-short}
+use Rattle.vrf_writer.proofs.Laws.Size.{field-short}
 use Rattle.vrf_writer.proofs.size.field_len.Statement.{statement}
 use Rattle.vrf_writer.proofs.size.field_len.Tie as tie
 

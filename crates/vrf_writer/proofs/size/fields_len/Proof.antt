@@ -2,7 +2,7 @@
 use Rattle.std.proofs.Common.{ℕ, ◌+◌, ◌-◌, ◌*◌, ◌≤◌, ap, arith, rules}
 use Rattle.vrf_store.specs.Store.{store_of}
 use Rattle.vrf_writer.specs.Inner.Size.{field_bytes}
-use Rattle.vrf_writer.specs.Laws.Size.{Summed, summed-start, summed-step, summed-end, summed-short, field-short}
+use Rattle.vrf_writer.proofs.Laws.Size.{Summed, summed-start, summed-step, summed-end, summed-short, field-short}
 use Rattle.vrf_writer.proofs.size.fields_len.Statement.{statement}
 use Rattle.vrf_writer.proofs.size.fields_len.Tie as tie
 

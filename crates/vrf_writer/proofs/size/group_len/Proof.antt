@@ -4,10 +4,10 @@ use Rattle.vrf_bitio.specs.Number.{encode_packed}
 use Rattle.vrf_text.specs.Text.{encode_text}
 use Rattle.vrf_model.specs.Book.{Group}
 use Rattle.vrf_store.specs.Store.{store_of, group_by}
-use Rattle.vrf_store.specs.Laws.Lookups.{group-at}
+use Rattle.vrf_store.proofs.Laws.Lookups.{group-at}
 use Rattle.vrf_writer.specs.Inner.Groups.{group_at}
 use Rattle.vrf_writer.specs.Inner.Size.{group_bytes}
-use Rattle.vrf_writer.specs.Laws.Size.{group-short}
+use Rattle.vrf_writer.proofs.Laws.Size.{group-short}
 use Rattle.vrf_writer.proofs.size.group_len.Statement.{statement}
 use Rattle.vrf_writer.proofs.size.group_len.Tie as tie
 

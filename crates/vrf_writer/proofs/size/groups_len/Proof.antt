@@ -3,7 +3,7 @@ use Rattle.std.proofs.Common.{ℕ, ◌+◌, ◌-◌, ◌*◌, ◌≤◌, ap, ari
 use Rattle.vrf_store.specs.Store.{store_of}
 use Rattle.vrf_writer.specs.Inner.Groups.{group_at}
 use Rattle.vrf_writer.specs.Inner.Size.{group_bytes}
-use Rattle.vrf_writer.specs.Laws.Size.{Summed, summed-start, summed-step, summed-end, summed-short, group-short}
+use Rattle.vrf_writer.proofs.Laws.Size.{Summed, summed-start, summed-step, summed-end, summed-short, group-short}
 use Rattle.vrf_writer.proofs.size.groups_len.Statement.{statement}
 use Rattle.vrf_writer.proofs.size.groups_len.Tie as tie
 

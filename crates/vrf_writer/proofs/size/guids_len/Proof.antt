@@ -6,10 +6,10 @@ use Rattle.vrf_model.specs.Book.{Guid}
 use Rattle.vrf_model.specs.Writer.{encode_guid}
 use Rattle.vrf_store.specs.Store.{store_of}
 use Rattle.vrf_writer.specs.Inner.Rows.{GuidRow, guid_in}
-use Rattle.vrf_writer.specs.Laws.Rows.{guid-good}
-use Rattle.vrf_writer.specs.Laws.Guids.{guids-code}
-use Rattle.vrf_writer.specs.Laws.Lengths.{packed-short, text-short}
-use Rattle.vrf_writer.specs.Laws.Size.{all-length, guid-length, guid-short, Summed, summed-start, summed-step, summed-end, summed-short}
+use Rattle.vrf_writer.proofs.Laws.Rows.{guid-good}
+use Rattle.vrf_writer.proofs.Laws.Guids.{guids-code}
+use Rattle.vrf_writer.proofs.Laws.Lengths.{packed-short, text-short}
+use Rattle.vrf_writer.proofs.Laws.Size.{all-length, guid-length, guid-short, Summed, summed-start, summed-step, summed-end, summed-short}
 use Rattle.vrf_writer.proofs.size.guids_len.Statement.{statement}
 use Rattle.vrf_writer.proofs.size.guids_len.Tie as tie
 

@@ -1,6 +1,6 @@
 -- `vrf_writer::size::most_len` satisfies its contract.
 use Rattle.std.proofs.Common.{arith, rules}
-use Rattle.vrf_writer.specs.Laws.Size.{block-most, most-short}
+use Rattle.vrf_writer.proofs.Laws.Size.{block-most, most-short}
 use Rattle.vrf_writer.proofs.size.most_len.Statement.{statement}
 use Rattle.vrf_writer.proofs.size.most_len.Tie as tie
 

@@ -1,6 +1,6 @@
 -- `vrf_writer::size::one_from` satisfies its contract.
 use Rattle.std.proofs.Common.{sym, arith}
-use Rattle.vrf_writer.specs.Laws.Lengths.{below, from}
+use Rattle.vrf_writer.proofs.Laws.Lengths.{below, from}
 use Rattle.vrf_writer.proofs.size.one_from.Statement.{statement}
 use Rattle.vrf_writer.proofs.size.one_from.Tie as tie
 

@@ -1,6 +1,6 @@
 -- `vrf_writer::size::packed_len` satisfies its contract: one more byte from each power of 128 on.
 use Rattle.std.proofs.Common.{arith, rules}
-use Rattle.vrf_writer.specs.Laws.Lengths.{packed-sum}
+use Rattle.vrf_writer.proofs.Laws.Lengths.{packed-sum}
 use Rattle.vrf_writer.proofs.size.packed_len.Statement.{statement}
 use Rattle.vrf_writer.proofs.size.packed_len.Tie as tie
 

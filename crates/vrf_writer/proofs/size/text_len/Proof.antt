@@ -1,6 +1,6 @@
 -- `vrf_writer::size::text_len` satisfies its contract.
 use Rattle.std.proofs.Common.{sym, arith, rules}
-use Rattle.vrf_writer.specs.Laws.Lengths.{text-none, text-some}
+use Rattle.vrf_writer.proofs.Laws.Lengths.{text-none, text-some}
 use Rattle.vrf_writer.proofs.size.text_len.Statement.{statement}
 use Rattle.vrf_writer.proofs.size.text_len.Tie as tie
 

@@ -2,7 +2,7 @@
 use Rattle.std.proofs.Common.{sym, refl, ap, ◌∙◌, rules}
 use Rattle.vrf_table.specs.Inner.Answers.{entry}
 use Rattle.vrf_store.specs.Inner.Stepped.{held}
-use Rattle.vrf_writer.specs.Laws.Writes.{writes-clash}
+use Rattle.vrf_writer.proofs.Laws.Writes.{writes-clash}
 use Rattle.vrf_writer.proofs.write.write_checkpoint_tables.Statement.{statement}
 use Rattle.vrf_writer.proofs.write.write_checkpoint_tables.Tie as tie
 

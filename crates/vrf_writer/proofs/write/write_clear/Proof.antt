@@ -2,7 +2,7 @@
 use Rattle.std.proofs.Common.{◌≤◌, length, refl, ⊎_elim, arith, rules}
 use Rattle.vrf_model.specs.Writer.{encode_book}
 use Rattle.vrf_store.specs.Inner.Stepped.{held}
-use Rattle.vrf_writer.specs.Laws.Writes.{writes-long, writes-all}
+use Rattle.vrf_writer.proofs.Laws.Writes.{writes-long, writes-all}
 use Rattle.vrf_writer.proofs.write.write_clear.Statement.{statement}
 use Rattle.vrf_writer.proofs.write.write_clear.Tie as tie
 

@@ -1,0 +1,122 @@
+-- Laws about the steps of the check: together they are the check. The proofs of the functions use them.
+use Rattle.std.specs.Prelude.{◌≡◌, Bool, true, false, ◌&&◌, List, ℕ, ◌+◌, ◌-◌, ◌*◌, ◌/◌, ◌%◌, ◌<◌, ◌≤◌, length, take, drop}
+use Rattle.std.proofs.Math.Path.{refl, sym, ap}
+use Rattle.std.proofs.Common.{◌∙◌}
+use Rattle.std.proofs.Math.Option.{Option, none, some}
+use native.Mathlib.Omega.{arith}
+use Rattle.vrf_path.specs.Leaf.{leaf}
+use Rattle.vrf_path.specs.Answers.{spelled, key_bytes, absent}
+use Rattle.vrf_path.proofs.Laws.Answers.{spelled-bytes, spelled-absent}
+use Rattle.vrf_path.specs.declared.Key.{Key}
+use Rattle.vrf_model.specs.Lookup.{Claim}
+use Rattle.vrf_table.specs.Table.{at, len}
+use Rattle.vrf_table.specs.TextIndex.{key_numbered}
+use Rattle.vrf_store.specs.Layout
+use Rattle.vrf_store.specs.Store.{Store, header_of, store_of}
+use Rattle.vrf_store.specs.Check.{text_ok, is32, not_before, reach_ok, is_settled, settled_ok, guid_ok, key_ok, leaf_ok, group_ok, slot_ok, field_ok, store_ok, bounds_ok}
+use Rattle.vrf_store.specs.Inner.Check.{Walked}
+use Rattle.vrf_store.proofs.Laws.Check.Check.{header-good, test-facts}
+use Rattle.vrf_store.proofs.Laws.Check.Valid.{laid-shaped}
+use Rattle.vrf_store.proofs.Laws.Check.Steps.{rest_part}
+use Rattle.vrf_check.specs.Inner.Steps.{row_ok, slot_in, field_row_ok, key_reach, keys_reach, leaf_settled, path_ok, sum_ok, texts_ok, guids_ok, groups_ok, fields_ok, rows_ok, paths_ok, InBounds}
+
+-- ---- the steps together are the check
+
+unfoldable pub steps_ok : Store → Bool
+steps_ok s = sum_ok s && (texts_ok s && (rows_ok s && paths_ok s))
+
+same_tests : (a b : Bool) → (a ≡ true → b ≡ true) → (b ≡ true → a ≡ true) → a ≡ b
+same_tests true b f g = sym (f refl)
+same_tests false true f g = g refl
+same_tests false false f g = refl
+
+module _ (s : Store) where
+  key-reach : (g j : ℕ) → j < 3 → {i : ℕ} → i ≡ 3 * g + j → key_ok s i ≡ key_reach s.group_rows s.texts s.path_links s.path_heads (Layout.path_buckets s.header.allowed) s.header.groups g j
+  unfolding key_ok key_reach
+  key-reach g j h e =
+      let group : (3 * g + j) / 3 ≡ g = omega arith in
+      let number : (3 * g + j) % 3 ≡ j = omega arith in
+      rw (e, group, number)
+
+  pub store-steps : store_ok s ≡ steps_ok s
+  unfolding store_ok guid_ok group_ok field_ok slot_ok leaf_ok is32 steps_ok sum_ok texts_ok rows_ok guids_ok groups_ok fields_ok paths_ok row_ok field_row_ok slot_in path_ok keys_reach leaf_settled
+  store-steps = same_tests (store_ok s) (steps_ok s)
+      (λ h. let f = simp test-facts at h in
+      let guid = f.0 in
+      let group = f.1.0 in
+      let field = f.1.1.0 in
+      simp test-facts (
+        f.1.1.1,
+        (
+          ((λ e k. (guid e k).0), ((λ e k. (group e k).0), (λ e k. (field e k).0))),
+          (
+            ((λ e k. let g = (guid e k).1 in (g.0, (omega (arith, g.1.0), g.1.1))), ((λ e k. let g = (group e k).1 in (g.0, (g.1.0, g.1.1.0))), (λ e k. (field e k).1))),
+            (λ e k. let g = (group e k).1.1.1.1 in ((sym (key-reach e 0 (omega arith) (omega arith)) ∙ g.0, (sym (key-reach e 1 (omega arith) refl) ∙ g.1.0, sym (key-reach e 2 (omega arith) refl) ∙ g.1.1.0)), g.1.1.1)),
+          ),
+        ),
+      ))
+      (λ h. let f = simp test-facts at h in
+      let texts = f.1.0 in
+      let rows = f.1.1.0 in
+      simp test-facts (
+        (λ e k. let g = rows.0 e k in (texts.0 e k, (g.0, (omega (arith, g.1.0), g.1.1)))),
+        (
+          (λ e k. let g = rows.1.0 e k in let p = f.1.1.1 e k in
+              (texts.1.0 e k, (g.0, (g.1.0, (g.1.1, (key-reach e 0 (omega arith) (omega arith) ∙ p.0.0, (key-reach e 1 (omega arith) refl ∙ p.0.1.0, (key-reach e 2 (omega arith) refl ∙ p.0.1.1, p.1)))))))),
+          ((λ e k. (texts.1.1 e k, rows.1.1 e k)), f.0),
+        ),
+      ))
+
+-- ---- what the steps require of memory
+
+pub in_bounds : (m : List ℕ) → bounds_ok (header_of m) (length m) ≡ true → InBounds m
+unfolding bounds_ok
+in_bounds m h = let facts = simp test-facts at h in record { enough = facts.1.1.0; shaped = laid-shaped m h; header = header-good (header_of m) facts.1.0 facts.1.1.1 }
+
+module _ (m : List ℕ) (l : InBounds m) (h : texts_ok (store_of m) ≡ true) where
+  each-text : (e : ℕ) → e < (header_of m).groups → (at (store_of m).group_rows e + len (store_of m).group_rows e ≤ (header_of m).used) × (len (store_of m).group_rows e ≤ 4096)
+  unfolding texts_ok text_ok
+  each-text e k = let f = (simp test-facts at h).1.0 e k in (f.0, f.1.0)
+
+  by-texts : (links heads : List ℕ) (per b : ℕ) → per * (header_of m).groups ≤ length links → 4 * b ≤ length heads → 0 < b → Walked (store_of m).group_rows (store_of m).texts links heads per b (header_of m).groups
+  by-texts links heads per b fl fh some-bucket = record {
+    rows = omega (arith, l.shaped, l.header);
+    links = fl;
+    heads = fh;
+    buckets = some-bucket;
+    few = omega (arith, l.header);
+    texts = λ e k. omega (arith, each-text e k, l.shaped, l.header);
+    short = λ e k. (each-text e k).1;
+  }
+
+  pub paths-walked : Walked (store_of m).group_rows (store_of m).texts (store_of m).path_links (store_of m).path_heads 12 (Layout.path_buckets (header_of m).allowed) (header_of m).groups
+  paths-walked = by-texts (store_of m).path_links (store_of m).path_heads 12 (Layout.path_buckets (header_of m).allowed) (omega (arith, l.shaped, l.header)) (omega (arith, l.shaped)) (omega arith)
+
+  pub leaves-walked : Walked (store_of m).group_rows (store_of m).texts (store_of m).leaf_links (store_of m).leaf_heads 4 (Layout.leaf_buckets (header_of m).allowed) (header_of m).groups
+  leaves-walked = by-texts (store_of m).leaf_links (store_of m).leaf_heads 4 (Layout.leaf_buckets (header_of m).allowed) (omega (arith, l.shaped, l.header)) (omega (arith, l.shaped)) (omega arith)
+
+-- ---- keys and leaves of group g, where path is its text t
+
+-- key j of the path is o, and i is its entry
+pub numbered : (find : List ℕ → Option ℕ) {path t : List ℕ} → path ≡ t → (g j : ℕ) {i : ℕ} {o : Option (List ℕ)} {r : Bool} → i ≡ 3 * g + j → o ≡ key_numbered path j → r ≡ reach_ok find i o → r ≡ reach_ok find (3 * g + j) (key_numbered t j)
+numbered find e g j ei eo er = rw (← ei, ← e, ← eo) er
+
+-- an alias that the path may not have
+module _ (find : List ℕ → Option ℕ) (e : ℕ) (t : List ℕ) (k : Key) {a : Bool} (ea : a ≡ absent k) where
+  pub alias-gone : a ≡ true → true ≡ reach_ok find e (spelled t k)
+  unfolding reach_ok
+  alias-gone h = rw (spelled-absent t k (sym ea ∙ h))
+
+  pub alias-there : {r : Bool} → a ≡ false → r ≡ not_before e (find (key_bytes t k)) → r ≡ reach_ok find e (spelled t k)
+  unfolding reach_ok
+  alias-there h er = rw (spelled-bytes t k (sym ea ∙ h)) er
+
+module _ (claim : List ℕ → Claim) {path t : List ℕ} (e : path ≡ t) (g : ℕ) where
+  -- the leaf is `&path[i..]`
+  pub leaf-there : (i : ℕ) {v : Claim} {r : Bool} → leaf path ≡ some (drop i path) → v ≡ claim (take (length path - i) (drop i path)) → r ≡ is_settled g v → r ≡ settled_ok claim g (leaf t)
+  unfolding settled_ok
+  leaf-there i el ev er = rw (← e, el) (er ∙ ap (is_settled g) (ev ∙ ap claim (rest_part path i)))
+
+  pub leaf-none : leaf path ≡ none → true ≡ settled_ok claim g (leaf t)
+  unfolding settled_ok
+  leaf-none el = rw (← e, el)

@@ -1,0 +1,2 @@
+-- laws about these steps
+pub mod Laws

@@ -1,0 +1,2 @@
+-- What the proofs of these contracts use.
+pub mod Laws

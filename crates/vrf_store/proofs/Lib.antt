@@ -1,0 +1,2 @@
+-- laws about these definitions and contracts
+pub mod Laws

@@ -1,0 +1,4 @@
+-- laws
+pub mod Laws
+-- computed examples
+pub mod Examples
