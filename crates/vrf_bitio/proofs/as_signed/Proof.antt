@@ -4,15 +4,15 @@ use Rattle.vrf_bitio.proofs.Signed.{small, large, large-fits}
 use Rattle.vrf_bitio.proofs.as_signed.Statement.{statement}
 use Rattle.vrf_bitio.proofs.as_signed.Tie as tie
 
-sub-result-2 : tie.Need-overflow-sub-result-2
-sub-result-2 c = large-fits _ c.if1.false c.before.ranges.w.fits
+sub-result-2 : tie.Need-overflow_sub-result-else-w-lt2147483648
+sub-result-2 c = large-fits _ c.if-w-lt2147483648.false c.ranges.w.fits
 
-returns : tie.Need-returns
-returns c = small _ c.if1.true
+returns : tie.Need-returns-then-w-lt2147483648
+returns c = small _ c.if-w-lt2147483648.true
 
-returns-2 : tie.Need-returns-2
-returns-2 c = large _ c.if1.false c.before.ranges.w.fits
+returns-2 : tie.Need-returns-else-w-lt2147483648
+returns-2 c = large _ c.if-w-lt2147483648.false c.ranges.w.fits
 
-pub as-signed-spec : {M : Type 1} → statement M
-as-signed-spec =
+pub as_signed_spec : {M : Type 1} → statement M
+as_signed_spec =
     tie.close (tie.spec (λ c. search rules) (λ c. search rules) (λ c. search rules) sub-result-2 returns returns-2)

@@ -6,11 +6,11 @@ use Rattle.vrf_bitio.specs.Bits.{bits_of}
 use Rattle.vrf_bitio.proofs.bits_at.Statement.{statement}
 use Rattle.vrf_bitio.proofs.bits_at.Tie as tie
 
-returns : tie.Need-returns
-returns c = c.bits-within.ensures ∙ ap (bits_of _ _) (omega arith)
+returns : tie.Need-returns-then-w-gt64
+returns c = c.bits_within.ensures ∙ ap (bits_of _ _) (omega arith)
 
-returns-2 : tie.Need-returns-2
-returns-2 c = c.bits-within2.ensures ∙ ap (bits_of _ _) (omega arith)
+returns-2 : tie.Need-returns-else-w-gt64
+returns-2 c = c.bits_within-else-w-gt64.ensures ∙ ap (bits_of _ _) (omega arith)
 
-pub bits-at-spec : {M : Type 1} → statement M
-bits-at-spec = tie.close (tie.spec (λ c κs. search rules) (λ c κs. search rules) returns returns-2)
+pub bits_at_spec : {M : Type 1} → statement M
+bits_at_spec = tie.close (tie.spec (λ c κs. search rules) (λ c κs. search rules) returns returns-2)

@@ -6,14 +6,14 @@ use borrow.Author.Rules.{rules}
 use Rattle.vrf_bitio.proofs.byte_or_zero.Statement.{statement}
 use Rattle.vrf_bitio.proofs.byte_or_zero.Tie as tie
 
-cast-result : tie.Need-overflow-cast-result
-cast-result c = omega (arith, c.shared-slice-known.given c.before.before.args.i)
+cast-result : tie.Need-overflow_cast-result
+cast-result c = omega (arith, c.shared_slice_known-1.given c.args.i)
 
-returns : tie.Need-returns
-returns c = (search rules, omega (arith, c.shared-slice-known.given c.before.before.args.i))
+returns : tie.Need-returns-then-i-s
+returns c = (search rules, omega (arith, c.shared_slice_known-1.given c.args.i))
 
-returns-2 : tie.Need-returns-2
-returns-2 c = (sym (get_or-eq_default c.before.args.s.now 0 c.if1.false), search rules)
+returns-2 : tie.Need-returns-else-i-s
+returns-2 c = (sym (get_or-eq_default c.args.s.now 0 c.if-i-s.false), search rules)
 
-pub byte-or-zero-spec : {M : Type 1} → statement M
-byte-or-zero-spec = tie.close (tie.spec (λ c. search rules) cast-result returns returns-2)
+pub byte_or_zero_spec : {M : Type 1} → statement M
+byte_or_zero_spec = tie.close (tie.spec (λ c. search rules) cast-result returns returns-2)

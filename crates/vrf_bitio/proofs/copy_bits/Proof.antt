@@ -6,41 +6,41 @@ use Rattle.vrf_bitio.proofs.Copies.{Copying, copy_start, copy_step, last_word, c
 use Rattle.vrf_bitio.proofs.copy_bits.Statement.{statement}
 use Rattle.vrf_bitio.proofs.copy_bits.Tie as tie
 
-abbrev invariant-loop : tie.invariant-loop
+abbrev invariant-loop : tie.invariant-loop-k
 invariant-loop s p dst₀ n words off i₀ carry₀ k₀ dst i carry k = Copying s dst₀ dst p words i carry k
 
-abbrev decreases-loop : tie.decreases-loop
+abbrev decreases-loop : tie.decreases-loop-k
 decreases-loop s p dst₀ n words off i₀ carry₀ k₀ dst i carry k = words - k
 
-loop-holds : tie.Need-loop-init invariant-loop decreases-loop
-loop-holds c = copy_start _ _ _ _ _ c.load-u64.ensures
+loop-holds : tie.Need-loop-k-init invariant-loop decreases-loop
+loop-holds c = copy_start _ _ _ _ _ c.load_u64-carry.ensures
 
-loop-again : tie.Need-loop-preserved invariant-loop decreases-loop
+loop-again : tie.Need-loop-k-preserved invariant-loop decreases-loop
 loop-again c =
     let put = c.before.before in
     let load = put.before.before.before in
-    copy_step _ _ _ _ _ _ _ _ load.before.before.loop.invariant _ _ load.load-u642.ensures put.before.joined.ensures _ put.put-bytes.ensures put.put-bytes.auto.0 (omega arith) (omega arith)
+    copy_step _ _ _ _ _ _ _ _ load.loop-k.invariant _ _ load.load_u64-next.ensures put.joined.ensures _ put.put_bytes.ensures put.put_bytes.auto.dst (omega arith) (omega arith)
 
-same_length : tie.Need-same-length invariant-loop decreases-loop
+same_length : tie.Need-shape_of-dst-then-left-gt0 invariant-loop decreases-loop
 same_length c =
     let put = c.before.before in
     let back = put.before.before.before.before in
-    let l = back.before.before.before.loop in
-    put.put-bytes2.auto.0 ∙ l.invariant.long
+    let l = back.loop-k in
+    put.put_bytes-then-left-gt0.auto.dst ∙ l.invariant.long
 
-returns : tie.Need-returns invariant-loop decreases-loop
+returns : tie.Need-returns-then-left-gt0 invariant-loop decreases-loop
 returns c =
     let put = c.before.before in
     let after-joined2 = put.before.before.before in
-    let l = after-joined2.before.before.before.before.loop in
-    put.put-bytes2.ensures ∙ copy-end _ _ _ _ _ _ _ _ l.invariant _ _ (omega arith) (omega arith)
-    (last_word _ _ _ _ _ _ _ _ l.invariant _ _ after-joined2.before.load-u643.ensures after-joined2.joined2.ensures _ _ put.before.low-bits.ensures)
+    let l = after-joined2.loop-k in
+    put.put_bytes-then-left-gt0.ensures ∙ copy-end _ _ _ _ _ _ _ _ l.invariant _ _ (omega arith) (omega arith)
+    (last_word _ _ _ _ _ _ _ _ l.invariant _ _ after-joined2.load_u64.ensures after-joined2.joined-last.ensures _ _ put.low_bits.ensures)
 
-same-length-2 : tie.Need-same-length-2 invariant-loop decreases-loop
-same-length-2 c = c.before.before.loop.invariant.long
+same-length-2 : tie.Need-shape_of-dst-else-left-gt0 invariant-loop decreases-loop
+same-length-2 c = c.loop-k.invariant.long
 
-returns-2 : tie.Need-returns-2 invariant-loop decreases-loop
-returns-2 c = copy-whole _ _ _ _ _ _ _ _ c.before.before.loop.invariant _ (omega arith) (omega arith) c.if1.false
+returns-2 : tie.Need-returns-else-left-gt0 invariant-loop decreases-loop
+returns-2 c = copy-whole _ _ _ _ _ _ _ _ c.loop-k.invariant _ (omega arith) (omega arith) c.if-left-gt0.false
 
 pub copy_bits_spec : {M : Type 1} → statement M
 copy_bits_spec =

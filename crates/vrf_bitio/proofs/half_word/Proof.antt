@@ -7,10 +7,10 @@ use Rattle.vrf_bitio.proofs.half_word.Tie as tie
 returns : tie.Need-returns
 returns c =
     let after-byte-or-zero2 = c.before.before in
-    half _ _ _ _ _ _ after-byte-or-zero2.before.byte-or-zero.ensures after-byte-or-zero2.byte-or-zero2.ensures c.before.byte-or-zero3.ensures c.byte-or-zero4.ensures
+    half _ _ _ _ _ _ after-byte-or-zero2.byte_or_zero.ensures after-byte-or-zero2.byte_or_zero-2.ensures c.byte_or_zero-3.ensures c.byte_or_zero-4.ensures
 
-pub half-word-spec : {M : Type 1} → statement M
-half-word-spec =
+pub half_word_spec : {M : Type 1} → statement M
+half_word_spec =
     tie.close
     (tie.spec
     (λ c κs. search rules) (λ c. search rules) (λ c κs. search rules) (λ c. search rules) (λ c. search rules)

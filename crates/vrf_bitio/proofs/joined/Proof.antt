@@ -7,11 +7,11 @@ use Rattle.vrf_bitio.proofs.Words.{upper, join-fits}
 use Rattle.vrf_bitio.proofs.joined.Statement.{statement}
 use Rattle.vrf_bitio.proofs.joined.Tie as tie
 
-add-result : tie.Need-overflow-add-result
+add-result : tie.Need-overflow_add-result
 add-result c = record { fits = join-fits _ _ _ (omega arith) (omega arith) }
 
 returns : tie.Need-returns
 returns c = ap (λ (x : ℕ). c.args.carry / 2 ^ c.args.off + x) (upper c.args.next c.args.off (omega arith))
 
-pub joined-spec : {M : Type 1} → statement M
-joined-spec = tie.close (tie.spec (λ c. search rules) (λ c. search rules) (λ c. search rules) (λ c. search rules) add-result returns)
+pub joined_spec : {M : Type 1} → statement M
+joined_spec = tie.close (tie.spec (λ c. search rules) (λ c. search rules) (λ c. search rules) (λ c. search rules) add-result returns)

@@ -5,23 +5,23 @@ use Rattle.vrf_bitio.proofs.Copies.{Putting, put-start, put_step, put-end}
 use Rattle.vrf_bitio.proofs.put_bytes.Statement.{statement}
 use Rattle.vrf_bitio.proofs.put_bytes.Tie as tie
 
-abbrev invariant-loop : tie.invariant-loop
+abbrev invariant-loop : tie.invariant-loop-k
 invariant-loop dst₀ at v t k₀ left₀ dst k left = Putting dst₀ dst at v t k left
 
-abbrev decreases-loop : tie.decreases-loop
+abbrev decreases-loop : tie.decreases-loop-k
 decreases-loop dst₀ at v t k₀ left₀ dst k left = t - k
 
-loop-again : tie.Need-loop-preserved invariant-loop decreases-loop
+loop-again : tie.Need-loop-k-preserved invariant-loop decreases-loop
 loop-again c =
     let at-loop = c.before in
-    put_step _ at-loop.loop.dst _ _ _ at-loop.loop.k at-loop.loop.left at-loop.loop.invariant c.loop-test.true at-loop.before.requires
+    put_step _ at-loop.loop-k.dst _ _ _ at-loop.loop-k.k at-loop.loop-k.left at-loop.loop-k.invariant c.loop-k-test.true at-loop.requires
 
 returns : tie.Need-returns invariant-loop decreases-loop
-returns c = put-end _ c.before.loop.dst _ _ _ c.before.loop.k c.before.loop.left c.before.loop.invariant c.loop-test.false
+returns c = put-end _ c.loop-k.dst _ _ _ c.loop-k.k c.loop-k.left c.loop-k.invariant c.loop-k-test.false
 
-pub put-bytes-spec : {M : Type 1} → statement M
-put-bytes-spec =
+pub put_bytes_spec : {M : Type 1} → statement M
+put_bytes_spec =
     tie.close
     (tie.spec
     invariant-loop decreases-loop (λ c. put-start _ _ _ _) (λ c. omega arith) (λ c. omega arith) (λ c. omega arith) (λ c. omega arith)
-    (λ c. omega arith) loop-again (λ c. c.before.loop.invariant.long) returns)
+    (λ c. omega arith) loop-again (λ c. c.loop-k.invariant.long) returns)

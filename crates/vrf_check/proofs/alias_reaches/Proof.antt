@@ -7,7 +7,7 @@ use Rattle.vrf_table.proofs.Laws.Spelled.{key-short, written-part, written-withi
 use Rattle.vrf_check.proofs.alias_reaches.Statement.{statement}
 use Rattle.vrf_check.proofs.alias_reaches.Tie as tie
 
-spell-requires : tie.Need-spell-requires
+spell-requires : tie.Need-spell-k-requires
 spell-requires c κs =
     let back = c.before.before.before.before in
     let x = back.before.before in
@@ -19,11 +19,11 @@ reaches-requires c κs =
     let back = after-spell.before.before.before.before in
     let start = back.before.before.before in
     let x = start.args in
-    (start.requires.0, omega (arith, ap length after-spell.spell.ensures.bytes, key-short x.path.now x.key, start.requires.1))
+    (start.requires.0, omega (arith, ap length after-spell.spell-k.ensures.bytes, key-short x.path.now x.key, start.requires.1))
 
-pub alias-reaches-spec : {M : Type 1} → statement M
-alias-reaches-spec =
+pub alias_reaches_spec : {M : Type 1} → statement M
+alias_reaches_spec =
     tie.close
     (tie.spec
-    (λ c. search rules) spell-requires (λ c. written-within c.before.spell.ensures)
-    (λ c. written-part c.before.before.spell.ensures) reaches-requires (λ c. cc))
+    (λ c. search rules) spell-requires (λ c. written-within c.spell-k.ensures)
+    (λ c. written-part c.spell-k.ensures) reaches-requires (λ c. cc))

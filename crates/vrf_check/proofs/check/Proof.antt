@@ -7,16 +7,16 @@ use Rattle.vrf_check.proofs.Laws.Steps.{in_bounds}
 use Rattle.vrf_check.proofs.check.Statement.{statement}
 use Rattle.vrf_check.proofs.check.Tie as tie
 
-returns : tie.Need-returns
+returns : tie.Need-returns-then-not-bounds_ok
 unfolding check
-returns c = stops c.before.bounds_ok.ensures _ c.if1.true
+returns c = stops c.bounds_ok.ensures _ c.if-not-bounds_ok.true
 
-store-ok-requires : tie.Need-store-ok-requires
-store-ok-requires c κs = in_bounds c.before.before.before.args.m.now (holds c.before.bounds_ok.ensures c.if1.false)
+store-ok-requires : tie.Need-store_ok-requires
+store-ok-requires c κs = in_bounds c.args.m.now (holds c.bounds_ok.ensures c.if-not-bounds_ok.false)
 
-returns-2 : tie.Need-returns-2
+returns-2 : tie.Need-returns
 unfolding check
-returns-2 c = goes_on c.before.before.bounds_ok.ensures c.before.if1.false c.store_ok.ensures
+returns-2 c = goes_on c.bounds_ok.ensures c.if-not-bounds_ok.false c.store_ok.ensures
 
-pub check-spec : {M : Type 1} → statement M
-check-spec = tie.close (tie.spec (λ c κs. search rules) returns store-ok-requires returns-2)
+pub check_spec : {M : Type 1} → statement M
+check_spec = tie.close (tie.spec (λ c κs. search rules) returns store-ok-requires returns-2)

@@ -10,28 +10,28 @@ use Rattle.vrf_check.proofs.Laws.Tests.{all_first, all-last, all-next, all-stop}
 use Rattle.vrf_check.proofs.each_row_ok.Statement.{statement}
 use Rattle.vrf_check.proofs.each_row_ok.Tie as tie
 
-abbrev invariant-loop : tie.invariant-loop
+abbrev invariant-loop : tie.invariant-loop-e
 invariant-loop rows heads b n most e₀ e = (e ≤ n) × (all_below (row_ok rows heads b n most) e ≡ true)
 
-abbrev decreases-loop : tie.decreases-loop
+abbrev decreases-loop : tie.decreases-loop-e
 decreases-loop rows heads b n most e₀ e = n - e
 
-abbrev ok : tie.At-loop invariant-loop decreases-loop → ℕ → Bool
-ok c = let x = c.before.before.before.args in row_ok x.rows.now x.heads.now x.b x.n x.most
+abbrev ok : tie.At-loop-e invariant-loop decreases-loop → ℕ → Bool
+ok c = let x = c.args in row_ok x.rows.now x.heads.now x.b x.n x.most
 
-returns : tie.Need-returns invariant-loop decreases-loop
+returns : tie.Need-returns-then-not-row_ok invariant-loop decreases-loop
 returns c =
     let l = c.before.before.before in
-    all-stop (ok l) l.loop.e _ c.before.before.loop-test.true (fails c.before.row_ok.ensures c.if1.true)
+    all-stop (ok l) l.loop-e.e _ c.loop-e-test.true (fails c.row_ok.ensures c.if-not-row_ok.true)
 
-loop-again : tie.Need-loop-preserved invariant-loop decreases-loop
-loop-again c = let l = c.before.before.before in (omega arith, all-next (ok l) l.loop.e (holds c.before.row_ok.ensures c.if1.false) l.loop.invariant.1)
+loop-again : tie.Need-loop-e-preserved invariant-loop decreases-loop
+loop-again c = let l = c.before.before.before in (omega arith, all-next (ok l) l.loop-e.e (holds c.row_ok.ensures c.if-not-row_ok.false) l.loop-e.invariant.1)
 
-returns-2 : tie.Need-returns-2 invariant-loop decreases-loop
-returns-2 c = let l = c.before.loop in all-last (ok c.before) l.e _ l.invariant.0 c.loop-test.false l.invariant.1
+returns-2 : tie.Need-returns invariant-loop decreases-loop
+returns-2 c = let l = c.loop-e in all-last (ok c.before) l.e _ l.invariant.0 c.loop-e-test.false l.invariant.1
 
-pub each-row-ok-spec : {M : Type 1} → statement M
-each-row-ok-spec =
+pub each_row_ok_spec : {M : Type 1} → statement M
+each_row_ok_spec =
     tie.close
     (tie.spec
     invariant-loop decreases-loop (λ c. (omega arith, all_first _)) (λ c κs. omega arith) returns (λ c. omega arith)

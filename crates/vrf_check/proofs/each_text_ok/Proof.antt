@@ -10,28 +10,28 @@ use Rattle.vrf_check.proofs.Laws.Tests.{all_first, all-last, all-next, all-stop}
 use Rattle.vrf_check.proofs.each_text_ok.Statement.{statement}
 use Rattle.vrf_check.proofs.each_text_ok.Tie as tie
 
-abbrev invariant-loop : tie.invariant-loop
+abbrev invariant-loop : tie.invariant-loop-e
 invariant-loop used x rows n e₀ e = (e ≤ n) × (all_below (text_ok used x rows) e ≡ true)
 
-abbrev decreases-loop : tie.decreases-loop
+abbrev decreases-loop : tie.decreases-loop-e
 decreases-loop used x rows n e₀ e = n - e
 
-abbrev ok : tie.At-loop invariant-loop decreases-loop → ℕ → Bool
-ok c = let x = c.before.before.before.args in text_ok x.used x.x.now x.rows.now
+abbrev ok : tie.At-loop-e invariant-loop decreases-loop → ℕ → Bool
+ok c = let x = c.args in text_ok x.used x.x.now x.rows.now
 
-returns : tie.Need-returns invariant-loop decreases-loop
+returns : tie.Need-returns-then-not-text_ok invariant-loop decreases-loop
 returns c =
     let l = c.before.before.before in
-    all-stop (ok l) l.loop.e _ c.before.before.loop-test.true (fails c.before.text-ok.ensures c.if1.true)
+    all-stop (ok l) l.loop-e.e _ c.loop-e-test.true (fails c.text_ok.ensures c.if-not-text_ok.true)
 
-loop-again : tie.Need-loop-preserved invariant-loop decreases-loop
-loop-again c = let l = c.before.before.before in (omega arith, all-next (ok l) l.loop.e (holds c.before.text-ok.ensures c.if1.false) l.loop.invariant.1)
+loop-again : tie.Need-loop-e-preserved invariant-loop decreases-loop
+loop-again c = let l = c.before.before.before in (omega arith, all-next (ok l) l.loop-e.e (holds c.text_ok.ensures c.if-not-text_ok.false) l.loop-e.invariant.1)
 
-returns-2 : tie.Need-returns-2 invariant-loop decreases-loop
-returns-2 c = let l = c.before.loop in all-last (ok c.before) l.e _ l.invariant.0 c.loop-test.false l.invariant.1
+returns-2 : tie.Need-returns invariant-loop decreases-loop
+returns-2 c = let l = c.loop-e in all-last (ok c.before) l.e _ l.invariant.0 c.loop-e-test.false l.invariant.1
 
-pub each-text-ok-spec : {M : Type 1} → statement M
-each-text-ok-spec =
+pub each_text_ok_spec : {M : Type 1} → statement M
+each_text_ok_spec =
     tie.close
     (tie.spec
     invariant-loop decreases-loop (λ c. (omega arith, all_first _)) (λ c κs. omega arith) returns (λ c. omega arith)

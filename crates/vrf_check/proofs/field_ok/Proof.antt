@@ -8,23 +8,23 @@ use Rattle.vrf_check.proofs.Laws.Tests.{and-on, stops, goes_on, info-32}
 use Rattle.vrf_check.proofs.field_ok.Statement.{statement}
 use Rattle.vrf_check.proofs.field_ok.Tie as tie
 
-slot : (c : tie.After-slot-ok) →
+slot : (c : tie.After-slot_ok) →
     let back = c.before.before.before.before in
-    let x = back.before.args in
+    let x = back.args in
     c.Slot-ok.result ≡ slot_in x.groups.now x.g (key x.rows.now x.e)
 slot c = cc
 
-returns : tie.Need-returns
+returns : tie.Need-returns-then-not-slot_ok
 unfolding field_row_ok
-returns c = stops (slot c.before) _ c.if1.true
+returns c = stops (slot c.before) _ c.if-not-slot_ok.true
 
-returns-2 : tie.Need-returns-2
+returns-2 : tie.Need-returns
 unfolding field_row_ok
 returns-2 c =
     let row = c.before.before.before in
-    goes_on (slot c.before.before) c.before.if1.false
-    (and-on (info-32 _ _ (λ i. omega (arith, row.before.before.shared-slice-known2.given i))) c.found_ok.ensures)
+    goes_on (slot c.before.before) c.if-not-slot_ok.false
+    (and-on (info-32 _ _ (λ i. omega (arith, row.shared_slice_known-2-1.given i))) c.found_ok.ensures)
 
-pub field-ok-spec : {M : Type 1} → statement M
-field-ok-spec =
+pub field_ok_spec : {M : Type 1} → statement M
+field_ok_spec =
     tie.close (tie.spec (λ c κs. search rules) (λ c κs. search rules) returns (λ c κs. search rules) returns-2)

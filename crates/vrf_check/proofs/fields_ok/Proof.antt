@@ -7,17 +7,17 @@ use Rattle.vrf_check.specs.Inner.Steps.{fields_ok}
 use Rattle.vrf_check.proofs.fields_ok.Statement.{statement}
 use Rattle.vrf_check.proofs.fields_ok.Tie as tie
 
-each-field-ok-requires : tie.Need-each-field-ok-requires
+each-field-ok-requires : tie.Need-each_field_ok-requires
 each-field-ok-requires c κs =
     let heads = c.before.before in
-    omega (arith, ap length heads.before.before.before.group-rows.ensures, ap length heads.before.field-rows.ensures, ap length heads.field-heads.ensures)
+    omega (arith, ap length heads.group_rows.ensures, ap length heads.field_rows.ensures, ap length heads.field_heads.ensures)
 
 returns : tie.Need-returns
 unfolding fields_ok
 returns c = cc
 
-pub fields-ok-spec : {M : Type 1} → statement M
-fields-ok-spec =
+pub fields_ok_spec : {M : Type 1} → statement M
+fields_ok_spec =
     tie.close
     (tie.spec
     (λ c κs. search rules) (λ c κs. search rules) (λ c κs. search rules) (λ c κs. search rules) (λ c κs. search rules)

@@ -8,5 +8,5 @@ returns : tie.Need-returns
 unfolding found_ok
 returns c = cc
 
-pub found-ok-spec : {M : Type 1} → statement M
-found-ok-spec = tie.close (tie.spec (λ c κs. search rules) (λ c κs. search rules) (λ c κs. search rules) returns)
+pub found_ok_spec : {M : Type 1} → statement M
+found_ok_spec = tie.close (tie.spec (λ c κs. search rules) (λ c κs. search rules) (λ c κs. search rules) returns)

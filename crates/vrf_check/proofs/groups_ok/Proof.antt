@@ -7,17 +7,17 @@ use Rattle.vrf_check.specs.Inner.Steps.{groups_ok}
 use Rattle.vrf_check.proofs.groups_ok.Statement.{statement}
 use Rattle.vrf_check.proofs.groups_ok.Tie as tie
 
-each-row-ok-requires : tie.Need-each-row-ok-requires
+each-row-ok-requires : tie.Need-each_row_ok-requires
 each-row-ok-requires c κs =
     let heads = c.before.before in
-    omega (arith, ap length heads.before.group-rows.ensures, ap length heads.group-heads.ensures)
+    omega (arith, ap length heads.group_rows.ensures, ap length heads.group_heads.ensures)
 
 returns : tie.Need-returns
 unfolding groups_ok
 returns c = cc
 
-pub groups-ok-spec : {M : Type 1} → statement M
-groups-ok-spec =
+pub groups_ok_spec : {M : Type 1} → statement M
+groups_ok_spec =
     tie.close
     (tie.spec
     (λ c κs. search rules) (λ c κs. search rules) (λ c κs. search rules) (λ c κs. search rules) each-row-ok-requires returns)

@@ -7,17 +7,17 @@ use Rattle.vrf_check.specs.Inner.Steps.{guids_ok}
 use Rattle.vrf_check.proofs.guids_ok.Statement.{statement}
 use Rattle.vrf_check.proofs.guids_ok.Tie as tie
 
-each-row-ok-requires : tie.Need-each-row-ok-requires
+each-row-ok-requires : tie.Need-each_row_ok-requires
 each-row-ok-requires c κs =
     let heads = c.before.before in
-    omega (arith, ap length heads.before.guid-rows.ensures, ap length heads.guid-heads.ensures)
+    omega (arith, ap length heads.guid_rows.ensures, ap length heads.guid_heads.ensures)
 
 returns : tie.Need-returns
 unfolding guids_ok
 returns c = cc
 
-pub guids-ok-spec : {M : Type 1} → statement M
-guids-ok-spec =
+pub guids_ok_spec : {M : Type 1} → statement M
+guids_ok_spec =
     tie.close
     (tie.spec
     (λ c κs. search rules) (λ c κs. search rules) (λ c κs. search rules) (λ c κs. search rules) each-row-ok-requires returns)

@@ -8,8 +8,8 @@ returns : tie.Need-returns
 unfolding header_ok
 returns c = cc
 
-pub header-ok-spec : {M : Type 1} → statement M
-header-ok-spec =
+pub header_ok_spec : {M : Type 1} → statement M
+header_ok_spec =
     tie.close
     (tie.spec
     (λ c κs. search rules) (λ c. search rules) (λ c κs. search rules) (λ c κs. search rules) (λ c. search rules)

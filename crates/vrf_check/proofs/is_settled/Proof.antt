@@ -5,17 +5,17 @@ use Rattle.vrf_store.specs.Check.{is_settled}
 use Rattle.vrf_check.proofs.is_settled.Statement.{statement}
 use Rattle.vrf_check.proofs.is_settled.Tie as tie
 
-returns : tie.Need-returns
+returns : tie.Need-returns-then-found-eq-ABSENT
 unfolding is_settled
-returns c = rw c.if1.true
+returns c = rw c.if-found-eq-ABSENT.true
 
-returns-2 : tie.Need-returns-2
+returns-2 : tie.Need-returns-then-found-eq-AMBIGUOUS
 unfolding is_settled
-returns-2 c = rw c.if2.true
+returns-2 c = rw c.if-found-eq-AMBIGUOUS.true
 
-returns-3 : tie.Need-returns-3
+returns-3 : tie.Need-returns
 unfolding is_settled
-returns-3 c = rw (claim-one c.before.before.args.found c.before.if1.false c.if2.false)
+returns-3 c = rw (claim-one c.args.found c.if-found-eq-ABSENT.false c.if-found-eq-AMBIGUOUS.false)
 
-pub is-settled-spec : {M : Type 1} → statement M
-is-settled-spec = tie.close (tie.spec returns returns-2 (λ c. search rules) returns-3)
+pub is_settled_spec : {M : Type 1} → statement M
+is_settled_spec = tie.close (tie.spec returns returns-2 (λ c. search rules) returns-3)

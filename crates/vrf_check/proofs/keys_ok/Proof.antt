@@ -17,68 +17,68 @@ use Rattle.vrf_check.proofs.Laws.Steps.{numbered}
 use Rattle.vrf_check.proofs.keys_ok.Statement.{statement}
 use Rattle.vrf_check.proofs.keys_ok.Tie as tie
 
-abbrev start : tie.After-row-text → tie.Start
+abbrev start : tie.After-row_text-path → tie.Start
 start c =
     let back = c.before.before.before.before in
     back.before
 
 -- the walk for a key, and whether key j is found
-abbrev find : tie.After-row-text → List ℕ → Option ℕ
+abbrev find : tie.After-row_text-path → List ℕ → Option ℕ
 find c = let x = (start c).args in find_path x.rows.now x.x.now x.links.now x.heads.now x.b x.n
 
-abbrev key : tie.After-row-text → ℕ → Bool
+abbrev key : tie.After-row_text-path → ℕ → Bool
 key c j = let x = (start c).args in key_reach x.rows.now x.x.now x.links.now x.heads.now x.b x.n x.g j
 
-short : (c : tie.After-row-text) → length c.row-text.result.now ≤ 4096
-short c = path-short (start c).requires.0 (start c).requires.1 c.row-text.ensures
+short : (c : tie.After-row_text-path) → length c.row_text-path.result.now ≤ 4096
+short c = path-short (start c).requires.0 (start c).requires.1 c.row_text-path.ensures
 
-aliasable : (c : tie.After-row-text) →
+aliasable : (c : tie.After-row_text-path) →
     let x = (start c).args in
-    Walked x.rows.now x.x.now x.links.now x.heads.now 12 x.b x.n × (length c.row-text.result.now ≤ 4096)
+    Walked x.rows.now x.x.now x.links.now x.heads.now 12 x.b x.n × (length c.row_text-path.result.now ≤ 4096)
 aliasable c = ((start c).requires.0, short c)
 
-alias-ok-requires-2 : tie.Need-alias-ok-requires-2
+alias-ok-requires-2 : tie.Need-alias_ok-requires-2
 alias-ok-requires-2 c κs =
     let aliased = c.before.before.before.before in
     aliasable aliased.before.before
 
 itself : (c : tie.After-reaches) → c.reaches.result ≡ key c.before 0
 unfolding key_reach key_numbered reach_ok
-itself c = numbered (find c.before) c.before.row-text.ensures (start c.before).args.g 0 (omega arith) refl c.reaches.ensures
+itself c = numbered (find c.before) c.row_text-path.ensures (start c.before).args.g 0 (omega arith) refl c.reaches.ensures
 
-default : (c : tie.After-alias-ok) → let path = c.before.before.before.before in c.alias-ok.result ≡ key path 1
+default : (c : tie.After-alias_ok) → let path = c.before.before.before.before in c.alias_ok.result ≡ key path 1
 unfolding key_reach key_numbered
 default c =
     let path = c.before.before.before.before in
-    numbered (find path) path.row-text.ensures (start path).args.g 1 refl c.before.default-object-alias.ensures.text c.alias-ok.ensures
+    numbered (find path) path.row_text-path.ensures (start path).args.g 1 refl c.default_object_alias.ensures.text c.alias_ok.ensures
 
-row-text-requires : tie.Need-row-text-requires
+row-text-requires : tie.Need-row_text-path-requires
 row-text-requires c κs =
     let start = c.before.before.before.before in
     (omega arith, start.requires.0.texts start.args.g start.requires.1)
 
-returns : tie.Need-returns
+returns : tie.Need-returns-then-not-reaches
 unfolding keys_reach
-returns c = stops (itself c.before) _ c.if1.true
+returns c = stops (itself c.before) _ c.if-not-reaches.true
 
-returns-2 : tie.Need-returns-2
+returns-2 : tie.Need-returns-then-not-alias_ok
 unfolding keys_reach
 returns-2 c =
     let own = c.before.before.before in
-    goes_on (itself own.before) own.if1.false (stops (default c.before) _ c.if2.true)
+    goes_on (itself own.before) own.if-not-reaches.false (stops (default c.before) _ c.if-not-alias_ok.true)
 
-returns-3 : tie.Need-returns-3
+returns-3 : tie.Need-returns
 unfolding keys_reach key_reach key_numbered
 returns-3 c =
     let aliased = c.before.before in
     let own = aliased.before.before.before in
     let path = own.before.before in
-    goes_on (itself own.before) own.if1.false
-    (goes_on (default aliased.before) aliased.if2.false
-    (numbered (find path) path.row-text.ensures (start path).args.g 2 refl c.before.core-alias.ensures.text c.alias-ok2.ensures))
+    goes_on (itself own.before) own.if-not-reaches.false
+    (goes_on (default aliased.before) aliased.if-not-alias_ok.false
+    (numbered (find path) path.row_text-path.ensures (start path).args.g 2 refl c.core_alias.ensures.text c.alias_ok-2.ensures))
 
-pub keys-ok-spec : {M : Type 1} → statement M
-keys-ok-spec =
+pub keys_ok_spec : {M : Type 1} → statement M
+keys_ok_spec =
     tie.close
     (tie.spec
     row-text-requires (λ c. search rules) (λ c κs. ((start c).requires.0, omega (arith, short c))) returns (λ c. search rules)

@@ -13,47 +13,47 @@ use Rattle.vrf_check.proofs.Laws.Steps.{leaf-there, leaf-none}
 use Rattle.vrf_check.proofs.leaf_ok.Statement.{statement}
 use Rattle.vrf_check.proofs.leaf_ok.Tie as tie
 
-abbrev start : tie.After-row-text → tie.Start
+abbrev start : tie.After-row_text-path → tie.Start
 start c =
     let back = c.before.before.before.before in
     back.before
 
-abbrev claims : tie.After-row-text → List ℕ → Claim
+abbrev claims : tie.After-row_text-path → List ℕ → Claim
 claims c = let x = (start c).args in claim_of x.rows.now x.x.now x.links.now x.heads.now x.b x.n
 
-row-text-requires : tie.Need-row-text-requires
+row-text-requires : tie.Need-row_text-path-requires
 row-text-requires c κs =
     let start = c.before.before.before.before in
     (omega arith, start.requires.0.texts start.args.g start.requires.1)
 
 -- the leaf that was found
-found : (c : tie.After-i) → LeafAnswer c.before.before.before.row-text.result.now (At c.i.given.0.0)
-found c = rw c.i.given.1 at c.before.before.leaf-at.ensures
+found : (c : tie.In-At-2) → LeafAnswer c.row_text-path.result.now (At c.in-At.i)
+found c = rw c.in-At.is at c.leaf_at.ensures
 
-leaf-claim-requires : tie.Need-leaf-claim-requires
+leaf-claim-requires : tie.Need-leaf_claim-requires
 leaf-claim-requires c κs =
-    let at_i = c.before.before in
-    let path = at_i.before.before.before in
+    let at_i = c.before in
+    let path = at_i.before.before in
     let p = (start path).requires in
     let w = p.0 in
-    (leaf-dotless _ _ (found at_i).0, w.rows, w.links, w.heads, w.buckets, w.few, w.texts, leaf-short w p.1 path.row-text.ensures _)
+    (leaf-dotless _ _ (found at_i).0, w.rows, w.links, w.heads, w.buckets, w.few, w.texts, leaf-short w p.1 path.row_text-path.ensures _)
 
-returns : tie.Need-returns
+returns : tie.Need-returns-in-At
 unfolding leaf_settled
 returns c =
-    let at_i = c.before.before.before.before in
-    let path = at_i.before.before.before in
-    leaf-there (claims path) path.row-text.ensures (start path).args.g _ (found at_i).0 c.before.leaf-claim.ensures.1 c.is-settled.ensures
+    let at_i = c.before.before.before in
+    let path = at_i.before.before in
+    leaf-there (claims path) path.row_text-path.ensures (start path).args.g _ (found at_i).0 c.leaf_claim.ensures.1 c.is_settled.ensures
 
-returns-2 : tie.Need-returns-2
+returns-2 : tie.Need-returns-in-Absent
 unfolding leaf_settled
 returns-2 c =
-    let path = c.before.before.before in
-    leaf-none (claims path) path.row-text.ensures (start path).args.g (rw c.enum_told.given.1 at c.before.before.leaf-at.ensures)
+    let path = c.before.before in
+    leaf-none (claims path) path.row_text-path.ensures (start path).args.g (rw c.in-Absent.is at c.leaf_at.ensures)
 
-pub leaf-ok-spec : {M : Type 1} → statement M
-leaf-ok-spec =
+pub leaf_ok_spec : {M : Type 1} → statement M
+leaf_ok_spec =
     tie.close
     (tie.spec
-    row-text-requires (λ c κs. search rules) (λ c. search rules) (λ c. omega (arith, (found c.before).1))
-    (λ c. omega (arith, (found c.before).1)) (λ c. search rules) leaf-claim-requires (λ c κs. search rules) (λ c. search rules) returns returns-2)
+    row-text-requires (λ c κs. search rules) (λ c. search rules) (λ c. omega (arith, (found c).1))
+    (λ c. omega (arith, (found c).1)) (λ c. search rules) leaf-claim-requires (λ c κs. search rules) (λ c. search rules) returns returns-2)

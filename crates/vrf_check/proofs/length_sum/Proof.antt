@@ -9,31 +9,31 @@ use Rattle.vrf_store.proofs.Laws.Check.Steps.{sum-next}
 use Rattle.vrf_check.proofs.length_sum.Statement.{statement}
 use Rattle.vrf_check.proofs.length_sum.Tie as tie
 
-abbrev invariant-loop : tie.invariant-loop
+abbrev invariant-loop : tie.invariant-loop-e
 invariant-loop rows n sum₀ e₀ sum e = (e ≤ n) × (sum ≡ sum_below (len rows) e) × (sum ≤ 4294967295 * e)
 
-abbrev decreases-loop : tie.decreases-loop
+abbrev decreases-loop : tie.decreases-loop-e
 decreases-loop rows n sum₀ e₀ sum e = n - e
 
-loop-holds : tie.Need-loop-init invariant-loop decreases-loop
+loop-holds : tie.Need-loop-e-init invariant-loop decreases-loop
 unfolding sum_below
 loop-holds c = (omega arith, refl, omega arith)
 
-loop-again : tie.Need-loop-preserved invariant-loop decreases-loop
+loop-again : tie.Need-loop-e-preserved invariant-loop decreases-loop
 loop-again c =
     let at-loop = c.before.before in
     let start = at-loop.before.before in
-    (omega arith, omega (arith, sum-next (len start.args.rows.now) at-loop.loop.e), omega arith)
+    (omega arith, omega (arith, sum-next (len start.args.rows.now) at-loop.loop-e.e), omega arith)
 
 returns : tie.Need-returns invariant-loop decreases-loop
 returns c =
-    let l = c.before.loop in
-    let x = c.before.before.before.args in
+    let l = c.loop-e in
+    let x = c.args in
     let all : l.e ≡ x.n = omega arith in
     (l.invariant.1 ∙ ap (sum_below (len x.rows.now)) all, omega arith)
 
-pub length-sum-spec : {M : Type 1} → statement M
-length-sum-spec =
+pub length_sum_spec : {M : Type 1} → statement M
+length_sum_spec =
     tie.close
     (tie.spec
     invariant-loop decreases-loop loop-holds (λ c κs. omega arith) (λ c. search rules) (λ c. omega arith) (λ c. omega arith)

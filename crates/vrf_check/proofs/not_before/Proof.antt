@@ -4,13 +4,13 @@ use Rattle.vrf_store.specs.Check.{not_before}
 use Rattle.vrf_check.proofs.not_before.Statement.{statement}
 use Rattle.vrf_check.proofs.not_before.Tie as tie
 
-returns : tie.Need-returns
+returns : tie.Need-returns-in-At
 unfolding not_before
-returns c = rw c.before.found.given.1
+returns c = rw c.in-At.is
 
-returns-2 : tie.Need-returns-2
+returns-2 : tie.Need-returns-in-Nowhere
 unfolding not_before
-returns-2 c = rw c.enum_told.given.1
+returns-2 c = rw c.in-Nowhere.is
 
-pub not-before-spec : {M : Type 1} → statement M
-not-before-spec = tie.close (tie.spec (λ c. search rules) (λ c. search rules) returns returns-2)
+pub not_before_spec : {M : Type 1} → statement M
+not_before_spec = tie.close (tie.spec (λ c. search rules) (λ c. search rules) returns returns-2)

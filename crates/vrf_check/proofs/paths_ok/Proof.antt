@@ -5,7 +5,7 @@ use Rattle.vrf_check.proofs.Laws.Steps.{paths-walked, leaves-walked}
 use Rattle.vrf_check.proofs.paths_ok.Statement.{statement}
 use Rattle.vrf_check.proofs.paths_ok.Tie as tie
 
-each-path-ok-requires : tie.Need-each-path-ok-requires
+each-path-ok-requires : tie.Need-each_path_ok-requires
 each-path-ok-requires c κs =
     let buckets = c.before in
     let links = buckets.before.before in
@@ -14,15 +14,15 @@ each-path-ok-requires c κs =
     let texts = path-links.before in
     let rows = texts.before in
     let start = rows.before.before in
-    rw (rows.group-rows.ensures, texts.texts.ensures, path-links.path-links.ensures, path-buckets.before.path-heads.ensures, path-buckets.path-buckets.ensures, links.leaf-links.ensures, buckets.before.leaf-heads.ensures, buckets.leaf-buckets.ensures, c.groups.ensures)
+    rw (rows.group_rows.ensures, texts.texts.ensures, path-links.path_links.ensures, path-buckets.path_heads.ensures, path-buckets.path_buckets.ensures, links.leaf_links.ensures, buckets.leaf_heads.ensures, buckets.leaf_buckets.ensures, c.groups.ensures)
     (paths-walked start.args.m.now start.requires.0 start.requires.1, leaves-walked start.args.m.now start.requires.0 start.requires.1)
 
 returns : tie.Need-returns
 unfolding paths_ok
 returns c = cc
 
-pub paths-ok-spec : {M : Type 1} → statement M
-paths-ok-spec =
+pub paths_ok_spec : {M : Type 1} → statement M
+paths_ok_spec =
     tie.close
     (tie.spec
     (λ c κs. search rules) (λ c κs. search rules) (λ c κs. search rules) (λ c κs. search rules) (λ c κs. search rules)

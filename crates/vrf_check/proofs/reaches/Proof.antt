@@ -3,5 +3,5 @@ use borrow.Author.Rules.{rules}
 use Rattle.vrf_check.proofs.reaches.Statement.{statement}
 use Rattle.vrf_check.proofs.reaches.Tie as tie
 
-pub reaches-spec : {M : Type 1} → statement M
-reaches-spec = tie.close (tie.spec (λ c κs. search rules) (λ c κs. search rules) (λ c. cc))
+pub reaches_spec : {M : Type 1} → statement M
+reaches_spec = tie.close (tie.spec (λ c κs. search rules) (λ c κs. search rules) (λ c. cc))

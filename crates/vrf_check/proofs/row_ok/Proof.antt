@@ -9,34 +9,34 @@ use Rattle.vrf_check.proofs.Laws.Tests.{and-stop, and-on, is_32, not-32}
 use Rattle.vrf_check.proofs.row_ok.Statement.{statement}
 use Rattle.vrf_check.proofs.row_ok.Tie as tie
 
-abbrev start : tie.After-row-info → tie.Start
+abbrev start : tie.After-row_info → tie.Start
 start c =
     let key = c.before.before in
     key.before.before.before
 
 -- the number of the row
-abbrev number : tie.After-row-info → ℕ
+abbrev number : tie.After-row_info → ℕ
 number c = info (start c).args.rows.now (start c).args.e
 
-returns : tie.Need-returns
+returns : tie.Need-returns-then-row_key-gt4294967295
 unfolding row_ok
-returns c = and-stop _ (not-32 _ (omega (arith, c.before.row-key.ensures)))
+returns c = and-stop _ (not-32 _ (omega (arith, c.row_key.ensures)))
 
-returns-2 : tie.Need-returns-2
+returns-2 : tie.Need-returns-then-most-row_info
 unfolding row_ok
 returns-2 c =
     let read = c.before in
-    and-on (is_32 _ (omega (arith, read.before.before.row-key.ensures)))
-    (and-stop _ (lt-leb (number read) (start read).args.most (omega (arith, read.row-info.ensures))))
+    and-on (is_32 _ (omega (arith, read.row_key.ensures)))
+    (and-stop _ (lt-leb (number read) (start read).args.most (omega (arith, read.row_info.ensures))))
 
-returns-3 : tie.Need-returns-3
+returns-3 : tie.Need-returns
 unfolding row_ok
 returns-3 c =
     let read = c.before.before in
-    and-on (is_32 _ (omega (arith, read.before.before.row-key.ensures)))
-    (and-on (le-leb (number read) (start read).args.most (omega (arith, read.row-info.ensures))) c.found_ok.ensures)
+    and-on (is_32 _ (omega (arith, read.row_key.ensures)))
+    (and-on (le-leb (number read) (start read).args.most (omega (arith, read.row_info.ensures))) c.found_ok.ensures)
 
-pub row-ok-spec : {M : Type 1} → statement M
-row-ok-spec =
+pub row_ok_spec : {M : Type 1} → statement M
+row_ok_spec =
     tie.close
     (tie.spec (λ c κs. search rules) returns (λ c κs. search rules) returns-2 (λ c κs. search rules) returns-3)

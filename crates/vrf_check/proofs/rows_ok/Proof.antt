@@ -5,22 +5,22 @@ use Rattle.vrf_check.proofs.Laws.Tests.{stops, goes_on}
 use Rattle.vrf_check.proofs.rows_ok.Statement.{statement}
 use Rattle.vrf_check.proofs.rows_ok.Tie as tie
 
-returns : tie.Need-returns
+returns : tie.Need-returns-then-not-guids_ok
 unfolding rows_ok
-returns c = stops c.before.guids-ok.ensures _ c.if1.true
+returns c = stops c.guids_ok.ensures _ c.if-not-guids_ok.true
 
-returns-2 : tie.Need-returns-2
+returns-2 : tie.Need-returns-then-not-groups_ok
 unfolding rows_ok
 returns-2 c =
     let guids = c.before.before in
-    goes_on guids.before.guids-ok.ensures guids.if1.false (stops c.before.groups-ok.ensures _ c.if2.true)
+    goes_on guids.guids_ok.ensures guids.if-not-guids_ok.false (stops c.groups_ok.ensures _ c.if-not-groups_ok.true)
 
-returns-3 : tie.Need-returns-3
+returns-3 : tie.Need-returns
 unfolding rows_ok
 returns-3 c =
     let groups = c.before in
     let guids = groups.before.before in
-    goes_on guids.before.guids-ok.ensures guids.if1.false (goes_on groups.before.groups-ok.ensures groups.if2.false c.fields-ok.ensures)
+    goes_on guids.guids_ok.ensures guids.if-not-guids_ok.false (goes_on groups.groups_ok.ensures groups.if-not-groups_ok.false c.fields_ok.ensures)
 
-pub rows-ok-spec : {M : Type 1} → statement M
-rows-ok-spec = tie.close (tie.spec (λ c κs. search rules) returns (λ c κs. search rules) returns-2 (λ c κs. search rules) returns-3)
+pub rows_ok_spec : {M : Type 1} → statement M
+rows_ok_spec = tie.close (tie.spec (λ c κs. search rules) returns (λ c κs. search rules) returns-2 (λ c κs. search rules) returns-3)

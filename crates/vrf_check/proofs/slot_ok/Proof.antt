@@ -9,16 +9,16 @@ use Rattle.vrf_check.proofs.Laws.Tests.{and-stop, and-on}
 use Rattle.vrf_check.proofs.slot_ok.Statement.{statement}
 use Rattle.vrf_check.proofs.slot_ok.Tie as tie
 
-returns : tie.Need-returns
+returns : tie.Need-returns-then-n-g
 unfolding slot_in
-returns c = and-stop _ (le-ltb (c.before.before.args.k / 65536) c.before.before.args.n c.if1.true)
+returns c = and-stop _ (le-ltb (c.args.k / 65536) c.args.n c.if-n-g.true)
 
-returns-2 : tie.Need-returns-2
+returns-2 : tie.Need-returns
 unfolding slot_in
 returns-2 c =
     let at-if1 = c.before in
     let start = at-if1.before.before in
-    and-on (lt-ltb (start.args.k / 65536) start.args.n at-if1.if1.false) (ap (ltb (start.args.k % 65536)) c.row-info.ensures)
+    and-on (lt-ltb (start.args.k / 65536) start.args.n at-if1.if-n-g.false) (ap (ltb (start.args.k % 65536)) c.row_info.ensures)
 
-pub slot-ok-spec : {M : Type 1} → statement M
-slot-ok-spec = tie.close (tie.spec returns (λ c. search rules) (λ c κs. search rules) (λ c. search rules) returns-2)
+pub slot_ok_spec : {M : Type 1} → statement M
+slot_ok_spec = tie.close (tie.spec returns (λ c. search rules) (λ c κs. search rules) (λ c. search rules) returns-2)

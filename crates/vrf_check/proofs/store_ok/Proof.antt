@@ -11,42 +11,42 @@ use Rattle.vrf_check.proofs.Laws.Steps.{steps_ok, store-steps}
 use Rattle.vrf_check.proofs.store_ok.Statement.{statement}
 use Rattle.vrf_check.proofs.store_ok.Tie as tie
 
-abbrev store : tie.After-sum-ok → Store
-store c = store_of c.before.before.args.m.now
+abbrev store : tie.After-sum_ok → Store
+store c = store_of c.args.m.now
 
-returns : tie.Need-returns
+returns : tie.Need-returns-then-not-sum_ok
 unfolding steps_ok
-returns c = stops c.before.sum-ok.ensures _ c.if1.true ∙ sym (store-steps (store c.before))
+returns c = stops c.sum_ok.ensures _ c.if-not-sum_ok.true ∙ sym (store-steps (store c.before))
 
 -- the sum has passed
-summed : (c : tie.After-texts-ok) {r : Bool} →
+summed : (c : tie.After-texts_ok) {r : Bool} →
     let s = store c.before.before in
     r ≡ (texts_ok s && (rows_ok s && paths_ok s)) → r ≡ store_ok s
 unfolding steps_ok
-summed c e = let sum = c.before in goes_on sum.before.sum-ok.ensures sum.if1.false e ∙ sym (store-steps (store sum.before))
+summed c e = let sum = c.before in goes_on sum.sum_ok.ensures sum.if1.false e ∙ sym (store-steps (store sum.before))
 
-returns-2 : tie.Need-returns-2
-returns-2 c = summed c.before (stops c.before.texts-ok.ensures _ c.if2.true)
+returns-2 : tie.Need-returns-then-not-texts_ok
+returns-2 c = summed c.before (stops c.texts_ok.ensures _ c.if-not-texts_ok.true)
 
-returns-3 : tie.Need-returns-3
+returns-3 : tie.Need-returns-then-not-rows_ok
 returns-3 c =
     let texts = c.before.before in
-    summed texts.before (goes_on texts.before.texts-ok.ensures texts.if2.false (stops c.before.rows_ok.ensures _ c.if3.true))
+    summed texts.before (goes_on texts.texts_ok.ensures texts.if-not-texts_ok.false (stops c.rows_ok.ensures _ c.if-not-rows_ok.true))
 
-paths-ok-requires : tie.Need-paths-ok-requires
+paths-ok-requires : tie.Need-paths_ok-requires
 paths-ok-requires c κs =
     let texts = c.before.before in
     let sum = texts.before.before.before in
-    (sum.before.before.requires, holds texts.before.texts-ok.ensures texts.if2.false)
+    (sum.requires, holds texts.texts_ok.ensures texts.if-not-texts_ok.false)
 
-returns-4 : tie.Need-returns-4
+returns-4 : tie.Need-returns
 returns-4 c =
     let rows = c.before in
     let texts = rows.before.before in
-    summed texts.before (goes_on texts.before.texts-ok.ensures texts.if2.false (goes_on rows.before.rows_ok.ensures rows.if3.false c.paths-ok.ensures))
+    summed texts.before (goes_on texts.texts_ok.ensures texts.if-not-texts_ok.false (goes_on rows.rows_ok.ensures rows.if-not-rows_ok.false c.paths_ok.ensures))
 
-pub store-ok-spec : {M : Type 1} → statement M
-store-ok-spec =
+pub store_ok_spec : {M : Type 1} → statement M
+store_ok_spec =
     tie.close
     (tie.spec
     (λ c κs. search rules) returns (λ c κs. search rules) returns-2 (λ c κs. search rules) returns-3 paths-ok-requires

@@ -9,51 +9,51 @@ use Rattle.vrf_check.proofs.Laws.Tests.{stops, goes_on}
 use Rattle.vrf_check.proofs.texts_ok.Statement.{statement}
 use Rattle.vrf_check.proofs.texts_ok.Tie as tie
 
-abbrev store : tie.After-texts → Store
-store c = store_of c.before.before.before.args.m.now
+abbrev store : tie.After-texts-x → Store
+store c = store_of c.args.m.now
 
-guid : (c : tie.After-each-text-ok) → let s = store c.before.before.before in c.each-text-ok.result ≡ texts_in s s.guid_rows s.header.guids
+guid : (c : tie.After-each_text_ok) → let s = store c.before.before.before in c.each_text_ok.result ≡ texts_in s s.guid_rows s.header.guids
 guid c = cc
 
 -- the texts that were read first, at the second test
-abbrev texts : tie.After-each-text-ok2 → tie.After-texts
+abbrev texts : tie.After-each_text_ok-2 → tie.After-texts-x
 texts c =
     let guids = c.before.before.before.before in
     guids.before.before.before
 
-group : (c : tie.After-each-text-ok2) → let s = store (texts c) in c.each-text-ok2.result ≡ texts_in s s.group_rows s.header.groups
+group : (c : tie.After-each_text_ok-2) → let s = store (texts c) in c.each_text_ok-2.result ≡ texts_in s s.group_rows s.header.groups
 group c = cc
 
-each-text-ok-requires : tie.Need-each-text-ok-requires
-each-text-ok-requires c κs = omega (arith, ap length c.before.guid-rows.ensures, ap length c.before.before.texts.ensures)
+each-text-ok-requires : tie.Need-each_text_ok-requires
+each-text-ok-requires c κs = omega (arith, ap length c.guid_rows.ensures, ap length c.texts-x.ensures)
 
-returns : tie.Need-returns
+returns : tie.Need-returns-then-not-each_text_ok
 unfolding texts_ok
-returns c = stops (guid c.before) _ c.if1.true
+returns c = stops (guid c.before) _ c.if-not-each_text_ok.true
 
-each-text-ok-requires-2 : tie.Need-each-text-ok-requires-2
+each-text-ok-requires-2 : tie.Need-each_text_ok-requires-2
 each-text-ok-requires-2 c κs =
     let guids = c.before.before.before in
-    omega (arith, ap length c.before.group-rows.ensures, ap length guids.before.before.before.texts.ensures)
+    omega (arith, ap length c.group_rows.ensures, ap length guids.texts-x.ensures)
 
-returns-2 : tie.Need-returns-2
+returns-2 : tie.Need-returns-then-not-each_text_ok-2
 unfolding texts_ok
 returns-2 c =
     let guids = c.before.before.before.before in
-    goes_on (guid guids.before) guids.if1.false (stops (group c.before) _ c.if2.true)
+    goes_on (guid guids.before) guids.if-not-each_text_ok.false (stops (group c.before) _ c.if-not-each_text_ok-2.true)
 
-each-text-ok-requires-3 : tie.Need-each-text-ok-requires-3
-each-text-ok-requires-3 c κs = omega (arith, ap length c.before.field-rows.ensures, ap length (texts c.before.before.before).texts.ensures)
+each-text-ok-requires-3 : tie.Need-each_text_ok-requires-3
+each-text-ok-requires-3 c κs = omega (arith, ap length c.field_rows.ensures, ap length (texts c.before.before.before).texts-x.ensures)
 
-returns-3 : tie.Need-returns-3
+returns-3 : tie.Need-returns
 unfolding texts_ok
 returns-3 c =
     let groups = c.before.before.before in
     let guids = groups.before.before.before.before in
-    goes_on (guid guids.before) guids.if1.false (goes_on (group groups.before) groups.if2.false (cc))
+    goes_on (guid guids.before) guids.if-not-each_text_ok.false (goes_on (group groups.before) groups.if-not-each_text_ok-2.false (cc))
 
-pub texts-ok-spec : {M : Type 1} → statement M
-texts-ok-spec =
+pub texts_ok_spec : {M : Type 1} → statement M
+texts_ok_spec =
     tie.close
     (tie.spec
     (λ c κs. search rules) (λ c κs. search rules) (λ c κs. search rules) (λ c κs. search rules) each-text-ok-requires

@@ -8,8 +8,8 @@ returns : tie.Need-returns
 unfolding tops_ok
 returns c = cc
 
-pub tops-ok-spec : {M : Type 1} → statement M
-tops-ok-spec =
+pub tops_ok_spec : {M : Type 1} → statement M
+tops_ok_spec =
     tie.close
     (tie.spec
     (λ c κs. search rules) (λ c κs. search rules) (λ c κs. search rules) (λ c κs. search rules) (λ c κs. search rules)

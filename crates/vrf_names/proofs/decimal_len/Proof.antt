@@ -8,23 +8,23 @@ use Rattle.vrf_names.proofs.Laws.Names.{decimal-one, more-length, decimal-some, 
 use Rattle.vrf_names.proofs.decimal_len.Statement.{statement}
 use Rattle.vrf_names.proofs.decimal_len.Tie as tie
 
-abbrev invariant-loop : tie.invariant-loop
+abbrev invariant-loop : tie.invariant-loop-rest
 invariant-loop n rest₀ len₀ rest len = (rest ≤ n) × (length (decimal n) + 1 ≡ len + length (decimal rest))
 
-abbrev decreases-loop : tie.decreases-loop
+abbrev decreases-loop : tie.decreases-loop-rest
 decreases-loop n rest₀ len₀ rest len = rest
 
-add-len : tie.Need-overflow-add-len invariant-loop decreases-loop
-add-len c = omega (arith, decimal-length 19 c.before.before.args.n (omega arith), decimal-some c.before.loop.rest)
+add-len : tie.Need-overflow_add-len invariant-loop decreases-loop
+add-len c = omega (arith, decimal-length 19 c.args.n (omega arith), decimal-some c.loop-rest.rest)
 
-loop-again : tie.Need-loop-preserved invariant-loop decreases-loop
-loop-again c = (omega arith, omega (arith, more-length c.before.loop.rest (omega arith)))
+loop-again : tie.Need-loop-rest-preserved invariant-loop decreases-loop
+loop-again c = (omega arith, omega (arith, more-length c.loop-rest.rest (omega arith)))
 
 returns : tie.Need-returns invariant-loop decreases-loop
 returns c =
-    let one : length (decimal c.before.loop.rest) ≡ 1 = rw (decimal-one c.before.loop.rest c.loop-test.false) in
-    (omega arith, omega (arith, decimal-length 19 c.before.before.args.n (omega arith)))
+    let one : length (decimal c.loop-rest.rest) ≡ 1 = rw (decimal-one c.loop-rest.rest c.loop-rest-test.false) in
+    (omega arith, omega (arith, decimal-length 19 c.args.n (omega arith)))
 
-pub decimal-len-spec : {M : Type 1} → statement M
-decimal-len-spec =
+pub decimal_len_spec : {M : Type 1} → statement M
+decimal_len_spec =
     tie.close (tie.spec invariant-loop decreases-loop (λ c. (omega arith, omega arith)) add-len (λ c. omega arith) loop-again returns)

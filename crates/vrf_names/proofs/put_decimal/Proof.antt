@@ -7,17 +7,17 @@ use Rattle.vrf_names.proofs.Laws.Names.{put-fits, put-nothing}
 use Rattle.vrf_names.proofs.put_decimal.Statement.{statement}
 use Rattle.vrf_names.proofs.put_decimal.Tie as tie
 
-returns : tie.Need-returns
+returns : tie.Need-returns-then-out-len
 returns c = sym (put-nothing _ (decimal _) _ (omega arith))
 
-returns-2 : tie.Need-returns-2
+returns-2 : tie.Need-returns-then-out-len-2
 returns-2 c = sym (put-nothing _ (decimal _) _ (omega arith))
 
-returns-3 : tie.Need-returns-3
-returns-3 c = c.before.before.put-digits.ensures ∙ sym (put-fits _ (decimal _) _ (omega arith))
+returns-3 : tie.Need-returns
+returns-3 c = c.put_digits.ensures ∙ sym (put-fits _ (decimal _) _ (omega arith))
 
-pub put-decimal-spec : {M : Type 1} → statement M
-put-decimal-spec =
+pub put_decimal_spec : {M : Type 1} → statement M
+put_decimal_spec =
     tie.close
     (tie.spec
     (λ c κs. search rules) returns (λ c. search rules) returns-2 (λ c κs. search rules) (λ c. search rules) returns-3)

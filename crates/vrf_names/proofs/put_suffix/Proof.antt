@@ -7,56 +7,56 @@ use Rattle.vrf_names.proofs.Names.{plain-space, minus-space, put-empty, put-plai
 use Rattle.vrf_names.proofs.put_suffix.Statement.{statement}
 use Rattle.vrf_names.proofs.put_suffix.Tie as tie
 
-slice-write-out : tie.Need-slice-write-out
+slice-write-out : tie.Need-bounds-out-at
 slice-write-out c =
-    let start = c.before.before.before.before in
-    omega (arith, plain-space start.args.out.now _ start.requires c.before.s.given.1)
+    let start = c.before.before in
+    omega (arith, plain-space start.args.out.now _ start.requires c.in-Plain.is)
 
-put-digits-requires : tie.Need-put-digits-requires
+put-digits-requires : tie.Need-put_digits-requires
 put-digits-requires c κs =
-    let at-s = c.before.before in
-    let start = at-s.before.before.before in
-    rw length-set (omega (arith, plain-space start.args.out.now _ start.requires at-s.s.given.1))
+    let at-s = c.before in
+    let start = at-s.before.before in
+    rw length-set (omega (arith, plain-space start.args.out.now _ start.requires at-s.in-Plain.is))
 
-slice-write-out-2 : tie.Need-slice-write-out-2
+slice-write-out-2 : tie.Need-bounds-out-at-in-Minus
 slice-write-out-2 c =
-    let start = c.before.before.before.before in
-    omega (arith, minus-space start.args.out.now _ start.requires c.before.s2.given.1)
+    let start = c.before.before in
+    omega (arith, minus-space start.args.out.now _ start.requires c.in-Minus.is)
 
-slice-write-out-3 : tie.Need-slice-write-out-3
+slice-write-out-3 : tie.Need-bounds-out-at-in-Minus-2
 slice-write-out-3 c =
-    let start = c.before.before.before.before in
-    rw length-set (omega (arith, minus-space start.args.out.now _ start.requires c.before.s2.given.1))
+    let start = c.before.before in
+    rw length-set (omega (arith, minus-space start.args.out.now _ start.requires c.in-Minus.is))
 
-put-digits-requires-2 : tie.Need-put-digits-requires-2
+put-digits-requires-2 : tie.Need-put_digits-requires-in-Minus
 put-digits-requires-2 c κs =
-    let at-s2 = c.before.before in
-    let start = at-s2.before.before.before in
-    simp length-set (omega (arith, minus-space start.args.out.now _ start.requires at-s2.s2.given.1))
+    let at-s2 = c.before in
+    let start = at-s2.before.before in
+    simp length-set (omega (arith, minus-space start.args.out.now _ start.requires at-s2.in-Minus.is))
 
-returns : tie.Need-returns
-returns c = put-empty _ _ c.enum_told.given.1
+returns : tie.Need-returns-in-Empty
+returns c = put-empty _ _ c.in-Empty.is
 
-same_length : tie.Need-same-length
-same_length c = c.before.before.put-digits.auto.1.0 ∙ simp length-set
+same_length : tie.Need-shape_of-out-in-Plain
+same_length c = c.put_digits.auto.1.0 ∙ simp length-set
 
-returns-2 : tie.Need-returns-2
+returns-2 : tie.Need-returns-in-Plain
 returns-2 c =
     let after-put-digits = c.before.before in
-    let at-s = after-put-digits.before.before.before in
-    put-plain _ _ at-s.before.before.before.requires at-s.s.given.1 after-put-digits.put-digits.ensures
+    let at-s = after-put-digits.before.before in
+    put-plain _ _ at-s.requires at-s.in-Plain.is after-put-digits.put_digits.ensures
 
-same-length-2 : tie.Need-same-length-2
-same-length-2 c = c.before.before.put-digits2.auto.1.0 ∙ simp length-set
+same-length-2 : tie.Need-shape_of-out-in-Minus
+same-length-2 c = c.put_digits-in-Minus.auto.1.0 ∙ simp length-set
 
-returns-3 : tie.Need-returns-3
+returns-3 : tie.Need-returns-in-Minus
 returns-3 c =
     let after-put-digits2 = c.before.before in
-    let at-s2 = after-put-digits2.before.before.before in
-    put-minus _ _ at-s2.before.before.before.requires at-s2.s2.given.1 after-put-digits2.put-digits2.ensures
+    let at-s2 = after-put-digits2.before.before in
+    put-minus _ _ at-s2.requires at-s2.in-Minus.is after-put-digits2.put_digits-in-Minus.ensures
 
-pub put-suffix-spec : {M : Type 1} → statement M
-put-suffix-spec =
+pub put_suffix_spec : {M : Type 1} → statement M
+put_suffix_spec =
     tie.close
     (tie.spec
     (λ c. search rules) (λ c. search rules) slice-write-out (λ c. search rules) (λ c. search rules) put-digits-requires

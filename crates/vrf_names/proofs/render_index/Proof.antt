@@ -7,20 +7,20 @@ use Rattle.vrf_names.proofs.Names.{answer-short, answer-fits}
 use Rattle.vrf_names.proofs.render_index.Statement.{statement}
 use Rattle.vrf_names.proofs.render_index.Tie as tie
 
-returns : tie.Need-returns
+returns : tie.Need-returns-then-out-len
 returns c =
-    let out = c.before.before.before.before.args.out.now in
-    answer-short (length out) (decimal _) out c.before.before.decimal-len.ensures.0 (omega arith) (omega arith) c.short.ensures
+    let out = c.args.out.now in
+    answer-short (length out) (decimal _) out c.decimal_len-len.ensures.0 (omega arith) (omega arith) c.short.ensures
 
-returns-2 : tie.Need-returns-2
+returns-2 : tie.Need-returns
 returns-2 c =
     let after-put-digits = c.before.before in
     let counted = after-put-digits.before.before.before in
-    let out = counted.before.before.args.out.now in
-    answer-fits (length out) (decimal _) out counted.decimal-len.ensures.0 (omega arith) (omega arith) after-put-digits.put-digits.ensures
+    let out = counted.args.out.now in
+    answer-fits (length out) (decimal _) out counted.decimal_len-len.ensures.0 (omega arith) (omega arith) after-put-digits.put_digits.ensures
 
-pub render-index-spec : {M : Type 1} → statement M
-render-index-spec =
+pub render_index_spec : {M : Type 1} → statement M
+render_index_spec =
     tie.close
     (tie.spec
     (λ c κs. search rules) (λ c κs. search rules) returns (λ c κs. search rules) (λ c. search rules) returns-2)

@@ -6,8 +6,8 @@ use borrow.Author.Rules.{rules}
 use Rattle.vrf_path.proofs.byte_after.Statement.{statement}
 use Rattle.vrf_path.proofs.byte_after.Tie as tie
 
-returns-2 : tie.Need-returns-2
-returns-2 c = sym (get_or-eq_default c.before.before.args.text.now 0 (omega arith))
+returns-2 : tie.Need-returns
+returns-2 c = sym (get_or-eq_default c.args.text.now 0 (omega arith))
 
-pub byte-after-spec : {M : Type 1} → statement M
-byte-after-spec = tie.close (tie.spec (λ c. search rules) (λ c κs. search rules) (λ c. search rules) returns-2)
+pub byte_after_spec : {M : Type 1} → statement M
+byte_after_spec = tie.close (tie.spec (λ c. search rules) (λ c κs. search rules) (λ c. search rules) returns-2)

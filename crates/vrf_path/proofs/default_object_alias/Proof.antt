@@ -6,23 +6,24 @@ use Rattle.vrf_path.proofs.Laws.Keys.{default-stripped, default_none, default-pr
 use Rattle.vrf_path.proofs.default_object_alias.Statement.{statement}
 use Rattle.vrf_path.proofs.default_object_alias.Tie as tie
 
-returns : tie.Need-returns
+returns : tie.Need-returns-then-starts_with
 unfolding default_prefix
-returns c = default-stripped _ (sym c.before.starts_with.ensures ∙ c.if1.true)
+returns c = default-stripped _ (sym c.starts_with.ensures ∙ c.if-starts_with.true)
 
-returns-2 : tie.Need-returns-2
+returns-2 : tie.Need-returns-then-has_path_separator
 unfolding default_prefix
 returns-2 c =
     let at-if1 = c.before.before in
-    default_none _ (sym at-if1.before.starts_with.ensures ∙ at-if1.if1.false) (sym c.before.has-path-separator.ensures ∙ c.if2.true)
+    default_none _ (sym at-if1.starts_with.ensures ∙ at-if1.if-starts_with.false) (sym c.has_path_separator.ensures ∙ c.if-has_path_separator.true)
 
-returns-3 : tie.Need-returns-3
+returns-3 : tie.Need-returns
 unfolding default_prefix
 returns-3 c =
     let at-if1 = c.before.before in
-    default-prefixed _ (sym at-if1.before.starts_with.ensures ∙ at-if1.if1.false) (sym c.before.has-path-separator.ensures ∙ c.if2.false)
+    default-prefixed _ (sym at-if1.starts_with.ensures ∙ at-if1.if-starts_with.false) (sym c.has_path_separator.ensures ∙ c.if-has_path_separator.false)
 
-pub default-object-alias-spec : {M : Type 1} → statement M
-default-object-alias-spec =
+pub default_object_alias_spec : {M : Type 1} → statement M
+default_object_alias_spec =
     tie.close
-    (tie.spec (λ c. search rules) (λ c κs. search rules) returns (λ c κs. search rules) returns-2 returns-3)
+    (tie.spec
+    (λ c κs. search rules) returns (λ c κs. search rules) returns-2 returns-3)

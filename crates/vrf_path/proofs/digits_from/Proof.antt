@@ -9,27 +9,27 @@ use Rattle.vrf_path.proofs.Laws.Stems.{digits-end, digits-earlier, digits-all}
 use Rattle.vrf_path.proofs.digits_from.Statement.{statement}
 use Rattle.vrf_path.proofs.digits_from.Tie as tie
 
-abbrev invariant-loop : tie.invariant-loop
+abbrev invariant-loop : tie.invariant-loop-i
 invariant-loop name i₀ i = (i ≤ length name) × (digits_from name (length name) ≡ digits_from name i)
 
-abbrev decreases-loop : tie.decreases-loop
+abbrev decreases-loop : tie.decreases-loop-i
 decreases-loop name i₀ i = i
 
-returns : tie.Need-returns invariant-loop decreases-loop
+returns : tie.Need-returns-then-not-is_digit invariant-loop decreases-loop
 returns c =
-    let l = c.before.before.before.before.loop in
-    (sym (l.invariant.1 ∙ digits-end _ (l.i - 1) (omega arith) (sym c.before.is_digit.ensures ∙ not-true c.before.is_digit.result c.if1.true)), omega arith)
+    let l = c.loop-i in
+    (sym (l.invariant.1 ∙ digits-end _ (l.i - 1) (omega arith) (sym c.is_digit.ensures ∙ not-true c.is_digit.result c.if-not-is_digit.true)), omega arith)
 
-loop-again : tie.Need-loop-preserved invariant-loop decreases-loop
+loop-again : tie.Need-loop-i-preserved invariant-loop decreases-loop
 loop-again c =
-    let l = c.before.before.before.before.loop in
-    (omega arith, l.invariant.1 ∙ digits-earlier _ (l.i - 1) (omega arith) (sym c.before.is_digit.ensures ∙ not-false c.before.is_digit.result c.if1.false))
+    let l = c.loop-i in
+    (omega arith, l.invariant.1 ∙ digits-earlier _ (l.i - 1) (omega arith) (sym c.is_digit.ensures ∙ not-false c.is_digit.result c.if-not-is_digit.false))
 
-returns-2 : tie.Need-returns-2 invariant-loop decreases-loop
-returns-2 c = (sym (c.before.loop.invariant.1 ∙ digits-all _ c.before.loop.i c.loop-test.false), omega arith)
+returns-2 : tie.Need-returns invariant-loop decreases-loop
+returns-2 c = (sym (c.loop-i.invariant.1 ∙ digits-all _ c.loop-i.i c.loop-i-test.false), omega arith)
 
-pub digits-from-spec : {M : Type 1} → statement M
-digits-from-spec =
+pub digits_from_spec : {M : Type 1} → statement M
+digits_from_spec =
     tie.close
     (tie.spec
     invariant-loop decreases-loop (λ c. (omega arith, refl)) (λ c. omega arith) (λ c. omega arith) (λ c κs. tt) returns

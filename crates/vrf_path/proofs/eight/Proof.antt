@@ -9,6 +9,6 @@ returns : tie.Need-returns
 unfolding eight
 returns c = omega arith
 
-pub eight-spec : {M : Type 1} → statement M
-eight-spec =
+pub eight_spec : {M : Type 1} → statement M
+eight_spec =
     tie.close (tie.spec (λ c κs. search rules) (λ c. search rules) (λ c κs. search rules) (λ c. search rules) (λ c. search rules) returns)

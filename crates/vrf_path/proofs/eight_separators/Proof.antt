@@ -9,9 +9,9 @@ use Rattle.vrf_path.proofs.eight_separators.Tie as tie
 
 returns : tie.Need-returns
 returns c =
-    let a = c.before.before.before.args in
+    let a = c.args in
     let ends : a.i + 4 + 4 ≡ a.i + 8 = omega arith in
-    or-joined c.before.four-separators.result c.four-separators2.result _ c.before.four-separators.ensures (rw ends at c.four-separators2.ensures)
+    or-joined c.four_separators.result c.four_separators-2.result _ c.four_separators.ensures (rw ends at c.four_separators-2.ensures)
 
-pub eight-separators-spec : {M : Type 1} → statement M
-eight-separators-spec = tie.close (tie.spec (λ c κs. search rules) (λ c. search rules) (λ c κs. search rules) returns)
+pub eight_separators_spec : {M : Type 1} → statement M
+eight_separators_spec = tie.close (tie.spec (λ c κs. search rules) (λ c. search rules) (λ c κs. search rules) returns)

@@ -6,7 +6,7 @@ use Rattle.vrf_path.proofs.Texts.{ends_at}
 use Rattle.vrf_path.proofs.ends_with.Statement.{statement}
 use Rattle.vrf_path.proofs.ends_with.Tie as tie
 
-pub ends-with-spec : {M : Type 1} → statement M
-ends-with-spec =
+pub ends_with_spec : {M : Type 1} → statement M
+ends_with_spec =
     tie.close
-    (tie.spec (λ c. sym (ends-short _ _ c.if1.true)) (λ c. search rules) (λ c. search rules) (λ c. search rules) (λ c. search rules) (λ c κs. search rules) (λ c. ends_at _ _ c.same.ensures))
+    (tie.spec (λ c. sym (ends-short _ _ c.if-text-p.true)) (λ c. search rules) (λ c. search rules) (λ c. search rules) (λ c. search rules) (λ c κs. search rules) (λ c. ends_at _ _ c.same.ensures))

@@ -8,30 +8,30 @@ use Rattle.vrf_path.proofs.Laws.Keys.{separator-next, separator-nowhere}
 use Rattle.vrf_path.proofs.few_separators.Statement.{statement}
 use Rattle.vrf_path.proofs.few_separators.Tie as tie
 
-abbrev invariant-loop : tie.invariant-loop
+abbrev invariant-loop : tie.invariant-loop-i
 invariant-loop text i₀ i = (i ≤ length text) × (has_separator text ≡ has_separator (drop i text))
 
-abbrev decreases-loop : tie.decreases-loop
+abbrev decreases-loop : tie.decreases-loop-i
 decreases-loop text i₀ i = length text - i
 
-returns : tie.Need-returns invariant-loop decreases-loop
+returns : tie.Need-returns-then-is_separator invariant-loop decreases-loop
 returns c =
     let at-loop = c.before.before.before.before in
-    sym (at-loop.loop.invariant.1 ∙ rw (sym c.before.is-separator.ensures ∙ c.if1.true) at (separator-next at-loop.before.before.args.text.now at-loop.loop.i (omega arith)))
+    sym (at-loop.loop-i.invariant.1 ∙ rw (sym c.is_separator.ensures ∙ c.if-is_separator.true) at (separator-next at-loop.args.text.now at-loop.loop-i.i (omega arith)))
 
-loop-again : tie.Need-loop-preserved invariant-loop decreases-loop
+loop-again : tie.Need-loop-i-preserved invariant-loop decreases-loop
 loop-again c =
     let at-loop = c.before.before.before.before in
-    (omega arith, at-loop.loop.invariant.1 ∙ rw (sym c.before.is-separator.ensures ∙ c.if1.false) at (separator-next at-loop.before.before.args.text.now at-loop.loop.i (omega arith)))
+    (omega arith, at-loop.loop-i.invariant.1 ∙ rw (sym c.is_separator.ensures ∙ c.if-is_separator.false) at (separator-next at-loop.args.text.now at-loop.loop-i.i (omega arith)))
 
-returns-2 : tie.Need-returns-2 invariant-loop decreases-loop
-returns-2 c = sym (c.before.loop.invariant.1 ∙ separator-nowhere _ c.before.loop.i c.loop-test.false)
+returns-2 : tie.Need-returns invariant-loop decreases-loop
+returns-2 c = sym (c.loop-i.invariant.1 ∙ separator-nowhere _ c.loop-i.i c.loop-i-test.false)
 
-loop-holds : tie.Need-loop-init invariant-loop decreases-loop
+loop-holds : tie.Need-loop-i-init invariant-loop decreases-loop
 loop-holds c = (omega arith, refl)
 
-pub few-separators-spec : {M : Type 1} → statement M
-few-separators-spec =
+pub few_separators_spec : {M : Type 1} → statement M
+few_separators_spec =
     tie.close
     (tie.spec
     invariant-loop decreases-loop loop-holds (λ c. omega arith) (λ c κs. tt) returns (λ c. omega arith) (λ c. omega arith) loop-again

@@ -6,5 +6,5 @@ use Rattle.vrf_path.proofs.first_stem.Tie as tie
 returns : tie.Need-returns
 returns c = first _
 
-pub first-stem-spec : {M : Type 1} → statement M
-first-stem-spec = tie.close (tie.spec returns)
+pub first_stem_spec : {M : Type 1} → statement M
+first_stem_spec = tie.close (tie.spec returns)

@@ -9,8 +9,8 @@ returns : tie.Need-returns
 unfolding four
 returns c = (omega arith, omega arith)
 
-pub four-spec : {M : Type 1} → statement M
-four-spec =
+pub four_spec : {M : Type 1} → statement M
+four_spec =
     tie.close
     (tie.spec
     (λ c. search rules) (λ c κs. search rules) (λ c. search rules) (λ c. search rules) (λ c κs. search rules)

@@ -10,13 +10,13 @@ returns : tie.Need-returns
 returns c =
     let after-eight-differ2 = c.before.before in
     let at-shared-slice-known = after-eight-differ2.before.before.before in
-    let a = at-shared-slice-known.before.args.a.now in
-    let b = at-shared-slice-known.before.args.b.now in
-    differ-four a b after-eight-differ2.before.eight-differ.result after-eight-differ2.eight-differ2.result c.before.eight-differ3.result c.eight-differ4.result after-eight-differ2.before.eight-differ.ensures after-eight-differ2.eight-differ2.ensures c.before.eight-differ3.ensures c.eight-differ4.ensures
-    (agree-words a b (λ i. (at-shared-slice-known.shared-slice-known.given i).fits) (λ i. (after-eight-differ2.before.before.shared-slice-known2.given i).fits) _ (omega arith) (omega arith))
+    let a = at-shared-slice-known.args.a.now in
+    let b = at-shared-slice-known.args.b.now in
+    differ-four a b after-eight-differ2.eight_differ.result after-eight-differ2.eight_differ-2.result c.eight_differ-3.result c.eight_differ-4.result after-eight-differ2.eight_differ.ensures after-eight-differ2.eight_differ-2.ensures c.eight_differ-3.ensures c.eight_differ-4.ensures
+    (agree-words a b (λ i. (at-shared-slice-known.shared_slice_known-1.given i).fits) (λ i. (after-eight-differ2.shared_slice_known-2-1.given i).fits) _ (omega arith) (omega arith))
 
-pub four-differ-spec : {M : Type 1} → statement M
-four-differ-spec =
+pub four_differ_spec : {M : Type 1} → statement M
+four_differ_spec =
     tie.close
     (tie.spec
     (λ c κs. search rules) (λ c. search rules) (λ c κs. search rules) (λ c. search rules) (λ c κs. search rules)

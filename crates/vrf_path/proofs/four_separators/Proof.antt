@@ -9,11 +9,11 @@ returns : tie.Need-returns
 returns c =
     let after-is-separator3 = c.before.before in
     let after-is-separator = after-is-separator3.before.before.before.before in
-    let a = after-is-separator.before.before.before.args in
-    four-next _ a.i (omega arith) after-is-separator.is-separator.ensures after-is-separator3.before.before.is-separator2.ensures after-is-separator3.is-separator3.ensures c.is-separator4.ensures
+    let a = after-is-separator.args in
+    four-next _ a.i (omega arith) after-is-separator.is_separator.ensures after-is-separator3.is_separator-2.ensures after-is-separator3.is_separator-3.ensures c.is_separator-4.ensures
 
-pub four-separators-spec : {M : Type 1} → statement M
-four-separators-spec =
+pub four_separators_spec : {M : Type 1} → statement M
+four_separators_spec =
     tie.close
     (tie.spec
     (λ c. search rules) (λ c κs. search rules) (λ c. search rules) (λ c. search rules) (λ c κs. search rules)

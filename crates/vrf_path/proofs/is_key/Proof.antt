@@ -9,18 +9,18 @@ use Rattle.vrf_path.proofs.Laws.Answers.{spelled-bytes, spelled-absent}
 use Rattle.vrf_path.proofs.is_key.Statement.{statement}
 use Rattle.vrf_path.proofs.is_key.Tie as tie
 
-returns : tie.Need-returns
+returns : tie.Need-returns-then-is_absent
 unfolding key_is
 returns c =
-    let a = c.before.before.before.before.args in
-    sym (ap (λ (o : Option (List ℕ)). key_is o a.text.now) (spelled-absent a.path.now a.key (sym c.before.is-absent.ensures ∙ c.if1.true)))
+    let a = c.args in
+    sym (ap (λ (o : Option (List ℕ)). key_is o a.text.now) (spelled-absent a.path.now a.key (sym c.is_absent.ensures ∙ c.if-is_absent.true)))
 
-returns-2 : tie.Need-returns-2
+returns-2 : tie.Need-returns
 unfolding key_is
 returns-2 c =
     let at-if1 = c.before in
-    let a = at-if1.before.before.before.before.args in
-    c.same_key.ensures ∙ sym (ap (λ (o : Option (List ℕ)). key_is o a.text.now) (spelled-bytes a.path.now a.key (sym at-if1.before.is-absent.ensures ∙ at-if1.if1.false)))
+    let a = at-if1.args in
+    c.same_key.ensures ∙ sym (ap (λ (o : Option (List ℕ)). key_is o a.text.now) (spelled-bytes a.path.now a.key (sym at-if1.is_absent.ensures ∙ at-if1.if-is_absent.false)))
 
-pub is-key-spec : {M : Type 1} → statement M
-is-key-spec = tie.close (tie.spec (λ c κs. search rules) returns (λ c κs. search rules) returns-2)
+pub is_key_spec : {M : Type 1} → statement M
+is_key_spec = tie.close (tie.spec (λ c κs. search rules) returns (λ c κs. search rules) returns-2)

@@ -8,5 +8,5 @@ returns : tie.Need-returns
 unfolding is_separator
 returns c = refl
 
-pub is-separator-spec : {M : Type 1} → statement M
-is-separator-spec = tie.close (tie.spec returns)
+pub is_separator_spec : {M : Type 1} → statement M
+is_separator_spec = tie.close (tie.spec returns)

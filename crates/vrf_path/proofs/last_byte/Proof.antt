@@ -6,8 +6,8 @@ use borrow.Author.Rules.{rules}
 use Rattle.vrf_path.proofs.last_byte.Statement.{statement}
 use Rattle.vrf_path.proofs.last_byte.Tie as tie
 
-returns : tie.Need-returns
-returns c = sym (get_or-eq_default c.before.args.t.now 0 (omega arith))
+returns : tie.Need-returns-then-t-eq0
+returns c = sym (get_or-eq_default c.args.t.now 0 (omega arith))
 
-pub last-byte-spec : {M : Type 1} → statement M
-last-byte-spec = tie.close (tie.spec returns (λ c. search rules) (λ c. search rules) (λ c. search rules))
+pub last_byte_spec : {M : Type 1} → statement M
+last_byte_spec = tie.close (tie.spec returns (λ c. search rules) (λ c. search rules) (λ c. search rules))

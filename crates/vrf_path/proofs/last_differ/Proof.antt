@@ -15,21 +15,21 @@ returns : tie.Need-returns
 returns c =
     let after-left2 = c.before.before.before in
     let after-eight-differ = after-left2.before.before.before in
-    let a = after-eight-differ.before.before.before.args.a.now in
-    let b = after-eight-differ.before.before.before.args.b.now in
-    let before = agree-before a b (λ i. (after-eight-differ.before.before.shared-slice-known.given i).fits) (λ i. (after-eight-differ.before.shared-slice-known2.given i).fits) in
+    let a = after-eight-differ.args.a.now in
+    let b = after-eight-differ.args.b.now in
+    let before = agree-before a b (λ i. (after-eight-differ.shared_slice_known-1.given i).fits) (λ i. (after-eight-differ.shared_slice_known-2-1.given i).fits) in
     let end : same (drop (length a) a) (drop (length a) b) ≡ true = same_ended a b (length a) (omega arith) (omega arith) in
-    differ-four a b after-eight-differ.eight-differ.result after-left2.before.eight-differ2.result c.before.before.eight-differ3.result c.eight-differ4.result
-    after-eight-differ.eight-differ.ensures (rw after-left2.before.before.left.ensures at after-left2.before.eight-differ2.ensures)
-    (rw after-left2.left2.ensures at c.before.before.eight-differ3.ensures) (rw c.before.left3.ensures at c.eight-differ4.ensures)
+    differ-four a b after-eight-differ.eight_differ.result after-left2.eight_differ-2.result c.eight_differ-3.result c.eight_differ-4.result
+    after-eight-differ.eight_differ.ensures (rw after-left2.left.ensures at after-left2.eight_differ-2.ensures)
+    (rw after-left2.left-2.ensures at c.eight_differ-3.ensures) (rw c.left-3.ensures at c.eight_differ-4.ensures)
     (λ e8 e16 e24 e32.
     before (length a - 24) (length a - 32) (omega arith) (omega arith) (omega arith) e32
     (before (length a - 16) (length a - 24) (omega arith) (omega arith) (omega arith) e24
     (before (length a - 8) (length a - 16) (omega arith) (omega arith) (omega arith) e16
     (before (length a) (length a - 8) (omega arith) (omega arith) (omega arith) e8 end))))
 
-pub last-differ-spec : {M : Type 1} → statement M
-last-differ-spec =
+pub last_differ_spec : {M : Type 1} → statement M
+last_differ_spec =
     tie.close
     (tie.spec
     (λ c. search rules) (λ c κs. search rules) (λ c κs. search rules) (λ c κs. search rules) (λ c κs. search rules)

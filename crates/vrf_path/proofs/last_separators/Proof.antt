@@ -12,13 +12,13 @@ use Rattle.vrf_path.proofs.last_separators.Tie as tie
 
 returns : tie.Need-returns
 returns c =
-    let t = c.before.before.before.before.args.t.now in
-    let x = c.before.eight-separators.result in
-    let y = c.eight-separators2.result in
-    let end : has_separator (drop (length t - 8) t) ≡ y = c.eight-separators2.ensures ∙ ap (λ (b : Bool). y || b) (separator-nowhere t (length t - 8 + 8) (omega arith)) ∙ or-false y in
-    separators-or t (length t - 16) (length t - 8) (length t - 16 + 8) (omega arith) (omega arith) x y (rw c.before.before.left.ensures at c.before.eight-separators.ensures) end
+    let t = c.args.t.now in
+    let x = c.eight_separators.result in
+    let y = c.eight_separators-2.result in
+    let end : has_separator (drop (length t - 8) t) ≡ y = c.eight_separators-2.ensures ∙ ap (λ (b : Bool). y || b) (separator-nowhere t (length t - 8 + 8) (omega arith)) ∙ or-false y in
+    separators-or t (length t - 16) (length t - 8) (length t - 16 + 8) (omega arith) (omega arith) x y (rw c.left.ensures at c.eight_separators.ensures) end
 
-pub last-separators-spec : {M : Type 1} → statement M
-last-separators-spec =
+pub last_separators_spec : {M : Type 1} → statement M
+last_separators_spec =
     tie.close
     (tie.spec (λ c κs. search rules) (λ c κs. search rules) (λ c. search rules) (λ c κs. search rules) returns)

@@ -11,29 +11,28 @@ use Rattle.vrf_path.proofs.Laws.Base.{leaf-by-e, leaf-by-others}
 use Rattle.vrf_path.proofs.leaf_base.Statement.{statement}
 use Rattle.vrf_path.proofs.leaf_base.Tie as tie
 
-slice-aggregate-class-base : tie.Need-slice-aggregate-class-base
-slice-aggregate-class-base c = rw length-take (omega (arith, c.before.cut_at.ensures.1))
+slice-aggregate-class-base : tie.Need-slice_bounds-class_base-end
+slice-aggregate-class-base c = rw length-take (omega (arith, c.cut_at-n.ensures.1))
 
-returns : tie.Need-returns
+returns : tie.Need-returns-then-last_byte-eq101
 unfolding class_net_cache
 returns c =
     let after-cut-at = c.before.before in
     let back = after-cut-at.before.before.before.before in
     let start = back.before in
     let l = start.args.l.now in
-    let n = after-cut-at.cut_at in
-    let r = c.class-base.result in
-    let few : r ≤ n.result = omega (arith, c.class-base.ensures.1, length-take n.result l) in
-    (sym (take-take r n.result l few) ∙ c.class-base.ensures.0 ∙ ap class_base n.ensures.0 ∙ leaf-by-e l, omega (arith, few, n.ensures.1))
+    let n = after-cut-at.cut_at-n in
+    let r = c.class_base.result in
+    let few : r ≤ n.result = omega (arith, c.class_base.ensures.1, length-take n.result l) in
+    (sym (take-take r n.result l few) ∙ c.class_base.ensures.0 ∙ ap class_base n.ensures.0 ∙ leaf-by-e l, omega (arith, few, n.ensures.1))
 
-returns-2 : tie.Need-returns-2
+returns-2 : tie.Need-returns
 returns-2 c =
-    let l = c.before.before.before.before.args.l.now in
-    (c.class-base2.ensures.0 ∙ leaf-by-others l (λ e. c.before.if1.false (c.before.before.last_byte.ensures ∙ e)), c.class-base2.ensures.1)
+    let l = c.args.l.now in
+    (c.class_base-2.ensures.0 ∙ leaf-by-others l (λ e. c.if-last_byte-eq101.false (c.last_byte.ensures ∙ e)), c.class_base-2.ensures.1)
 
-pub leaf-base-spec : {M : Type 1} → statement M
-leaf-base-spec =
+pub leaf_base_spec : {M : Type 1} → statement M
+leaf_base_spec =
     tie.close
     (tie.spec
-    (λ c κs. search rules) (λ c. search rules) (λ c κs. search rules) slice-aggregate-class-base (λ c κs. search rules)
-    returns (λ c κs. search rules) returns-2)
+    (λ c κs. search rules) (λ c κs. search rules) slice-aggregate-class-base (λ c κs. search rules) returns (λ c κs. search rules) returns-2)

@@ -5,8 +5,8 @@ use Rattle.vrf_path.proofs.Laws.Text.{same-lengths}
 use Rattle.vrf_path.proofs.same.Statement.{statement}
 use Rattle.vrf_path.proofs.same.Tie as tie
 
-returns : tie.Need-returns
-returns c = sym (same-lengths _ _ c.if1.true)
+returns : tie.Need-returns-then-a-b
+returns c = sym (same-lengths _ _ c.if-a-b.true)
 
 pub same_spec : {M : Type 1} → statement M
 same_spec =

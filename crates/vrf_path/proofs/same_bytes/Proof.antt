@@ -8,27 +8,27 @@ use Rattle.vrf_path.proofs.Laws.Text.{same-differ, same-agree, same_ended}
 use Rattle.vrf_path.proofs.same_bytes.Statement.{statement}
 use Rattle.vrf_path.proofs.same_bytes.Tie as tie
 
-abbrev invariant-loop : tie.invariant-loop
+abbrev invariant-loop : tie.invariant-loop-i
 invariant-loop a b i₀ i = (i ≤ length a) × (length a ≡ length b) × (same a b ≡ same (drop i a) (drop i b))
 
-abbrev decreases-loop : tie.decreases-loop
+abbrev decreases-loop : tie.decreases-loop-i
 decreases-loop a b i₀ i = length a - i
 
-returns : tie.Need-returns invariant-loop decreases-loop
+returns : tie.Need-returns-then-a-i invariant-loop decreases-loop
 returns c =
-    let l = c.before.before.before.before.loop in
-    sym (l.invariant.2 ∙ same-differ _ _ l.i (omega arith) (omega arith) c.if1.true)
+    let l = c.loop-i in
+    sym (l.invariant.2 ∙ same-differ _ _ l.i (omega arith) (omega arith) c.if-a-i.true)
 
-loop-again : tie.Need-loop-preserved invariant-loop decreases-loop
+loop-again : tie.Need-loop-i-preserved invariant-loop decreases-loop
 loop-again c =
-    let l = c.before.before.before.before.loop in
-    (omega arith, omega arith, l.invariant.2 ∙ same-agree _ _ l.i (omega arith) (omega arith) c.if1.false)
+    let l = c.loop-i in
+    (omega arith, omega arith, l.invariant.2 ∙ same-agree _ _ l.i (omega arith) (omega arith) c.if-a-i.false)
 
-returns-2 : tie.Need-returns-2 invariant-loop decreases-loop
-returns-2 c = sym (c.before.loop.invariant.2 ∙ same_ended _ _ c.before.loop.i (omega arith) (omega arith))
+returns-2 : tie.Need-returns invariant-loop decreases-loop
+returns-2 c = sym (c.loop-i.invariant.2 ∙ same_ended _ _ c.loop-i.i (omega arith) (omega arith))
 
-pub same-bytes-spec : {M : Type 1} → statement M
-same-bytes-spec =
+pub same_bytes_spec : {M : Type 1} → statement M
+same_bytes_spec =
     tie.close
     (tie.spec
     invariant-loop decreases-loop (λ c. (omega arith, omega arith, refl)) (λ c. omega arith) (λ c. omega arith) returns

@@ -9,42 +9,42 @@ use Rattle.vrf_path.proofs.Laws.Text.{same-lengths, same-differ, same-agree, sam
 use Rattle.vrf_path.proofs.same_key.Statement.{statement}
 use Rattle.vrf_path.proofs.same_key.Tie as tie
 
-abbrev invariant-loop : tie.invariant-loop
+abbrev invariant-loop : tie.invariant-loop-i
 invariant-loop path key text i₀ i = (i ≤ length text) × (length (key_bytes path key) ≡ length text) × (same (key_bytes path key) text ≡ same (drop i (key_bytes path key)) (drop i text))
 
-abbrev decreases-loop : tie.decreases-loop
+abbrev decreases-loop : tie.decreases-loop-i
 decreases-loop path key text i₀ i = length text - i
 
-returns : tie.Need-returns invariant-loop decreases-loop
+returns : tie.Need-returns-then-key_len-text invariant-loop decreases-loop
 returns c =
-    let a = c.before.before.before.before.args in
-    sym (same-lengths (key_bytes _ a.key) _ (λ e. c.if1.true (c.before.key-len.ensures ∙ e)))
+    let a = c.args in
+    sym (same-lengths (key_bytes _ a.key) _ (λ e. c.if-key_len-text.true (c.key_len.ensures ∙ e)))
 
-loop-holds : tie.Need-loop-init invariant-loop decreases-loop
-loop-holds c = (omega arith, sym c.before.key-len.ensures ∙ c.if1.false, refl)
+loop-holds : tie.Need-loop-i-init invariant-loop decreases-loop
+loop-holds c = (omega arith, sym c.key_len.ensures ∙ c.if-key_len-text.false, refl)
 
-returns-2 : tie.Need-returns-2 invariant-loop decreases-loop
+returns-2 : tie.Need-returns-then-key_byte-text invariant-loop decreases-loop
 returns-2 c =
     let at-loop = c.before.before.before.before in
     let back = at-loop.before.before.before.before in
-    let a = back.before.args in
-    sym (at-loop.loop.invariant.2 ∙ same-differ (key_bytes _ a.key) _ at-loop.loop.i (omega arith) (omega arith) (λ e. c.if2.true (c.before.before.key-byte.ensures ∙ e)))
+    let a = back.args in
+    sym (at-loop.loop-i.invariant.2 ∙ same-differ (key_bytes _ a.key) _ at-loop.loop-i.i (omega arith) (omega arith) (λ e. c.if-key_byte-text.true (c.key_byte.ensures ∙ e)))
 
-loop-again : tie.Need-loop-preserved invariant-loop decreases-loop
+loop-again : tie.Need-loop-i-preserved invariant-loop decreases-loop
 loop-again c =
     let at-loop = c.before.before.before.before in
     let back = at-loop.before.before.before.before in
-    let a = back.before.args in
-    (omega arith, at-loop.loop.invariant.1, at-loop.loop.invariant.2 ∙ same-agree (key_bytes _ a.key) _ at-loop.loop.i (omega arith) (omega arith) (sym c.before.before.key-byte.ensures ∙ c.if2.false))
+    let a = back.args in
+    (omega arith, at-loop.loop-i.invariant.1, at-loop.loop-i.invariant.2 ∙ same-agree (key_bytes _ a.key) _ at-loop.loop-i.i (omega arith) (omega arith) (sym c.key_byte.ensures ∙ c.if-key_byte-text.false))
 
-returns-3 : tie.Need-returns-3 invariant-loop decreases-loop
+returns-3 : tie.Need-returns invariant-loop decreases-loop
 returns-3 c =
     let back = c.before.before.before.before in
-    let a = back.before.before.args in
-    sym (c.before.loop.invariant.2 ∙ same_ended (key_bytes _ a.key) _ c.before.loop.i (omega arith) (omega arith))
+    let a = back.args in
+    sym (c.loop-i.invariant.2 ∙ same_ended (key_bytes _ a.key) _ c.loop-i.i (omega arith) (omega arith))
 
-pub same-key-spec : {M : Type 1} → statement M
-same-key-spec =
+pub same_key_spec : {M : Type 1} → statement M
+same_key_spec =
     tie.close
     (tie.spec
     invariant-loop decreases-loop (λ c κs. tt) returns loop-holds (λ c κs. tt) (λ c. omega arith) returns-2 (λ c. omega arith)

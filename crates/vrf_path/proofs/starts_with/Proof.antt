@@ -8,12 +8,12 @@ use Rattle.vrf_path.proofs.Laws.Text.{starts-short}
 use Rattle.vrf_path.proofs.starts_with.Statement.{statement}
 use Rattle.vrf_path.proofs.starts_with.Tie as tie
 
-returns : tie.Need-returns
-returns c = sym (starts-short _ _ c.if1.true)
+returns : tie.Need-returns-then-text-n
+returns c = sym (starts-short _ _ c.if-text-n.true)
 
-returns-2 : tie.Need-returns-2
+returns-2 : tie.Need-returns
 unfolding starts_with
 returns-2 c = c.same.ensures
 
-pub starts-with-spec : {M : Type 1} → statement M
-starts-with-spec = tie.close (tie.spec returns (λ c. rw length-take (omega arith)) (λ c κs. search rules) returns-2)
+pub starts_with_spec : {M : Type 1} → statement M
+starts_with_spec = tie.close (tie.spec returns (λ c. rw length-take (omega arith)) (λ c κs. search rules) returns-2)

@@ -7,19 +7,20 @@ use Rattle.vrf_path.proofs.Laws.Toggle.{toggle-stripped, toggle-empty, toggle-ap
 use Rattle.vrf_path.proofs.toggle_class_net_cache.Statement.{statement}
 use Rattle.vrf_path.proofs.toggle_class_net_cache.Tie as tie
 
-returns : tie.Need-returns
+returns : tie.Need-returns-then-key-gt14
 unfolding class_net_cache
-returns c = (toggle-stripped _ (sym c.before.before.ends_with.ensures ∙ c.before.if1.true) c.if2.true, omega arith)
+returns c = (toggle-stripped _ (sym c.ends_with.ensures ∙ c.if-ends_with.true) c.if-key-gt14.true, omega arith)
 
-returns-2 : tie.Need-returns-2
+returns-2 : tie.Need-returns-then-ends_with
 unfolding class_net_cache
-returns-2 c = toggle-empty _ (sym c.before.before.ends_with.ensures ∙ c.before.if1.true) c.if2.false
+returns-2 c = toggle-empty _ (sym c.ends_with.ensures ∙ c.if-ends_with.true) c.if-key-gt14.false
 
-returns-3 : tie.Need-returns-3
+returns-3 : tie.Need-returns
 unfolding class_net_cache
-returns-3 c = toggle-appended _ (sym c.before.ends_with.ensures ∙ c.if1.false)
+returns-3 c = toggle-appended _ (sym c.ends_with.ensures ∙ c.if-ends_with.false)
 
-pub toggle-class-net-cache-spec : {M : Type 1} → statement M
-toggle-class-net-cache-spec =
+pub toggle_class_net_cache_spec : {M : Type 1} → statement M
+toggle_class_net_cache_spec =
     tie.close
-    (tie.spec (λ c. search rules) (λ c κs. search rules) (λ c. search rules) returns returns-2 returns-3)
+    (tie.spec
+    (λ c κs. search rules) (λ c. search rules) returns returns-2 returns-3)

@@ -8,22 +8,22 @@ use Rattle.vrf_script_calls.specs.Inner.Blocks.{KeptIn}
 use Rattle.vrf_replay.proofs.play_calls.Statement.{statement}
 use Rattle.vrf_replay.proofs.play_calls.Tie as tie
 
-abbrev invariant-loop : tie.invariant-loop
+abbrev invariant-loop : tie.invariant-loop-call
 invariant-loop script memory₀ scratch₀ out₀ turn₀ call₀ call-end memory scratch out turn call = (call ≤ call-end) × (call-end < 18446744073709551616) × (length out ≡ length out₀) × (length memory ≡ length memory₀) × (total turn.books ≤ length memory) × (length scratch ≡ length scratch₀) × (KeptIn (length scratch) turn.kept)
 
-abbrev decreases-loop : tie.decreases-loop
+abbrev decreases-loop : tie.decreases-loop-call
 decreases-loop script memory₀ scratch₀ out₀ turn₀ call₀ call-end memory scratch out turn call = call-end - call
 
-add-call : tie.Need-overflow-add-call invariant-loop decreases-loop
+add-call : tie.Need-overflow_step-call invariant-loop decreases-loop
 add-call c =
     let after-scratch = c.before.before.before in
     let after-play-call = after-scratch.before.before.before in
     let at-else2 = after-play-call.before.before.before.before in
     let in-loop = at-else2.before.before.before.before in
-    record { fits = omega (arith, in-loop.loop-test.true, in-loop.before.loop.invariant.1) }
+    record { fits = omega (arith, in-loop.loop-call-test.true, in-loop.loop-call.invariant.1) }
 
-pub play-calls-spec : {M : Type 1} → statement M
-play-calls-spec =
+pub play_calls_spec : {M : Type 1} → statement M
+play_calls_spec =
     tie.close
     (tie.spec
     invariant-loop decreases-loop (λ c κs. search rules) (λ c. search rules) (λ c. search rules) (λ c. search rules)

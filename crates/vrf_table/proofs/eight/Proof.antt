@@ -6,10 +6,10 @@ use Rattle.vrf_table.proofs.eight.Tie as tie
 
 returns : tie.Need-returns
 returns c =
-    let start = c.before.before.before.args in
+    let start = c.args in
     eight-from start.t.now start.i (omega arith) c.get64.ensures
 
-pub eight-spec : {M : Type 1} → statement M
-eight-spec =
+pub eight_spec : {M : Type 1} → statement M
+eight_spec =
     tie.close
     (tie.spec (λ c. search rules) (λ c. search rules) (λ c. search rules) (λ c κs. search rules) returns)

@@ -4,23 +4,23 @@ use Rattle.vrf_table.proofs.Texts.{end-by-name, end-not}
 use Rattle.vrf_table.proofs.ends_with_name.Statement.{statement}
 use Rattle.vrf_table.proofs.ends_with_name.Tie as tie
 
-returns : tie.Need-returns
+returns : tie.Need-returns-then-same
 returns c =
     let at-if1 = c.before.before in
     let after_same = at-if1.before in
     let back = after_same.before.before.before.before in
     let s = back.before in
-    end-by-name s.args.path.now s.args.name.now s.args.suffix.now s.args.from s.requires after_same.same.ensures at-if1.if1.true c.same2.ensures
+    end-by-name s.args.path.now s.args.name.now s.args.suffix.now s.args.from s.requires after_same.same.ensures at-if1.if-same.true c.same-then-same.ensures
 
-returns-2 : tie.Need-returns-2
+returns-2 : tie.Need-returns
 returns-2 c =
     let after_same = c.before in
     let back = after_same.before.before.before.before in
     let s = back.before in
-    end-not s.args.path.now s.args.name.now s.args.suffix.now s.args.from s.requires after_same.same.ensures c.if1.false
+    end-not s.args.path.now s.args.name.now s.args.suffix.now s.args.from s.requires after_same.same.ensures c.if-same.false
 
-pub ends-with-name-spec : {M : Type 1} → statement M
-ends-with-name-spec =
+pub ends_with_name_spec : {M : Type 1} → statement M
+ends_with_name_spec =
     tie.close
     (tie.spec
     (λ c. search rules) (λ c. search rules) (λ c. search rules) (λ c. search rules) (λ c κs. search rules)

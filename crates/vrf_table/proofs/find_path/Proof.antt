@@ -8,48 +8,48 @@ use Rattle.vrf_table.proofs.Walks.{walk-ended, walk-beyond, walk-found, walk-on}
 use Rattle.vrf_table.proofs.find_path.Statement.{statement}
 use Rattle.vrf_table.proofs.find_path.Tie as tie
 
-abbrev invariant-loop : tie.invariant-loop
+abbrev invariant-loop : tie.invariant-loop-p
 invariant-loop rows x links heads b n k p₀ limit₀ p limit = (limit ≤ 3 * n) × (find_path rows x links heads b n k ≡ walk (path_hit rows x k) (word links) limit p)
 
-abbrev decreases-loop : tie.decreases-loop
+abbrev decreases-loop : tie.decreases-loop-p
 decreases-loop rows x links heads b n k p₀ limit₀ p limit = limit
 
-abbrev start : tie.After-text-bucket invariant-loop decreases-loop → tie.Start invariant-loop decreases-loop
+abbrev start : tie.After-text_bucket invariant-loop decreases-loop → tie.Start invariant-loop decreases-loop
 start c =
     let back = c.before.before.before.before in
     back.before.before
 
-get32-requires : tie.Need-get32-requires invariant-loop decreases-loop
-get32-requires c κs = let x = (start c).args in omega (arith, c.text-bucket.ensures, text_bucket-lt x.b x.k.now (start c).requires.3)
+get32-requires : tie.Need-get32-p-requires invariant-loop decreases-loop
+get32-requires c κs = let x = (start c).args in omega (arith, c.text_bucket.ensures, text_bucket-lt x.b x.k.now (start c).requires.3)
 
-loop-holds : tie.Need-loop-init invariant-loop decreases-loop
+loop-holds : tie.Need-loop-p-init invariant-loop decreases-loop
 unfolding find_path text_start
 loop-holds c =
     let x = (start c.before).args in
-    (omega arith, sym (ap (walk (path_hit x.rows.now x.x.now x.k.now) (word x.links.now) (3 * x.n)) (c.get32.ensures ∙ ap (word x.heads.now) c.before.text-bucket.ensures)))
+    (omega arith, sym (ap (walk (path_hit x.rows.now x.x.now x.k.now) (word x.links.now) (3 * x.n)) (c.get32-p.ensures ∙ ap (word x.heads.now) c.text_bucket.ensures)))
 
-path-hit-requires : tie.Need-path-hit-requires invariant-loop decreases-loop
+path-hit-requires : tie.Need-path_hit-requires invariant-loop decreases-loop
 path-hit-requires c κs =
     let at-loop = c.before.before in
-    (omega arith, (start at-loop.before.before).pre.5 ((at-loop.loop.p - 1) / 3) (omega arith))
+    (omega arith, (start at-loop.before.before).requires.5 ((at-loop.loop-p.p - 1) / 3) (omega arith))
 
-returns-2 : tie.Need-returns-2 invariant-loop decreases-loop
+returns-2 : tie.Need-returns-then-path_hit invariant-loop decreases-loop
 returns-2 c =
     let turn = c.before.before.before in
-    walk-found _ _ _ _ turn.before.loop.invariant.1 turn.loop-test.true c.before.before.if1.false c.before.path-hit.ensures c.if2.true
+    walk-found _ _ _ _ turn.loop-p.invariant.1 turn.loop-p-test.true c.if-limit-e.false c.path_hit.ensures c.if-path_hit.true
 
-loop-again : tie.Need-loop-preserved invariant-loop decreases-loop
+loop-again : tie.Need-loop-p-preserved invariant-loop decreases-loop
 loop-again c =
     let missed = c.before.before in
     let turn = missed.before.before in
-    (omega arith, walk-on _ _ _ _ turn.before.loop.invariant.1 turn.loop-test.true missed.before.if1.false missed.path-hit.ensures c.before.if2.false c.get322.ensures)
+    (omega arith, walk-on _ _ _ _ turn.loop-p.invariant.1 turn.loop-p-test.true missed.if-limit-e.false missed.path_hit.ensures c.if-path_hit.false c.get32-p-in-loop-p.ensures)
 
-pub find-path-spec : {M : Type 1} → statement M
-find-path-spec =
+pub find_path_spec : {M : Type 1} → statement M
+find_path_spec =
     tie.close
     (tie.spec
     invariant-loop decreases-loop (λ c κs. omega arith) (λ c. search rules) get32-requires (λ c. omega arith) loop-holds
     (λ c. omega arith)
-    (λ c. walk-beyond _ _ _ _ c.before.before.loop.invariant.1 c.before.loop-test.true c.if1.true)
+    (λ c. walk-beyond _ _ _ _ c.loop-p.invariant.1 c.loop-p-test.true c.if-limit-e.true)
     path-hit-requires returns-2 (λ c. search rules) (λ c κs. omega arith) (λ c. omega arith) loop-again
-    (λ c. walk-ended _ _ _ _ c.before.loop.invariant.1 c.loop-test.false))
+    (λ c. walk-ended _ _ _ _ c.loop-p.invariant.1 c.loop-p-test.false))

@@ -5,37 +5,37 @@ use Rattle.vrf_table.proofs.Laws.Answers.{later_first, later-next}
 use Rattle.vrf_table.proofs.first_claim.Statement.{statement}
 use Rattle.vrf_table.proofs.first_claim.Tie as tie
 
-abbrev start : tie.After-claim-from → tie.Start
+abbrev start : tie.After-claim_from-first → tie.Start
 start c =
     let back = c.before.before.before.before in
     back.before.before.before.before
 
-claim-from-requires : tie.Need-claim-from-requires
+claim-from-requires : tie.Need-claim_from-first-requires
 claim-from-requires c κs =
     let back = c.before.before.before.before in
-    let p = back.before.before.before.requires in
+    let p = back.requires in
     (p.0, p.3, p.4, p.5, p.6)
 
-returns : tie.Need-returns
+returns : tie.Need-returns-then-first-ne-ABSENT
 unfolding first_at
-returns c = later_first c.before.claim-from.result _ c.before.claim-from.ensures c.if1.true
+returns c = later_first c.claim_from-first.result _ c.claim_from-first.ensures c.if-first-ne-ABSENT.true
 
-returns-2 : tie.Need-returns-2
+returns-2 : tie.Need-returns-then-second-ne-ABSENT
 unfolding first_at
 returns-2 c =
-    let second = c.before.claim-from2 in
+    let second = c.claim_from-second in
     let passed = c.before.before in
-    later_first second.result _ second.ensures c.if2.true ∙ sym (later-next passed.before.claim-from.result _ passed.before.claim-from.ensures passed.if1.false)
+    later_first second.result _ second.ensures c.if-second-ne-ABSENT.true ∙ sym (later-next passed.claim_from-first.result _ passed.claim_from-first.ensures passed.if-first-ne-ABSENT.false)
 
-returns-3 : tie.Need-returns-3
+returns-3 : tie.Need-returns
 unfolding first_at
 returns-3 c =
-    let second = c.before.before.claim-from2 in
+    let second = c.claim_from-second in
     let passed = c.before.before.before in
-    c.claim-from3.ensures ∙ sym (later-next second.result _ second.ensures c.before.if2.false) ∙ sym (later-next passed.before.claim-from.result _ passed.before.claim-from.ensures passed.if1.false)
+    c.claim_from.ensures ∙ sym (later-next second.result _ second.ensures c.if-second-ne-ABSENT.false) ∙ sym (later-next passed.claim_from-first.result _ passed.claim_from-first.ensures passed.if-first-ne-ABSENT.false)
 
-pub first-claim-spec : {M : Type 1} → statement M
-first-claim-spec =
+pub first_claim_spec : {M : Type 1} → statement M
+first_claim_spec =
     tie.close
     (tie.spec
     claim-from-requires returns (λ c κs. let p = (start c.before).requires in (p.1, p.3, p.4, p.5, p.6)) returns-2

@@ -8,8 +8,8 @@ returns : tie.Need-returns
 unfolding four
 returns c = (omega arith, omega arith)
 
-pub four-or-zeros-spec : {M : Type 1} → statement M
-four-or-zeros-spec =
+pub four_or_zeros_spec : {M : Type 1} → statement M
+four_or_zeros_spec =
     tie.close
     (tie.spec
     (λ c κs. search rules) (λ c. search rules) (λ c κs. search rules) (λ c. search rules) (λ c. search rules)

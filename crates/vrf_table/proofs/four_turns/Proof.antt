@@ -8,8 +8,8 @@ returns : tie.Need-returns
 unfolding four_turns
 returns c = cc
 
-pub four-turns-spec : {M : Type 1} → statement M
-four-turns-spec =
+pub four_turns_spec : {M : Type 1} → statement M
+four_turns_spec =
     tie.close
     (tie.spec
     (λ c κs. search rules) (λ c κs. search rules) (λ c. search rules) (λ c κs. search rules) (λ c κs. search rules)

@@ -5,27 +5,27 @@ use Rattle.vrf_table.proofs.Laws.Table.{bucket-lt}
 use Rattle.vrf_table.proofs.key_bucket.Statement.{statement}
 use Rattle.vrf_table.proofs.key_bucket.Tie as tie
 
-returns : tie.Need-returns
+returns : tie.Need-returns-then-b-lt4096
 unfolding key_bucket
 returns c =
-    let x = c.before.before.before.args in
-    let few : ltb x.b 4096 ≡ true = lt-ltb _ _ c.before.before.if1.true in
-    rw (few, ← c.before.key-hash.ensures.0) c.bucket-of.ensures
+    let x = c.args in
+    let few : ltb x.b 4096 ≡ true = lt-ltb _ _ c.if-b-lt4096.true in
+    rw (few, ← c.key_hash.ensures.0) c.bucket_of.ensures
 
-add-result : tie.Need-overflow-add-result
+add-result : tie.Need-overflow_add-result
 add-result c =
     let after-key-hash2 = c.before in
-    omega (arith, c.bucket-of2.ensures, bucket-lt (after-key-hash2.before.before.args.b - 63) after-key-hash2.key-hash2.result (omega arith) after-key-hash2.key-hash2.ensures.1)
+    omega (arith, c.bucket_of-2.ensures, bucket-lt (after-key-hash2.args.b - 63) after-key-hash2.key_hash-2.result (omega arith) after-key-hash2.key_hash-2.ensures.1)
 
-returns-2 : tie.Need-returns-2
+returns-2 : tie.Need-returns
 unfolding key_bucket
 returns-2 c =
-    let x = c.before.before.before.args in
-    let many : ltb x.b 4096 ≡ false = le-ltb _ _ c.before.before.if1.false in
-    rw (many, ← c.before.key-hash2.ensures.0, ← c.bucket-of2.ensures)
+    let x = c.args in
+    let many : ltb x.b 4096 ≡ false = le-ltb _ _ c.if-b-lt4096.false in
+    rw (many, ← c.key_hash-2.ensures.0, ← c.bucket_of-2.ensures)
 
-pub key-bucket-spec : {M : Type 1} → statement M
-key-bucket-spec =
+pub key_bucket_spec : {M : Type 1} → statement M
+key_bucket_spec =
     tie.close
     (tie.spec
     (λ c κs. search rules) (λ c κs. search rules) returns (λ c κs. search rules) (λ c. search rules)

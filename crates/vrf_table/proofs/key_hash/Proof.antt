@@ -5,7 +5,7 @@ use Rattle.vrf_table.proofs.Hashes.{mixed-fits}
 use Rattle.vrf_table.proofs.key_hash.Statement.{statement}
 use Rattle.vrf_table.proofs.key_hash.Tie as tie
 
-add-result : tie.Need-overflow-add-result
+add-result : tie.Need-overflow_add-result
 add-result c = record { fits = mixed-fits (c.args.k % 2 ^ 32) (c.args.k / 2 ^ 32) (omega arith) (omega arith) }
 
 returns : tie.Need-returns
@@ -14,5 +14,5 @@ returns c =
     let all : c.args.k / 2 ^ 32 % 2 ^ 32 ≡ c.args.k / 2 ^ 32 = omega arith in
     (rw all, omega arith)
 
-pub key-hash-spec : {M : Type 1} → statement M
-key-hash-spec = tie.close (tie.spec (λ c. search rules) (λ c. search rules) add-result returns)
+pub key_hash_spec : {M : Type 1} → statement M
+key_hash_spec = tie.close (tie.spec (λ c. search rules) (λ c. search rules) add-result returns)

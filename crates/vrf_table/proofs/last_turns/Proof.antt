@@ -8,8 +8,8 @@ returns : tie.Need-returns
 unfolding last_turns four_turns
 returns c = cc
 
-pub last-turns-spec : {M : Type 1} → statement M
-last-turns-spec =
+pub last_turns_spec : {M : Type 1} → statement M
+last_turns_spec =
     tie.close
     (tie.spec
     (λ c κs. search rules) (λ c κs. search rules) (λ c κs. search rules) (λ c κs. search rules) (λ c κs. search rules)

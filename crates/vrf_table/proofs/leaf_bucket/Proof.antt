@@ -5,16 +5,16 @@ use Rattle.vrf_table.specs.Inner.TextIndex.{leaf_bucket}
 use Rattle.vrf_table.proofs.leaf_bucket.Statement.{statement}
 use Rattle.vrf_table.proofs.leaf_bucket.Tie as tie
 
-slice-aggregate-text-bucket : tie.Need-slice-aggregate-text-bucket
-slice-aggregate-text-bucket c = rw length-take (omega (arith, c.before.leaf-base.ensures.1))
+slice-aggregate-text-bucket : tie.Need-slice_bounds-text_bucket-end
+slice-aggregate-text-bucket c = rw length-take (omega (arith, c.leaf_base-n.ensures.1))
 
 returns : tie.Need-returns
 unfolding leaf_bucket
 returns c =
     let after-leaf-base = c.before.before in
-    c.text-bucket.ensures ∙ ap (text_bucket after-leaf-base.before.before.args.b) after-leaf-base.leaf-base.ensures.0
+    c.text_bucket.ensures ∙ ap (text_bucket after-leaf-base.args.b) after-leaf-base.leaf_base-n.ensures.0
 
-pub leaf-bucket-spec : {M : Type 1} → statement M
-leaf-bucket-spec =
+pub leaf_bucket_spec : {M : Type 1} → statement M
+leaf_bucket_spec =
     tie.close
     (tie.spec (λ c κs. search rules) slice-aggregate-text-bucket (λ c κs. rw length-take (omega arith)) returns)

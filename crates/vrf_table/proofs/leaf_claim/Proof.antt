@@ -8,14 +8,14 @@ use Rattle.vrf_table.proofs.Laws.Table.{text_bucket-lt}
 use Rattle.vrf_table.proofs.leaf_claim.Statement.{statement}
 use Rattle.vrf_table.proofs.leaf_claim.Tie as tie
 
-get32-requires : tie.Need-get32-requires
+get32-requires : tie.Need-get32-p-requires
 unfolding leaf_bucket
 get32-requires c κs =
     let back = c.before.before.before.before in
     let s = back.before.before in
-    omega (arith, c.leaf-bucket.ensures, text_bucket-lt s.args.b (leaf_base s.args.l.now) s.requires.4)
+    omega (arith, c.leaf_bucket-bucket.ensures, text_bucket-lt s.args.b (leaf_base s.args.l.now) s.requires.4)
 
-claim-from-requires : tie.Need-claim-from-requires
+claim-from-requires : tie.Need-claim_from-requires
 claim-from-requires c κs =
     let back = c.before.before.before.before in
     let s = back.before.before.before.before in
@@ -27,15 +27,16 @@ returns c =
     let after-get32 = c.before.before in
     let after-leaf-bucket = after-get32.before in
     let back = after-leaf-bucket.before.before.before.before in
-    let x = back.before.before.args in
-    let start = after-get32.get32.ensures ∙ ap (word x.heads.now) after-leaf-bucket.leaf-bucket.ensures in
-    let found = rw (append-nil x.l.now) at c.claim-from.ensures in
-    (after-leaf-bucket.leaf-bucket.ensures, found ∙ ap (λ (p : ℕ). claim_at x.rows.now x.x.now x.links.now x.n p x.l.now) start)
+    let x = back.args in
+    let start = after-get32.get32-p.ensures ∙ ap (word x.heads.now) after-leaf-bucket.leaf_bucket-bucket.ensures in
+    let found = rw (append-nil x.l.now) at c.claim_from.ensures in
+    (after-leaf-bucket.leaf_bucket-bucket.ensures, found ∙ ap (λ (p : ℕ). claim_at x.rows.now x.x.now x.links.now x.n p x.l.now) start)
 
-leaf-bucket-requires : tie.Need-leaf-bucket-requires
+leaf-bucket-requires : tie.Need-leaf_bucket-bucket-requires
 leaf-bucket-requires c κs = omega arith
 
-pub leaf-claim-spec : {M : Type 1} → statement M
-leaf-claim-spec =
+pub leaf_claim_spec : {M : Type 1} → statement M
+leaf_claim_spec =
     tie.close
-    (tie.spec leaf-bucket-requires (λ c. search rules) get32-requires (λ c. search rules) claim-from-requires returns)
+    (tie.spec
+    leaf-bucket-requires (λ c. search rules) get32-requires claim-from-requires returns)

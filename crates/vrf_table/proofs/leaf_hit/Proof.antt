@@ -8,5 +8,5 @@ returns : tie.Need-returns
 unfolding leaf_hit
 returns c = cc
 
-pub leaf-hit-spec : {M : Type 1} → statement M
-leaf-hit-spec = tie.close (tie.spec (λ c κs. search rules) (λ c κs. search rules) returns)
+pub leaf_hit_spec : {M : Type 1} → statement M
+leaf_hit_spec = tie.close (tie.spec (λ c κs. search rules) (λ c κs. search rules) returns)

@@ -4,36 +4,36 @@ use Rattle.vrf_table.proofs.Texts.{leaf-not, leaf-end}
 use Rattle.vrf_table.proofs.leaf_is.Statement.{statement}
 use Rattle.vrf_table.proofs.leaf_is.Tie as tie
 
-returns : tie.Need-returns
+returns : tie.Need-returns-then-n-eq0
 returns c =
-    let x = c.before.before.before.before.args in
+    let x = c.args in
     let size = length-append x.name.now x.suffix.now in
-    sym (leaf-not x.path.now (x.name.now ++ x.suffix.now) (λ is. omega (arith, is.some_bytes, size, c.if1.true)))
+    sym (leaf-not x.path.now (x.name.now ++ x.suffix.now) (λ is. omega (arith, is.some_bytes, size, c.if-n-eq0.true)))
 
-returns-2 : tie.Need-returns-2
+returns-2 : tie.Need-returns-then-path-n
 returns-2 c =
     let back = c.before.before.before.before in
-    let x = back.before.args in
+    let x = back.args in
     let size = length-append x.name.now x.suffix.now in
-    sym (leaf-not x.path.now (x.name.now ++ x.suffix.now) (λ is. omega (arith, is.shorter, size, c.if2.true)))
+    sym (leaf-not x.path.now (x.name.now ++ x.suffix.now) (λ is. omega (arith, is.shorter, size, c.if-path-n.true)))
 
-returns-3 : tie.Need-returns-3
+returns-3 : tie.Need-returns-then-path-from-ne46
 returns-3 c =
     let back = c.before.before.before.before in
-    let x = back.before.before.before.args in
+    let x = back.args in
     let size = length-append x.name.now x.suffix.now in
-    sym (leaf-not x.path.now (x.name.now ++ x.suffix.now) (λ is. c.if3.true (rw size at is.dot)))
+    sym (leaf-not x.path.now (x.name.now ++ x.suffix.now) (λ is. c.if-path-from-ne46.true (rw size at is.dot)))
 
-returns-4 : tie.Need-returns-4
+returns-4 : tie.Need-returns
 returns-4 c =
     let at-if3 = c.before in
     let back = at-if3.before.before.before.before in
     let s = back.before.before.before in
     let l = s.args.name.now ++ s.args.suffix.now in
     let size = length-append s.args.name.now s.args.suffix.now in
-    leaf-end s.args.path.now l s.requires.0 (omega (arith, size)) (omega (arith, size)) (rw (← size) at at-if3.if3.false) (rw (← size) at c.ends-with-name.ensures)
+    leaf-end s.args.path.now l s.requires.0 (omega (arith, size)) (omega (arith, size)) (rw (← size) at at-if3.if-path-from-ne46.false) (rw (← size) at c.ends_with_name.ensures)
 
-pub leaf-is-spec : {M : Type 1} → statement M
-leaf-is-spec =
+pub leaf_is_spec : {M : Type 1} → statement M
+leaf_is_spec =
     tie.close
     (tie.spec (λ c. search rules) returns returns-2 (λ c. search rules) (λ c. search rules) (λ c. search rules) returns-3 (λ c κs. omega arith) returns-4)

@@ -8,5 +8,5 @@ returns : tie.Need-returns
 unfolding mixed
 returns c = (refl, omega arith)
 
-pub mix-spec : {M : Type 1} → statement M
-mix-spec = tie.close (tie.spec (λ c. search rules) returns)
+pub mix_spec : {M : Type 1} → statement M
+mix_spec = tie.close (tie.spec (λ c. search rules) returns)

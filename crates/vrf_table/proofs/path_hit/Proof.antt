@@ -8,5 +8,5 @@ returns : tie.Need-returns
 unfolding path_hit
 returns c = cc
 
-pub path-hit-spec : {M : Type 1} → statement M
-path-hit-spec = tie.close (tie.spec (λ c κs. search rules) (λ c κs. search rules) returns)
+pub path_hit_spec : {M : Type 1} → statement M
+path_hit_spec = tie.close (tie.spec (λ c κs. search rules) (λ c κs. search rules) returns)

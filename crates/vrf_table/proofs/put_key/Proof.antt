@@ -8,6 +8,6 @@ returns : tie.Need-returns
 unfolding set_key
 returns c = cc
 
-pub put-key-spec : {M : Type 1} → statement M
-put-key-spec =
+pub put_key_spec : {M : Type 1} → statement M
+put_key_spec =
     tie.close (tie.spec (λ c. search rules) (λ c κs. search rules) (λ c. search rules) (λ c κs. search rules) (λ c. search rules) returns)

@@ -8,5 +8,5 @@ returns : tie.Need-returns
 unfolding text_bucket
 returns c = cc
 
-pub text-bucket-spec : {M : Type 1} → statement M
-text-bucket-spec = tie.close (tie.spec (λ c κs. search rules) (λ c κs. search rules) (λ c κs. search rules) returns)
+pub text_bucket_spec : {M : Type 1} → statement M
+text_bucket_spec = tie.close (tie.spec (λ c κs. search rules) (λ c κs. search rules) (λ c κs. search rules) returns)

@@ -10,7 +10,7 @@ returns c =
     let after-put-paths = c.before.before in
     let after-put-held = after-put-paths.before.before.before.before in
     let start = after-put-held.before.before.before in
-    counts-put (counts_of start.args.t) after-put-held.put-held.ensures.1 after-put-paths.put-paths.ensures
+    counts-put (counts_of start.args.t) after-put-held.put_held-held.ensures.1 after-put-paths.put_paths.ensures
 
-pub put-counts-spec : {M : Type 1} → statement M
-put-counts-spec = tie.close (tie.spec (λ c κs. search rules) (λ c κs. search rules) (λ c. search rules) returns)
+pub put_counts_spec : {M : Type 1} → statement M
+put_counts_spec = tie.close (tie.spec (λ c κs. search rules) (λ c κs. search rules) (λ c. search rules) returns)

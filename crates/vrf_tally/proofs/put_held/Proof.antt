@@ -19,13 +19,11 @@ returns c =
     let after-put-line = back3.before.before in
     let back4 = after-put-line.before.before.before.before in
     let start = back4.before in
-    let last = after-put-line4.put-line4.ensures in
-    (omega (arith, last, after-put-line.put-line.ensures, after-put-line2.put-line2.ensures, after-put-line3.put-line3.ensures), held-put (counts_of start.args.t) after-put-line.put-line.ensures.1 after-put-line2.put-line2.ensures.1 after-put-line3.put-line3.ensures.1 last.1)
+    let last = after-put-line4.put_line.ensures in
+    (omega (arith, last, after-put-line.put_line-guids.ensures, after-put-line2.put_line-groups.ensures, after-put-line3.put_line-fields.ensures), held-put (counts_of start.args.t) after-put-line.put_line-guids.ensures.1 after-put-line2.put_line-groups.ensures.1 after-put-line3.put_line-fields.ensures.1 last.1)
 
-pub put-held-spec : {M : Type 1} → statement M
-put-held-spec =
+pub put_held_spec : {M : Type 1} → statement M
+put_held_spec =
     tie.close
     (tie.spec
-    (λ c. search rules) (λ c. search rules) (λ c κs. search rules) (λ c. search rules) (λ c. search rules)
-    (λ c κs. search rules) (λ c. search rules) (λ c κs. search rules) (λ c. search rules) (λ c. search rules)
-    (λ c κs. search rules) (λ c. search rules) returns)
+    (λ c. search rules) (λ c κs. search rules) (λ c. search rules) (λ c κs. search rules) (λ c κs. search rules) (λ c. search rules) (λ c κs. search rules) (λ c. search rules) returns)

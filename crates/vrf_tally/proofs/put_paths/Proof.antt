@@ -16,11 +16,10 @@ returns c =
     let after-put-line = back2.before.before in
     let back3 = after-put-line.before.before.before.before in
     let start = back3.before in
-    paths-put (counts_of start.args.t) after-put-line.put-line.ensures.1 after-put-line2.put-line2.ensures.1 after-put-line3.put-line3.ensures.1
+    paths-put (counts_of start.args.t) after-put-line.put_line-indexed.ensures.1 after-put-line2.put_line-literals.ensures.1 after-put-line3.put_line.ensures.1
 
-pub put-paths-spec : {M : Type 1} → statement M
-put-paths-spec =
+pub put_paths_spec : {M : Type 1} → statement M
+put_paths_spec =
     tie.close
     (tie.spec
-    (λ c. search rules) (λ c. search rules) (λ c κs. search rules) (λ c. search rules) (λ c. search rules)
-    (λ c κs. search rules) (λ c. search rules) (λ c. search rules) (λ c κs. search rules) (λ c. search rules) returns)
+    (λ c. search rules) (λ c κs. search rules) (λ c. search rules) (λ c κs. search rules) (λ c. search rules) (λ c κs. search rules) (λ c. search rules) returns)

@@ -16,11 +16,10 @@ returns c =
     let back3 = after-put-line.before.before.before.before in
     let start = back3.before in
     let r = start.args.r in
-    refusal-put r.number r.a r.b after-put-line.put-line.ensures.1 after-put-line2.put-line2.ensures.1 after-put-line3.put-line3.ensures.1
+    refusal-put r.number r.a r.b after-put-line.put_line-number.ensures.1 after-put-line2.put_line-a.ensures.1 after-put-line3.put_line.ensures.1
 
-pub put-refusal-spec : {M : Type 1} → statement M
-put-refusal-spec =
+pub put_refusal_spec : {M : Type 1} → statement M
+put_refusal_spec =
     tie.close
     (tie.spec
-    (λ c. search rules) (λ c. search rules) (λ c κs. search rules) (λ c. search rules) (λ c κs. search rules)
-    (λ c. search rules) (λ c κs. search rules) (λ c. search rules) returns)
+    (λ c. search rules) (λ c κs. search rules) (λ c κs. search rules) (λ c κs. search rules) (λ c. search rules) returns)

@@ -9,29 +9,29 @@ use Rattle.vrf_tally.proofs.Laws.Reading.{never-refused, answered-by}
 use Rattle.vrf_tally.proofs.read_into.Statement.{statement}
 use Rattle.vrf_tally.proofs.read_into.Tie as tie
 
-returns : tie.Need-returns
+returns : tie.Need-returns-in-Refused
 unfolding allowances
 returns c =
-    let at-r = c.before in
-    let after_open = at-r.before.before.before.before in
+    let at-r = c in
+    let after_open = at-r.before.before.before in
     let start = after_open.before.before.before.before in
     let lent = start.args.book.now in
-    let started = subst (λ (a : Acted). OpenContract allowances lent after_open.«open».new.0 a) at-r.r.given.1 after_open.«open».ensures in
-    absurd (never-refused start.requires.0 at-r.r.given.0.0 started)
+    let started = subst (λ (a : Acted). OpenContract allowances lent after_open.«open».new.0 a) at-r.in-Refused.is after_open.«open».ensures in
+    absurd (never-refused start.requires.0 at-r.in-Refused.r started)
 
-returns-2 : tie.Need-returns-2
+returns-2 : tie.Need-returns-in-Done
 unfolding allowances whole
 returns-2 c =
     let after-read-checkpoint-tables = c.before.before in
     let at-enum-told = after-read-checkpoint-tables.before.before in
-    let after_open = at-enum-told.before.before.before.before in
+    let after_open = at-enum-told.before.before.before in
     let start = after_open.before.before.before.before in
     let lent = start.args.book.now in
-    let started = subst (λ (a : Acted). OpenContract allowances lent after_open.«open».new.0 a) at-enum-told.enum_told.given.1 after_open.«open».ensures in
+    let started = subst (λ (a : Acted). OpenContract allowances lent after_open.«open».new.0 a) at-enum-told.in-Done.is after_open.«open».ensures in
     answered-by started start.args.input.now after-read-checkpoint-tables.read_checkpoint_tables.ensures
 
-pub read-into-spec : {M : Type 1} → statement M
-read-into-spec =
+pub read_into_spec : {M : Type 1} → statement M
+read_into_spec =
     tie.close
     (tie.spec
     (λ c κs. search rules) (λ c. search rules) (λ c. search rules) (λ c. search rules) (λ c κs. search rules)

@@ -7,22 +7,22 @@ use Rattle.vrf_tally.specs.Tally.{tally}
 use Rattle.vrf_tally.proofs.tally.Statement.{statement}
 use Rattle.vrf_tally.proofs.tally.Tie as tie
 
-returns : tie.Need-returns
+returns : tie.Need-returns-then-input-gt65536
 unfolding tally
 returns c =
     let at-if1 = c.before.before in
     let start = at-if1.before.before in
-    (omega (arith, c.put-refusal.ensures.fits), rw (lt-ltb 65536 (length start.args.input.now) at-if1.if1.true) c.put-refusal.ensures)
+    (omega (arith, c.put_refusal.ensures.fits), rw (lt-ltb 65536 (length start.args.input.now) at-if1.if-input-gt65536.true) c.put_refusal.ensures)
 
-returns-2 : tie.Need-returns-2
+returns-2 : tie.Need-returns
 unfolding tally
 returns-2 c =
     let after_read = c.before in
     let at-if1 = after_read.before.before in
     let start = at-if1.before.before in
-    (omega (arith, c.put-answer.ensures.fits), rw (le-ltb 65536 (length start.args.input.now) at-if1.if1.false, ← after_read.read.ensures) c.put-answer.ensures)
+    (omega (arith, c.put_answer.ensures.fits), rw (le-ltb 65536 (length start.args.input.now) at-if1.if-input-gt65536.false, ← after_read.read.ensures) c.put_answer.ensures)
 
-pub tally-spec : {M : Type 1} → statement M
-tally-spec =
+pub tally_spec : {M : Type 1} → statement M
+tally_spec =
     tie.close
     (tie.spec (λ c κs. search rules) returns (λ c κs. search rules) (λ c κs. search rules) returns-2)

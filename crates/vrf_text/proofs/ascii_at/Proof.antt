@@ -6,11 +6,11 @@ use Rattle.vrf_text.proofs.Ascii.{clear_at}
 use Rattle.vrf_text.proofs.ascii_at.Statement.{statement}
 use Rattle.vrf_text.proofs.ascii_at.Tie as tie
 
-returns-3 : tie.Need-returns-3
-returns-3 c = clear_at _ _ _ c.clear-run.result (omega (arith, simp length-take at c.clear-run.ensures.0)) c.clear-run.ensures.1
+returns-3 : tie.Need-returns
+returns-3 c = clear_at _ _ _ c.clear_run.result (omega (arith, simp length-take at c.clear_run.ensures.0)) c.clear_run.ensures.1
 
-pub ascii-at-spec : {M : Type 1} → statement M
-ascii-at-spec =
+pub ascii_at_spec : {M : Type 1} → statement M
+ascii_at_spec =
     tie.close
     (tie.spec
     (λ c. search rules) (λ c. search rules) (λ c. search rules) (λ c. search rules) (λ c. search rules)

@@ -7,17 +7,17 @@ use Rattle.vrf_text.proofs.Ascii.{four}
 use Rattle.vrf_text.proofs.clear_32.Statement.{statement}
 use Rattle.vrf_text.proofs.clear_32.Tie as tie
 
-returns-2 : tie.Need-returns-2
+returns-2 : tie.Need-returns
 returns-2 c =
     let after-bits-at2 = c.before.before in
     let at-if1 = after-bits-at2.before.before in
-    λ e. (at-if1.if1.false, four _ (λ k. omega (arith, at-if1.before.shared-slice-known.given k)) _ (omega arith) after-bits-at2.before.bits_at.ensures after-bits-at2.bits-at2.ensures c.before.bits-at3.ensures c.bits-at4.ensures (eqb-true _ _ e))
+    λ e. (at-if1.if-s-lt32.false, four _ (λ k. omega (arith, at-if1.shared_slice_known-1.given k)) _ (omega arith) after-bits-at2.bits_at.ensures after-bits-at2.bits_at-2.ensures c.bits_at-3.ensures c.bits_at-4.ensures (eqb-true _ _ e))
 
-returns : tie.Need-returns
+returns : tie.Need-returns-then-s-lt32
 returns c = λ e. absurd (false≢true e)
 
-pub clear-32-spec : {M : Type 1} → statement M
-clear-32-spec =
+pub clear_32_spec : {M : Type 1} → statement M
+clear_32_spec =
     tie.close
     (tie.spec
     returns (λ c. search rules) (λ c κs. search rules) (λ c κs. search rules) (λ c κs. search rules)

@@ -8,28 +8,28 @@ use Rattle.vrf_text.proofs.Walks.{block}
 use Rattle.vrf_text.proofs.clear_run.Statement.{statement}
 use Rattle.vrf_text.proofs.clear_run.Tie as tie
 
-abbrev invariant-loop : tie.invariant-loop
+abbrev invariant-loop : tie.invariant-loop-i
 invariant-loop s b i₀ i = (i ≤ length s) × Clear s b i
 
-abbrev decreases-loop : tie.decreases-loop
+abbrev decreases-loop : tie.decreases-loop-i
 decreases-loop s b i₀ i = length s - i
 
-loop-holds : tie.Need-loop-init invariant-loop decreases-loop
+loop-holds : tie.Need-loop-i-init invariant-loop decreases-loop
 loop-holds c = (omega arith, λ j h. absurd (omega arith))
 
-returns : tie.Need-returns invariant-loop decreases-loop
-returns c = c.before.before.before.before.loop.invariant
+returns : tie.Need-returns-then-not-clear_32 invariant-loop decreases-loop
+returns c = c.loop-i.invariant
 
-loop-again : tie.Need-loop-preserved invariant-loop decreases-loop
+loop-again : tie.Need-loop-i-preserved invariant-loop decreases-loop
 loop-again c =
     let at-loop = c.before.before.before.before in
-    block at-loop.before.before.args.s.now _ at-loop.loop.i at-loop.loop.invariant.1 (c.before.clear-32.ensures (not-false _ c.if1.false))
+    block at-loop.args.s.now _ at-loop.loop-i.i at-loop.loop-i.invariant.1 (c.clear_32.ensures (not-false _ c.if-not-clear_32.false))
 
-returns-2 : tie.Need-returns-2 invariant-loop decreases-loop
-returns-2 c = c.before.loop.invariant
+returns-2 : tie.Need-returns invariant-loop decreases-loop
+returns-2 c = c.loop-i.invariant
 
-pub clear-run-spec : {M : Type 1} → statement M
-clear-run-spec =
+pub clear_run_spec : {M : Type 1} → statement M
+clear_run_spec =
     tie.close
     (tie.spec
     invariant-loop decreases-loop loop-holds (λ c. omega arith) (λ c. omega arith) (λ c. omega arith) (λ c κs. omega arith) returns

@@ -7,50 +7,50 @@ use Rattle.vrf_text.proofs.Runs.{units-length}
 use Rattle.vrf_text.proofs.put_units.Statement.{statement}
 use Rattle.vrf_text.proofs.put_units.Tie as tie
 
-abbrev invariant-loop : tie.invariant-loop
+abbrev invariant-loop : tie.invariant-loop-i
 invariant-loop s p n out₀ i₀ at₀ out i at = DecodeLoop (units_of s p n) out₀ out i at × (i ≤ n + 1)
 
-abbrev decreases-loop : tie.decreases-loop
+abbrev decreases-loop : tie.decreases-loop-i
 decreases-loop s p n out₀ i₀ at₀ out i at = n - i
 
-put-char-requires : tie.Need-put-char-requires invariant-loop decreases-loop
+put-char-requires : tie.Need-put_char-at-requires invariant-loop decreases-loop
 put-char-requires c κs =
     let after-char16 = c.before in
     let at-loop = after-char16.before.before.before in (
-      after-char16.char16.ensures.scalar,
-      fits (units_of _ _ _) _ at-loop.loop.out at-loop.loop.i at-loop.loop.at at-loop.loop.invariant.0 at-loop.before.before.before.requires.2 after-char16.char16.result.code after-char16.char16.result.units
-          (taken_at _ _ _ at-loop.loop.i after-char16.char16.ensures after-char16.before.units-at.ensures),
+      after-char16.char16-c.ensures.scalar,
+      fits (units_of _ _ _) _ at-loop.loop-i.out at-loop.loop-i.i at-loop.loop-i.at at-loop.loop-i.invariant.0 at-loop.requires.2 after-char16.char16-c.result.code after-char16.char16-c.result.units
+          (taken_at _ _ _ at-loop.loop-i.i after-char16.char16-c.ensures after-char16.units_at.ensures),
     )
 
-loop-less : tie.Need-loop-smaller invariant-loop decreases-loop
+loop-less : tie.Need-loop-i-smaller invariant-loop decreases-loop
 loop-less c =
     let back = c.before.before.before.before in
     let after-char16 = back.before in
     let at-loop = after-char16.before.before.before in
     omega (
       arith,
-      advances (units_of _ _ _) _ at-loop.loop.out at-loop.loop.i at-loop.loop.at at-loop.loop.invariant.0 at-loop.before.before.before.requires.2 after-char16.char16.result.code after-char16.char16.result.units
-          (taken_at _ _ _ at-loop.loop.i after-char16.char16.ensures after-char16.before.units-at.ensures),
+      advances (units_of _ _ _) _ at-loop.loop-i.out at-loop.loop-i.i at-loop.loop-i.at at-loop.loop-i.invariant.0 at-loop.requires.2 after-char16.char16-c.result.code after-char16.char16-c.result.units
+          (taken_at _ _ _ at-loop.loop-i.i after-char16.char16-c.ensures after-char16.units_at.ensures),
     )
 
-loop-again : tie.Need-loop-preserved invariant-loop decreases-loop
+loop-again : tie.Need-loop-i-preserved invariant-loop decreases-loop
 loop-again c =
     let after-put-char = c.before.before.before in
     let after-char16 = after-put-char.before.before in
     let at-loop = after-char16.before.before.before in (
-      rw after-put-char.put-char.ensures.0 (write-on (units_of _ _ _) _ at-loop.loop.out at-loop.loop.i at-loop.loop.at at-loop.loop.invariant.0 at-loop.before.before.before.requires.2 after-char16.char16.result.code after-char16.char16.result.units
-          (taken_at _ _ _ at-loop.loop.i after-char16.char16.ensures after-char16.before.units-at.ensures) after-put-char.put-char.ensures.1),
-      omega (arith, after-char16.char16.ensures.few),
+      rw after-put-char.put_char-at.ensures.0 (write-on (units_of _ _ _) _ at-loop.loop-i.out at-loop.loop-i.i at-loop.loop-i.at at-loop.loop-i.invariant.0 at-loop.requires.2 after-char16.char16-c.result.code after-char16.char16-c.result.units
+          (taken_at _ _ _ at-loop.loop-i.i after-char16.char16-c.ensures after-char16.units_at.ensures) after-put-char.put_char-at.ensures.1),
+      omega (arith, after-char16.char16-c.ensures.few),
     )
 
 returns : tie.Need-returns invariant-loop decreases-loop
 returns c =
-    let a = c.before.before.before.before.args in
-    write-end (units_of a.s.now a.p a.n) a.out.now c.before.loop.out c.before.loop.i c.before.loop.at c.before.loop.invariant.0 (omega (arith, units-length a.s.now a.p a.n))
+    let a = c.args in
+    write-end (units_of a.s.now a.p a.n) a.out.now c.loop-i.out c.loop-i.i c.loop-i.at c.loop-i.invariant.0 (omega (arith, units-length a.s.now a.p a.n))
 
-pub put-units-spec : {M : Type 1} → statement M
-put-units-spec =
+pub put_units_spec : {M : Type 1} → statement M
+put_units_spec =
     tie.close
     (tie.spec
     invariant-loop decreases-loop (λ c. (write-start (units_of _ _ _) _, omega arith)) (λ c. omega arith) (λ c. omega arith) (λ c. omega arith) (λ c κs. omega arith)
-    (λ c κs. tt) put-char-requires (λ c. omega arith) loop-less loop-again (λ c. c.before.loop.invariant.0.long) returns)
+    (λ c κs. tt) put-char-requires (λ c. omega arith) loop-less loop-again (λ c. c.loop-i.invariant.0.long) returns)

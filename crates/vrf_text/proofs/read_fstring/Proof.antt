@@ -10,38 +10,38 @@ use Rattle.vrf_text.proofs.read_fstring.Statement.{statement}
 use Rattle.vrf_text.proofs.read_fstring.Tie as tie
 
 -- the text that was found
-found : (c : tie.After-find-text) {r : FoundText} → c.find-text.result ≡ r → let a = c.before.before.before.args in FoundAnswer a.s.now a.c (read_at a.s.now a.c fstring) r
-found c e = rw e at c.find-text.ensures
+found : (c : tie.After-find_text) {r : FoundText} → c.find_text.result ≡ r → let a = c.args in FoundAnswer a.s.now a.c (read_at a.s.now a.c fstring) r
+found c e = rw e at c.find_text.ensures
 
-take-bytes-requires : tie.Need-take-bytes-requires
+take-bytes-requires : tie.Need-take_bytes-requires
 take-bytes-requires c κs =
-    let at_at = c.before.before in
-    (found at_at.before.before at_at.at.given.1).1
+    let at_at = c.before in
+    (found at_at.before at_at.in-Bytes.is).1
 
-take-units-requires : tie.Need-take-units-requires
+take-units-requires : tie.Need-take_units-requires
 take-units-requires c κs =
-    let at-at2 = c.before.before in
-    let f = found at-at2.before.before at-at2.at2.given.1 in
+    let at-at2 = c.before in
+    let f = found at-at2.before at-at2.in-Units.is in
     (f.1.1.1.1, (f.0, (f.1.1.0, f.1.1.1.0)))
 
-returns : tie.Need-returns
-returns c = (text-refused _ _ _ _ (found c.before.before.before c.before.r.given.1), refl)
+returns : tie.Need-returns-in-Refused
+returns c = (text-refused _ _ _ _ (found c.before c.in-Refused.is), refl)
 
-returns-2 : tie.Need-returns-2
+returns-2 : tie.Need-returns-in-Bytes
 returns-2 c =
     let after-take-bytes = c.before.before in
-    let at_at = after-take-bytes.before.before.before in
-    text-then _ _ _ (found at_at.before.before at_at.at.given.1).0 _ _ after-take-bytes.take-bytes.result after-take-bytes.take-bytes.ensures
+    let at_at = after-take-bytes.before.before in
+    text-then _ _ _ (found at_at.before at_at.in-Bytes.is).0 _ _ after-take-bytes.take_bytes.result after-take-bytes.take_bytes.ensures
 
-returns-3 : tie.Need-returns-3
+returns-3 : tie.Need-returns-in-Units
 returns-3 c =
     let after-take-units = c.before.before in
-    let at-at2 = after-take-units.before.before.before in
-    let f = found at-at2.before.before at-at2.at2.given.1 in
-    text-then _ _ _ f.1.0 _ _ after-take-units.take-units.result (after-take-units.take-units.ensures f.0 f.1.1.0)
+    let at-at2 = after-take-units.before.before in
+    let f = found at-at2.before at-at2.in-Units.is in
+    text-then _ _ _ f.1.0 _ _ after-take-units.take_units.result (after-take-units.take_units.ensures f.0 f.1.1.0)
 
-pub read-fstring-spec : {M : Type 1} → statement M
-read-fstring-spec =
+pub read_fstring_spec : {M : Type 1} → statement M
+read_fstring_spec =
     tie.close
     (tie.spec
     (λ c κs. search rules) (λ c. search rules) (λ c. search rules) take-bytes-requires (λ c. search rules)

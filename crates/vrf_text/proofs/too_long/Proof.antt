@@ -4,11 +4,11 @@ use borrow.Author.Tests.{lt-ltb, le-ltb}
 use Rattle.vrf_text.proofs.too_long.Statement.{statement}
 use Rattle.vrf_text.proofs.too_long.Tie as tie
 
-returns : tie.Need-returns
-returns c = rw (lt-ltb 1048576 _ c.if1.true)
+returns : tie.Need-returns-then-n-gt-WIRE_BYTES
+returns c = rw (lt-ltb 1048576 _ c.if-n-gt-WIRE_BYTES.true)
 
-returns-2 : tie.Need-returns-2
-returns-2 c = rw (le-ltb 1048576 _ c.before.before.before.if1.false, c.left-from.ensures)
+returns-2 : tie.Need-returns
+returns-2 c = rw (le-ltb 1048576 _ c.if-n-gt-WIRE_BYTES.false, c.left_from.ensures)
 
-pub too-long-spec : {M : Type 1} → statement M
-too-long-spec = tie.close (tie.spec returns (λ c. search rules) (λ c. search rules) (λ c κs. search rules) returns-2)
+pub too_long_spec : {M : Type 1} → statement M
+too_long_spec = tie.close (tie.spec returns (λ c. search rules) (λ c. search rules) (λ c κs. search rules) returns-2)

@@ -5,5 +5,5 @@ use Rattle.vrf_text.proofs.Runs.{holds-last, holds-two}
 use Rattle.vrf_text.proofs.units_at.Statement.{statement}
 use Rattle.vrf_text.proofs.units_at.Tie as tie
 
-pub units-at-spec : {M : Type 1} → statement M
-units-at-spec = tie.close (tie.spec (λ c κs. search rules) (λ c κs. search rules) (λ c. holds-last _ _ _ c.before.if1.true c.bits_at.ensures) (λ c. holds-two _ _ _ (omega arith) c.bits-at2.ensures))
+pub units_at_spec : {M : Type 1} → statement M
+units_at_spec = tie.close (tie.spec (λ c κs. search rules) (λ c κs. search rules) (λ c. holds-last _ _ _ c.if-n-eq1.true c.bits_at.ensures) (λ c. holds-two _ _ _ (omega arith) c.bits_at-else-n-eq1.ensures))

@@ -8,38 +8,38 @@ use Rattle.vrf_text.proofs.Runs.{units-length}
 use Rattle.vrf_text.proofs.utf16_length.Statement.{statement}
 use Rattle.vrf_text.proofs.utf16_length.Tie as tie
 
-abbrev invariant-loop : tie.invariant-loop
+abbrev invariant-loop : tie.invariant-loop-i
 invariant-loop s p n i₀ len₀ i len = Decoding (units_of s p n) i len × (i ≤ n + 1) × (len ≤ 4 * i)
 
-abbrev decreases-loop : tie.decreases-loop
+abbrev decreases-loop : tie.decreases-loop-i
 decreases-loop s p n i₀ len₀ i len = n - i
 
-returns : tie.Need-returns invariant-loop decreases-loop
+returns : tie.Need-returns-then-k-eq0 invariant-loop decreases-loop
 returns c =
-    let l = c.before.before.before.before.loop in
-    bad (units_of _ _ _) l.i l.len l.invariant.0 c.before.char16.result.code c.before.char16.result.units c.if1.true
-    (taken_at _ _ _ l.i c.before.char16.ensures c.before.before.units-at.ensures)
+    let l = c.loop-i in
+    bad (units_of _ _ _) l.i l.len l.invariant.0 c.char16-c.result.code c.char16-c.result.units c.if-k-eq0.true
+    (taken_at _ _ _ l.i c.char16-c.ensures c.units_at.ensures)
 
-loop-again : tie.Need-loop-preserved invariant-loop decreases-loop
+loop-again : tie.Need-loop-i-preserved invariant-loop decreases-loop
 loop-again c =
     let after-char16 = c.before.before in
-    let l = after-char16.before.before.before.loop in (
-      rw c.utf8-len.ensures.0 (on (units_of _ _ _) l.i l.len l.invariant.0 after-char16.char16.result.code after-char16.char16.result.units c.before.if1.false
-          (taken_at _ _ _ l.i after-char16.char16.ensures after-char16.before.units-at.ensures)),
-      omega (arith, after-char16.char16.ensures.few),
-      omega (arith, c.utf8-len.ensures.1),
+    let l = after-char16.loop-i in (
+      rw c.utf8_len-len.ensures.0 (on (units_of _ _ _) l.i l.len l.invariant.0 after-char16.char16-c.result.code after-char16.char16-c.result.units c.if-k-eq0.false
+          (taken_at _ _ _ l.i after-char16.char16-c.ensures after-char16.units_at.ensures)),
+      omega (arith, after-char16.char16-c.ensures.few),
+      omega (arith, c.utf8_len-len.ensures.1),
     )
 
-returns-2 : tie.Need-returns-2 invariant-loop decreases-loop
+returns-2 : tie.Need-returns invariant-loop decreases-loop
 returns-2 c =
     let at-loop = c.before in
-    let a = at-loop.before.before.args in
-    (at-loop.loop.invariant.0.done, (end (units_of a.s.now a.p a.n) at-loop.loop.i at-loop.loop.len at-loop.loop.invariant.0 (omega (arith, units-length a.s.now a.p a.n)), sym at-loop.loop.invariant.0.long))
+    let a = at-loop.args in
+    (at-loop.loop-i.invariant.0.done, (end (units_of a.s.now a.p a.n) at-loop.loop-i.i at-loop.loop-i.len at-loop.loop-i.invariant.0 (omega (arith, units-length a.s.now a.p a.n)), sym at-loop.loop-i.invariant.0.long))
 
-pub utf16-length-spec : {M : Type 1} → statement M
-utf16-length-spec =
+pub utf16_length_spec : {M : Type 1} → statement M
+utf16_length_spec =
     tie.close
     (tie.spec
     invariant-loop decreases-loop (λ c. (start (units_of _ _ _), omega arith, omega arith)) (λ c. omega arith) (λ c. omega arith) (λ c. omega arith) (λ c κs. omega arith)
-    (λ c κs. tt) returns (λ c κs. tt) (λ c. omega (arith, c.utf8-len.ensures.1)) (λ c. omega (arith, c.before.before.char16.ensures.few)) (λ c. omega arith) loop-again
+    (λ c κs. tt) returns (λ c κs. tt) (λ c. omega (arith, c.utf8_len-len.ensures.1)) (λ c. omega (arith, c.char16-c.ensures.few)) (λ c. omega arith) loop-again
     returns-2)

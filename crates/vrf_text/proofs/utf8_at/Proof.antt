@@ -7,13 +7,13 @@ use Rattle.vrf_text.proofs.Runs.{part}
 use Rattle.vrf_text.proofs.utf8_at.Statement.{statement}
 use Rattle.vrf_text.proofs.utf8_at.Tie as tie
 
-returns-3 : tie.Need-returns-3
+returns-3 : tie.Need-returns
 returns-3 c =
     let at-if2 = c.before.before in
-    c.is-utf8.ensures ∙ ap utf8 (part _ (λ k. omega (arith, at-if2.before.before.shared-slice-known.given k)) _ _ (omega arith) at-if2.if2.false)
+    c.is_utf8.ensures ∙ ap utf8 (part _ (λ k. omega (arith, at-if2.shared_slice_known-1.given k)) _ _ (omega arith) at-if2.if-s-e.false)
 
-pub utf8-at-spec : {M : Type 1} → statement M
-utf8-at-spec =
+pub utf8_at_spec : {M : Type 1} → statement M
+utf8_at_spec =
     tie.close
     (tie.spec
     (λ c. search rules) (λ c κs. search rules) (λ c. search rules) (λ c κs. search rules) (λ c. search rules)

@@ -5,8 +5,8 @@ use Rattle.vrf_words.proofs.Copies.{eight-part}
 use Rattle.vrf_words.proofs.eight_of.Statement.{statement}
 use Rattle.vrf_words.proofs.eight_of.Tie as tie
 
-pub eight-of-spec : {M : Type 1} → statement M
-eight-of-spec =
+pub eight_of_spec : {M : Type 1} → statement M
+eight_of_spec =
     tie.close
     (tie.spec
     (λ c. search rules) (λ c. search rules) (λ c. search rules) (λ c. search rules) (λ c. search rules)

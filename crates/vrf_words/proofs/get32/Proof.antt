@@ -9,8 +9,8 @@ returns : tie.Need-returns
 unfolding word
 returns c = omega arith
 
-pub get32-spec : {M : Type 1} → statement M
-get32-spec =
+pub get32_spec : {M : Type 1} → statement M
+get32_spec =
     tie.close
     (tie.spec
     (λ c. search rules) (λ c. search rules) (λ c κs. search rules) (λ c. search rules) (λ c. search rules)

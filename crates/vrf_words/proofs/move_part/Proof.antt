@@ -5,32 +5,32 @@ use Rattle.vrf_words.proofs.Writes.{CopyLoop, copy_start, copy_step, copy-end, u
 use Rattle.vrf_words.proofs.move_part.Statement.{statement}
 use Rattle.vrf_words.proofs.move_part.Tie as tie
 
-abbrev invariant-loop : tie.invariant-loop
+abbrev invariant-loop : tie.invariant-loop-k
 invariant-loop m₀ from to n k₀ m k = CopyLoop m₀ m m₀ to from n k
 
-abbrev decreases-loop : tie.decreases-loop
+abbrev decreases-loop : tie.decreases-loop-k
 decreases-loop m₀ from to n k₀ m k = n - k
 
-loop-holds : tie.Need-loop-init invariant-loop decreases-loop
+loop-holds : tie.Need-loop-k-init invariant-loop decreases-loop
 loop-holds c = copy_start _ _ _ _ _
 
-loop-again : tie.Need-loop-preserved invariant-loop decreases-loop
+loop-again : tie.Need-loop-k-preserved invariant-loop decreases-loop
 loop-again c =
     let at-loop = c.before.before in
-    let m = at-loop.before.args.m.now in
-    let stood = unmoved m at-loop.loop.m _ _ _ at-loop.loop.k at-loop.loop.invariant c.before.loop-test.true at-loop.before.requires.0 at-loop.before.requires.1 at-loop.before.requires.2 in
-    copy_step m at-loop.loop.m m _ _ _ at-loop.loop.k at-loop.loop.invariant _ stood c.before.loop-test.true at-loop.before.requires.0 at-loop.before.requires.1
+    let m = at-loop.args.m.now in
+    let stood = unmoved m at-loop.loop-k.m _ _ _ at-loop.loop-k.k at-loop.loop-k.invariant c.loop-k-test.true at-loop.requires.0 at-loop.requires.1 at-loop.requires.2 in
+    copy_step m at-loop.loop-k.m m _ _ _ at-loop.loop-k.k at-loop.loop-k.invariant _ stood c.loop-k-test.true at-loop.requires.0 at-loop.requires.1
 
-same_length : tie.Need-same-length invariant-loop decreases-loop
-same_length c = c.before.loop.invariant.long
+same_length : tie.Need-shape_of-m invariant-loop decreases-loop
+same_length c = c.loop-k.invariant.long
 
 returns : tie.Need-returns invariant-loop decreases-loop
 returns c =
-    let m = c.before.before.args.m.now in
-    copy-end m c.before.loop.m m _ _ _ c.before.loop.k c.before.loop.invariant c.loop-test.false
+    let m = c.args.m.now in
+    copy-end m c.loop-k.m m _ _ _ c.loop-k.k c.loop-k.invariant c.loop-k-test.false
 
-pub move-part-spec : {M : Type 1} → statement M
-move-part-spec =
+pub move_part_spec : {M : Type 1} → statement M
+move_part_spec =
     tie.close
     (tie.spec
     invariant-loop decreases-loop loop-holds (λ c. omega arith) (λ c. omega arith) (λ c. omega arith) (λ c. omega arith)

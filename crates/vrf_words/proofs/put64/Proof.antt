@@ -6,8 +6,8 @@ use Rattle.vrf_words.proofs.put64.Tie as tie
 returns : tie.Need-returns
 returns c = cc
 
-pub put64-spec : {M : Type 1} → statement M
-put64-spec =
+pub put64_spec : {M : Type 1} → statement M
+put64_spec =
     tie.close
     (tie.spec
     (λ c. search rules) (λ c κs. search rules) (λ c. search rules) (λ c. search rules) (λ c κs. search rules)

@@ -9,9 +9,9 @@ use Rattle.vrf_words.proofs.put_eight.Tie as tie
 returns : tie.Need-returns
 returns c =
     let after-eight-of = c.before.before.before.before in
-    let a = after-eight-of.before.before.before.args in
-    c.before.before.put-eight-bytes.ensures ∙ ap (pasted _ (a.at + a.k)) after-eight-of.eight-of.ensures
+    let a = after-eight-of.args in
+    c.put_eight_bytes.ensures ∙ ap (pasted _ (a.at + a.k)) after-eight-of.eight_of-e.ensures
 
-pub put-eight-spec : {M : Type 1} → statement M
-put-eight-spec =
+pub put_eight_spec : {M : Type 1} → statement M
+put_eight_spec =
     tie.close (tie.spec (λ c κs. search rules) (λ c. search rules) (λ c κs. search rules) (λ c. search rules) returns)

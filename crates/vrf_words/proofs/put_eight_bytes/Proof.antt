@@ -13,8 +13,8 @@ use Rattle.vrf_words.proofs.put_eight_bytes.Tie as tie
 returns : tie.Need-returns
 returns c = let x = c.args in eight x.m.now (eight_bytes x.e) x.to 0 (omega arith) (omega arith) ∙ ap (pasted x.m.now x.to) (whole_part (eight_bytes x.e))
 
-pub put-eight-bytes-spec : {M : Type 1} → statement M
-put-eight-bytes-spec =
+pub put_eight_bytes_spec : {M : Type 1} → statement M
+put_eight_bytes_spec =
     tie.close
     (tie.spec
     (λ c. search rules) (λ c. search rules) (λ c. simp length-set (omega arith)) (λ c. search rules)

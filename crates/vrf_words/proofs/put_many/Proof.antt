@@ -10,10 +10,10 @@ returns : tie.Need-returns
 returns c =
     let after-put-sixteen2 = c.before.before in
     let after-put-sixteen = after-put-sixteen2.before.before.before.before in
-    let a = after-put-sixteen.before.before.before.before.args in
-    next-part _ _ (a.at + a.k) _ 16 16 (omega arith) (omega arith) after-put-sixteen.put-sixteen.ensures _ _ after-put-sixteen2.put-sixteen2.ensures (omega arith) (omega arith)
+    let a = after-put-sixteen.args in
+    next-part _ _ (a.at + a.k) _ 16 16 (omega arith) (omega arith) after-put-sixteen.put_sixteen.ensures _ _ after-put-sixteen2.put_sixteen-2.ensures (omega arith) (omega arith)
 
-pub put-many-spec : {M : Type 1} → statement M
-put-many-spec =
+pub put_many_spec : {M : Type 1} → statement M
+put_many_spec =
     tie.close
     (tie.spec (λ c κs. search rules) (λ c. search rules) (λ c κs. search rules) (λ c. search rules) returns)

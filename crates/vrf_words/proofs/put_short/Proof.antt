@@ -13,13 +13,13 @@ returns c =
     let after-put-eight2 = after-lower2.before.before.before.before in
     let after_lower = after-put-eight2.before in
     let after-put-eight = after_lower.before.before.before.before in
-    let one = copy_step (copy_start _ _ after-put-eight.before.before.before.before.args.at) 0 8 after-put-eight.put-eight.ensures (omega arith) (omega arith) (omega arith) (omega arith) in
-    let two = copy_step one after_lower.lower.result 8 after-put-eight2.put-eight2.ensures (omega arith) (omega arith) (omega arith) (omega arith) in
-    let three = copy_step two after-lower2.lower2.result 8 after-put-eight3.put-eight3.ensures (omega arith) (omega arith) (omega arith) (omega arith) in
-    copy-end (copy_step three _ 8 after-put-eight4.put-eight4.ensures (omega arith) (omega arith) (omega arith) (omega arith)) (omega arith)
+    let one = copy_step (copy_start _ _ after-put-eight.args.at) 0 8 after-put-eight.put_eight.ensures (omega arith) (omega arith) (omega arith) (omega arith) in
+    let two = copy_step one after_lower.lower.result 8 after-put-eight2.put_eight-2.ensures (omega arith) (omega arith) (omega arith) (omega arith) in
+    let three = copy_step two after-lower2.lower-2.result 8 after-put-eight3.put_eight-3.ensures (omega arith) (omega arith) (omega arith) (omega arith) in
+    copy-end (copy_step three _ 8 after-put-eight4.put_eight-4.ensures (omega arith) (omega arith) (omega arith) (omega arith)) (omega arith)
 
-pub put-short-spec : {M : Type 1} → statement M
-put-short-spec =
+pub put_short_spec : {M : Type 1} → statement M
+put_short_spec =
     tie.close
     (tie.spec
     (λ c. search rules) (λ c κs. search rules) (λ c κs. search rules) (λ c κs. search rules) (λ c κs. search rules)

@@ -8,30 +8,30 @@ use Rattle.vrf_words.proofs.Writes.{zero-start, zero-step}
 use Rattle.vrf_words.proofs.zero_words.Statement.{statement}
 use Rattle.vrf_words.proofs.zero_words.Tie as tie
 
-abbrev invariant-loop : tie.invariant-loop
+abbrev invariant-loop : tie.invariant-loop-k
 invariant-loop m₀ i n k₀ m k = (k ≤ n) × (length m ≡ length m₀) × (m ≡ pasted m₀ (4 * i) (replicate (4 * k) 0))
 
-abbrev decreases-loop : tie.decreases-loop
+abbrev decreases-loop : tie.decreases-loop-k
 decreases-loop m₀ i n k₀ m k = n - k
 
-loop-holds : tie.Need-loop-init invariant-loop decreases-loop
-loop-holds c = (omega arith, refl, zero-start _ (4 * c.before.args.i))
+loop-holds : tie.Need-loop-k-init invariant-loop decreases-loop
+loop-holds c = (omega arith, refl, zero-start _ (4 * c.args.i))
 
-loop-again : tie.Need-loop-preserved invariant-loop decreases-loop
+loop-again : tie.Need-loop-k-preserved invariant-loop decreases-loop
 loop-again c =
     let after-put32 = c.before.before in
-    let l = after-put32.before.before.before.loop in
-    (omega arith, after-put32.put32.auto.0 ∙ l.invariant.1, after-put32.put32.ensures ∙ zero-step _ l.m _ l.k l.invariant.2 (omega arith))
+    let l = after-put32.loop-k in
+    (omega arith, after-put32.put32.auto.s ∙ l.invariant.1, after-put32.put32.ensures ∙ zero-step _ l.m-1 _ l.k l.invariant.2 (omega arith))
 
-same_length : tie.Need-same-length invariant-loop decreases-loop
-same_length c = c.before.loop.invariant.1
+same_length : tie.Need-shape_of-m invariant-loop decreases-loop
+same_length c = c.loop-k.invariant.1
 
 returns : tie.Need-returns invariant-loop decreases-loop
 returns c =
-    let all : c.before.loop.k ≡ c.before.before.before.args.n = omega arith in
-    rw all at c.before.loop.invariant.2
+    let all : c.loop-k.k ≡ c.args.n = omega arith in
+    rw all at c.loop-k.invariant.2
 
-pub zero-words-spec : {M : Type 1} → statement M
-zero-words-spec =
+pub zero_words_spec : {M : Type 1} → statement M
+zero_words_spec =
     tie.close
     (tie.spec invariant-loop decreases-loop loop-holds (λ c. omega arith) (λ c κs. omega arith) (λ c. omega arith) (λ c. omega arith) loop-again same_length returns)

@@ -3,14 +3,14 @@ use Rattle.vrf_store.proofs.Laws.Memory.Check.{check-good}
 use Rattle.bench_loops.proofs.blocks.bench_read_block.Statement.{statement}
 use Rattle.bench_loops.proofs.blocks.bench_read_block.Tie as tie
 
-read-unchecked-requires : tie.Need-read-unchecked-requires
+read-unchecked-requires : tie.Need-read_unchecked-requires
 read-unchecked-requires c κs =
     let at-enum-told2 = c.before.before in
-    let after_open = at-enum-told2.before.before.before.before in
-    check-good _ (rw at-enum-told2.enum-told2.given.1 at after_open.«open».ensures).accepted
+    let after_open = at-enum-told2.before.before.before in
+    check-good _ (rw at-enum-told2.in-Done.is at after_open.«open».ensures).accepted
 
-pub bench-read-block-spec : {M : Type 1} → statement M
-bench-read-block-spec =
+pub bench_read_block_spec : {M : Type 1} → statement M
+bench_read_block_spec =
     tie.close
     (tie.spec
     (λ c κs. search rules) (λ c. search rules) (λ c. search rules) (λ c κs. search rules) (λ c. search rules)

@@ -8,8 +8,8 @@ invariant-loop m₀ s n end first₀ sum₀ counter₀ m first sum counter = (co
 abbrev decreases-loop : tie.decreases-loop
 decreases-loop m₀ s n end first₀ sum₀ counter₀ m first sum counter = n - counter
 
-pub runs-checked-spec : {M : Type 1} → statement M
-runs-checked-spec =
+pub runs_checked_spec : {M : Type 1} → statement M
+runs_checked_spec =
     tie.close
     (tie.spec
     invariant-loop decreases-loop (λ c κs. search rules) (λ c. search rules) (λ c. search rules) (λ c. search rules)

@@ -11,19 +11,19 @@ decreases-loop m₀ s scratch₀ n c₀ sum₀ counter₀ m scratch c sum counte
 
 loop-again : tie.Need-loop-preserved invariant-loop decreases-loop
 loop-again c =
-    let at-exports = c.before.before in
-    let back = at-exports.before.before.before.before in
+    let at-exports = c.before in
+    let back = at-exports.before.before.before in
     let after-read-net-field-exports = back.before.before in
     let at-loop = after-read-net-field-exports.before.before.before.before in (
       omega arith,
-      (rw at-exports.exports.given.1 at after-read-net-field-exports.read_net_field_exports.ensures).good,
-      after-read-net-field-exports.read_net_field_exports.auto.1.1.0 ∙ at-loop.loop.invariant.2,
-      omega (arith, after-read-net-field-exports.read_net_field_exports.auto.1.1.1.0, at-loop.loop.invariant.3),
-      after-read-net-field-exports.read_net_field_exports.auto.1.1.1.0 ∙ at-loop.loop.invariant.4,
+      (rw at-exports.in-Of.is at after-read-net-field-exports.read_net_field_exports.ensures).good,
+      after-read-net-field-exports.read_net_field_exports.auto.scratch.1.0 ∙ at-loop.loop.invariant.2,
+      omega (arith, after-read-net-field-exports.read_net_field_exports.auto.scratch.1.1.0, at-loop.loop.invariant.3),
+      after-read-net-field-exports.read_net_field_exports.auto.scratch.1.1.0 ∙ at-loop.loop.invariant.4,
     )
 
-pub runs-unchecked-spec : {M : Type 1} → statement M
-runs-unchecked-spec =
+pub runs_unchecked_spec : {M : Type 1} → statement M
+runs_unchecked_spec =
     tie.close
     (tie.spec
     invariant-loop decreases-loop (λ c κs. search rules) (λ c. search rules) (λ c κs. search rules) (λ c. search rules)

@@ -3,14 +3,14 @@ use Rattle.vrf_store.proofs.Laws.Memory.Check.{check-good}
 use Rattle.bench_loops.proofs.book.bench_fill.Statement.{statement}
 use Rattle.bench_loops.proofs.book.bench_fill.Tie as tie
 
-set-all-requires : tie.Need-set-all-requires
+set-all-requires : tie.Need-set_all-requires
 set-all-requires c κs =
     let at-enum-told = c.before in
-    let after_open = at-enum-told.before.before.before.before in
-    check-good _ (rw at-enum-told.enum_told.given.1 at after_open.«open».ensures).accepted
+    let after_open = at-enum-told.before.before.before in
+    check-good _ (rw at-enum-told.in-Done.is at after_open.«open».ensures).accepted
 
-pub bench-fill-spec : {M : Type 1} → statement M
-bench-fill-spec =
+pub bench_fill_spec : {M : Type 1} → statement M
+bench_fill_spec =
     tie.close
     (tie.spec
     (λ c κs. search rules) (λ c. search rules) set-all-requires (λ c. search rules) (λ c. search rules)

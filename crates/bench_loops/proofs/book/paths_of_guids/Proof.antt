@@ -2,14 +2,14 @@ use Rattle.std.proofs.Common.{◌-◌, ◌≤◌, rules}
 use Rattle.bench_loops.proofs.book.paths_of_guids.Statement.{statement}
 use Rattle.bench_loops.proofs.book.paths_of_guids.Tie as tie
 
-abbrev invariant-loop : tie.invariant-loop
+abbrev invariant-loop : tie.invariant-loop-i
 invariant-loop m sheet n sum₀ i₀ sum i = i ≤ n
 
-abbrev decreases-loop : tie.decreases-loop
+abbrev decreases-loop : tie.decreases-loop-i
 decreases-loop m sheet n sum₀ i₀ sum i = n - i
 
-pub paths-of-guids-spec : {M : Type 1} → statement M
-paths-of-guids-spec =
+pub paths_of_guids_spec : {M : Type 1} → statement M
+paths_of_guids_spec =
     tie.close
     (tie.spec
     invariant-loop decreases-loop (λ c. search rules) (λ c κs. search rules) (λ c κs. search rules) (λ c κs. search rules)

@@ -2,20 +2,20 @@ use Rattle.std.proofs.Common.{rules}
 use Rattle.bench_loops.proofs.book.set_field.Statement.{statement}
 use Rattle.bench_loops.proofs.book.set_field.Tie as tie
 
-returns : tie.Need-returns
-returns c = (rw c.enum_told.given.1 at c.before.before.before.before.set_field_on_group.ensures).holds.good
+returns : tie.Need-returns-in-Placed
+returns c = (rw c.in-Placed.is at c.set_field_on_group.ensures).holds.good
 
-returns-2 : tie.Need-returns-2
-returns-2 c = (rw c.enum-told2.given.1 at c.before.before.before.before.set_field_on_group.ensures).holds.good
+returns-2 : tie.Need-returns-in-NotPlaced
+returns-2 c = (rw c.in-NotPlaced.is at c.set_field_on_group.ensures).holds.good
 
-returns-3 : tie.Need-returns-3
+returns-3 : tie.Need-returns-in-Refused
 returns-3 c =
-    let after-set-field-on-group = c.before.before.before.before in
+    let after-set-field-on-group = c.before.before.before in
     let start = after-set-field-on-group.before.before.before.before in
-    rw (rw c.enum-told3.given.1 at after-set-field-on-group.set_field_on_group.ensures).same start.requires.0
+    rw (rw c.in-Refused.is at after-set-field-on-group.set_field_on_group.ensures).same start.requires.0
 
-pub set-field-spec : {M : Type 1} → statement M
-set-field-spec =
+pub set_field_spec : {M : Type 1} → statement M
+set_field_spec =
     tie.close
     (tie.spec
     (λ c κs. search rules) (λ c. search rules) (λ c. search rules) (λ c. search rules) (λ c. search rules) returns

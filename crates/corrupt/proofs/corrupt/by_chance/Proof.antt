@@ -8,8 +8,8 @@ invariant-loop book s₀ work₀ how t₀ x₀ counter₀ s work t x counter = (
 abbrev decreases-loop : tie.decreases-loop
 decreases-loop book s₀ work₀ how t₀ x₀ counter₀ s work t x counter = 5000 - counter
 
-pub by-chance-spec : {M : Type 1} → statement M
-by-chance-spec =
+pub by_chance_spec : {M : Type 1} → statement M
+by_chance_spec =
     tie.close
     (tie.spec
     invariant-loop decreases-loop (λ c. search rules) (λ c. search rules) (λ c. search rules) (λ c. search rules) (λ c. search rules)

@@ -8,8 +8,8 @@ invariant-loop s₀ seed x₀ counter₀ end s x counter = (length s ≡ length 
 abbrev decreases-loop : tie.decreases-loop
 decreases-loop s₀ seed x₀ counter₀ end s x counter = end - counter
 
-pub change-some-spec : {M : Type 1} → statement M
-change-some-spec =
+pub change_some_spec : {M : Type 1} → statement M
+change_some_spec =
     tie.close
     (tie.spec
     invariant-loop decreases-loop (λ c κs. search rules) (λ c. search rules) (λ c. search rules) (λ c κs. search rules)

@@ -8,22 +8,22 @@ use Rattle.vrf_bitio.proofs.Laws.Answers.{refused-first, gave_then, gave-return}
 use Rattle.vrf_bitio.proofs.Cursor.read_i32.Statement.{statement}
 use Rattle.vrf_bitio.proofs.Cursor.read_i32.Tie as tie
 
-returns : tie.Need-returns
+returns : tie.Need-returns-in-Refused
 unfolding int32
 returns c =
     refused-first _ _ word32 _
-    (subst (WordAnswer _ _ (read_at _ _ word32)) c.before.r.given.1 c.before.before.before.read_u32.ensures)
+    (subst (WordAnswer _ _ (read_at _ _ word32)) c.in-Refused.is c.read_u32.ensures)
 
-returns-2 : tie.Need-returns-2
+returns-2 : tie.Need-returns-in-Value
 unfolding int32
 returns-2 c =
-    let at-w = c.before.before in
-    rw (to_z-of_z (record { sfits = c.as-signed.type-inv }), c.as-signed.ensures)
+    let at-w = c.before in
+    rw (to_z-of_z (record { sfits = c.as_signed.type_inv }), c.as_signed.ensures)
     (gave_then _ _ word32 _
-    (subst (WordAnswer _ _ (read_at _ _ word32)) at-w.w.given.1 at-w.before.before.read_u32.ensures)
+    (subst (WordAnswer _ _ (read_at _ _ word32)) at-w.in-Value.is at-w.read_u32.ensures)
     (gave-return _ _ _))
 
-pub read-i32-spec : {M : Type 1} → statement M
-read-i32-spec =
+pub read_i32_spec : {M : Type 1} → statement M
+read_i32_spec =
     tie.close
     (tie.spec (λ c κs. search rules) (λ c. search rules) (λ c. search rules) (λ c κs. search rules) returns returns-2)

@@ -6,30 +6,30 @@ use Rattle.vrf_bitio.proofs.Laws.Number.{chunks-lacks, last-runs-on, last-too-la
 use Rattle.vrf_bitio.proofs.Cursor.read_last_chunk.Statement.{statement}
 use Rattle.vrf_bitio.proofs.Cursor.read_last_chunk.Tie as tie
 
-returns : tie.Need-returns
+returns : tie.Need-returns-then-b-eq1
 returns c =
-    let at_b = c.before.before in
-    last-runs-on _ (2 ^ 28) _ _ (rest_of _ _) (rw at_b.b.given.1 at at_b.before.before.read-u8.ensures).read c.if1.true
+    let at_b = c.before in
+    last-runs-on _ (2 ^ 28) _ _ (rest_of _ _) (rw at_b.in-Value.is at at_b.read_u8.ensures).read c.if-b-eq1.true
 
-returns-2 : tie.Need-returns-2
+returns-2 : tie.Need-returns-then-b-gt15
 returns-2 c =
-    let at_b = c.before.before.before in
-    last-too-large _ (2 ^ 28) _ _ (rest_of _ _) (rw at_b.b.given.1 at at_b.before.before.read-u8.ensures).read c.before.if1.false c.if2.true
+    let at_b = c.before.before in
+    last-too-large _ (2 ^ 28) _ _ (rest_of _ _) (rw at_b.in-Value.is at at_b.read_u8.ensures).read c.if-b-eq1.false c.if-b-gt15.true
 
-returns-3 : tie.Need-returns-3
+returns-3 : tie.Need-returns-in-Refused
 returns-3 c =
     chunks-lacks _ (2 ^ 28) _ _ (rest_of _ _) 0
-    (rw c.before.r.given.1 at c.before.before.before.read-u8.ensures)
+    (rw c.in-Refused.is at c.read_u8.ensures)
 
-returns-4 : tie.Need-returns-4
+returns-4 : tie.Need-returns-else-b-gt15
 returns-4 c =
-    let at_b = c.before.before.before.before in
-    let g = (rw at_b.b.given.1 at at_b.before.before.read-u8.ensures) in
-    rw c.with-chunk.ensures
-    (record { read = last-ends _ (2 ^ 28) _ _ (rest_of _ _) g.read c.before.before.if1.false c.before.if2.false; first = g.first; count = g.count })
+    let at_b = c.before.before.before in
+    let g = (rw at_b.in-Value.is at at_b.read_u8.ensures) in
+    rw c.with_chunk.ensures
+    (record { read = last-ends _ (2 ^ 28) _ _ (rest_of _ _) g.read c.if-b-eq1.false c.if-b-gt15.false; first = g.first; count = g.count })
 
-pub read-last-chunk-spec : {M : Type 1} → statement M
-read-last-chunk-spec =
+pub read_last_chunk_spec : {M : Type 1} → statement M
+read_last_chunk_spec =
     tie.close
     (tie.spec
     (λ c κs. search rules) (λ c. search rules) (λ c. search rules) returns returns-2 (λ c κs. search rules) returns-3

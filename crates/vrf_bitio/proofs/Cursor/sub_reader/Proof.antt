@@ -5,21 +5,21 @@ use Rattle.vrf_bitio.proofs.Cursors.{inner-lacking, inner-refused, inner-found, 
 use Rattle.vrf_bitio.proofs.Cursor.sub_reader.Statement.{statement}
 use Rattle.vrf_bitio.proofs.Cursor.sub_reader.Tie as tie
 
-returns : tie.Need-returns
+returns : tie.Need-returns-then-left-n
 returns c = rw c.too_few.ensures (inner-lacking _ _ _ (omega arith))
 
-returns-2 : tie.Need-returns-2
+returns-2 : tie.Need-returns-in-Refused
 returns-2 c =
-    let after-window = c.before.before.before in
-    inner-refused _ _ _ (omega arith) (rw (c.before.r.given.1, after-window.before.at.ensures) at after-window.window.ensures)
+    let after-window = c.before in
+    inner-refused _ _ _ (omega arith) (rw (c.in-Refused.is, after-window.at.ensures) at after-window.window.ensures)
 
-returns-3 : tie.Need-returns-3
+returns-3 : tie.Need-returns-in-Window
 returns-3 c =
-    let after-window = c.before.before.before.before in
-    let opened = rw (c.before.before.within.given.1, after-window.before.at.ensures) at after-window.window.ensures in
+    let after-window = c.before.before in
+    let opened = rw (c.in-Window.is, after-window.at.ensures) at after-window.window.ensures in
     (gave-moved _ _ _ c.moved.ensures (inner-found _ _ _ (omega arith) opened), window-start _ _ _ opened)
 
-pub sub-reader-spec : {M : Type 1} → statement M
-sub-reader-spec =
+pub sub_reader_spec : {M : Type 1} → statement M
+sub_reader_spec =
     tie.close
     (tie.spec (λ c κs. search rules) (λ c κs. search rules) returns (λ c κs. search rules) (λ c κs. search rules) (λ c. search rules) (λ c. search rules) (λ c. search rules) (λ c κs. search rules) returns-2 returns-3)

@@ -9,7 +9,7 @@ returns c =
     let after-step-guid = c.before.before in
     let after-step-schema = after-step-guid.before.before.before.before in
     let after-clear-book = after-step-schema.before.before.before.before in
-    cleared-taken after-clear-book.clear_book.ensures after-step-schema.step-schema.ensures after-step-guid.step-guid.ensures
+    cleared-taken after-clear-book.clear_book.ensures after-step-schema.step_schema.ensures after-step-guid.step_guid.ensures
 
 pub clear_spec : {M : Type 1} → statement M
 clear_spec =

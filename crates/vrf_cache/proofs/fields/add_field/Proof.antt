@@ -6,35 +6,35 @@ use Rattle.vrf_cache.proofs.fields.add_field.Statement.{statement}
 use Rattle.vrf_cache.proofs.fields.add_field.Tie as tie
 
 -- the function's entry state, and the places after the calls
-abbrev start : tie.After-passes → tie.Start
-start c = c.before.before.before.before
+abbrev start : tie.After-passes-which → tie.Start
+start c = c.before.before.before
 
-abbrev fit : tie.After-keep-text → tie.Else1
+abbrev fit : tie.After-keep_text-at → tie.Else-which-ne0
 fit c = c.before.before
 
-returns : tie.Need-returns
+returns : tie.Need-returns-then-which-ne0
 returns c =
     let p = c.before.before in
-    rw c.full.ensures (new-full (start p).args.checksum (start p).requires p.passes.ensures c.before.if1.true refl)
+    rw c.full.ensures (new-full (start p).args.checksum (start p).requires p.passes-which.ensures c.if-which-ne0.true refl)
 
-keep-text-requires : tie.Need-keep-text-requires
-keep-text-requires c κs = let p = c.before.before in new-space (start p).args.checksum (start p).requires p.passes.ensures c.before.if1.false
+keep-text-requires : tie.Need-keep_text-at-requires
+keep-text-requires c κs = let p = c.before.before in new-space (start p).args.checksum (start p).requires p.passes-which.ensures c.if-which-ne0.false
 
-push-field-requires : tie.Need-push-field-requires
+push-field-requires : tie.Need-push_field-requires
 push-field-requires c κs =
     let k = c.before.before.before in
     let p = (fit k).before in
-    (k.keep-text.ensures.stepped.good, new-field (start p).args.checksum (start p).pre p.passes.ensures (fit k).if1.false k.keep-text.ensures)
+    (k.keep_text-at.ensures.stepped.good, new-field (start p).args.checksum (start p).requires p.passes-which.ensures (fit k).if-which-ne0.false k.keep_text-at.ensures)
 
-returns-2 : tie.Need-returns-2
+returns-2 : tie.Need-returns
 returns-2 c =
     let n = c.before.before in
     let k = n.before.before.before.before in
     let p = (fit k).before in
-    new-taken (start p).args.checksum (start p).pre p.passes.ensures (fit k).if1.false k.keep-text.ensures (λ i. (p.before.before.before.slice-known.given i).fits) n.push-field.ensures
+    new-taken (start p).args.checksum (start p).requires p.passes-which.ensures (fit k).if-which-ne0.false k.keep_text-at.ensures (λ i. (p.slice_known-1.given i).fits) n.push_field.ensures
 
-pub add-field-spec : {M : Type 1} → statement M
-add-field-spec =
+pub add_field_spec : {M : Type 1} → statement M
+add_field_spec =
     tie.close
     (tie.spec
     (λ c κs. search rules) (λ c κs. search rules) (λ c. search rules) returns keep-text-requires (λ c. search rules)

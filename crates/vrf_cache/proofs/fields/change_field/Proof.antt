@@ -6,29 +6,29 @@ use Rattle.vrf_cache.proofs.fields.change_field.Statement.{statement}
 use Rattle.vrf_cache.proofs.fields.change_field.Tie as tie
 
 -- the places before, and the function's entry state
-abbrev name : tie.After-same → tie.After-row-name
+abbrev name : tie.After-same → tie.After-row_name
 name c = c.before
 
-abbrev start : tie.After-row-name → tie.Start
-start c = c.before.before.before.before
+abbrev start : tie.After-row_name → tie.Start
+start c = c.before.before.before
 
-returns : tie.Need-returns
+returns : tie.Need-returns-then-same
 returns c =
     let set = c.before.before in
     let t = set.before.before in
     let n = name t.before in
-    same_taken (start n).args.checksum (start n).pre (rw n.row-name.ensures at (sym t.before.same.ensures ∙ t.if1.true)) (λ i. (n.before.before.before.slice-known.given i).fits) set.set-checksum.ensures
+    same_taken (start n).args.checksum (start n).requires (rw n.row_name.ensures at (sym t.same.ensures ∙ t.if-same.true)) (λ i. (n.slice_known-1.given i).fits) set.set_checksum.ensures
 
-rename-field-requires : tie.Need-rename-field-requires
+rename-field-requires : tie.Need-rename_field-requires
 rename-field-requires c κs =
     let e = c.before in
     let n = name e.before in
-    ((start n).pre, rw n.row-name.ensures at (sym e.before.same.ensures ∙ e.if1.false))
+    ((start n).requires, rw n.row_name.ensures at (sym e.same.ensures ∙ e.if-same.false))
 
-pub change-field-spec : {M : Type 1} → statement M
-change-field-spec =
+pub change_field_spec : {M : Type 1} → statement M
+change_field_spec =
     tie.close
     (tie.spec
     (λ c κs. search rules) (λ c κs. search rules)
     (λ c κs. let p = (start (name c.before.before)).requires in (p.good, p.known)) (λ c. search rules) returns
-    rename-field-requires (λ c. search rules) (λ c. c.before.before.rename-field.ensures))
+    rename-field-requires (λ c. search rules) (λ c. c.rename_field.ensures))

@@ -8,7 +8,7 @@ returns : tie.Need-returns
 returns c =
     let after-step-dropped = c.before.before in
     let start = after-step-dropped.before.before.before in
-    dropped start.requires after-step-dropped.step-dropped.ensures
+    dropped start.requires after-step-dropped.step_dropped.ensures
 
-pub drop-field-spec : {M : Type 1} → statement M
-drop-field-spec = tie.close (tie.spec (λ c κs. search rules) (λ c. search rules) returns)
+pub drop_field_spec : {M : Type 1} → statement M
+drop_field_spec = tie.close (tie.spec (λ c κs. search rules) (λ c. search rules) returns)

@@ -5,15 +5,15 @@ use Rattle.vrf_store.proofs.Laws.Memory.WellFormed.{field_row, field-text}
 use Rattle.vrf_cache.proofs.fields.row_name.Statement.{statement}
 use Rattle.vrf_cache.proofs.fields.row_name.Tie as tie
 
-row-text-requires : tie.Need-row-text-requires
+row-text-requires : tie.Need-row_text-requires
 row-text-requires c κs =
     let after-field-rows = c.before in
     let start = after-field-rows.before.before in
     let valid = start.requires.0.valid in
-    (field_row valid after-field-rows.field-rows.ensures start.requires.1, field-text valid after-field-rows.field-rows.ensures c.texts.ensures start.requires.1)
+    (field_row valid after-field-rows.field_rows.ensures start.requires.1, field-text valid after-field-rows.field_rows.ensures c.texts.ensures start.requires.1)
 
 returns : tie.Need-returns
-returns c = c.row-text.ensures ∙ rw (c.before.before.field-rows.ensures, c.before.texts.ensures)
+returns c = c.row_text.ensures ∙ rw (c.field_rows.ensures, c.texts.ensures)
 
-pub row-name-spec : {M : Type 1} → statement M
-row-name-spec = tie.close (tie.spec (λ c κs. search rules) (λ c κs. search rules) row-text-requires returns)
+pub row_name_spec : {M : Type 1} → statement M
+row_name_spec = tie.close (tie.spec (λ c κs. search rules) (λ c κs. search rules) row-text-requires returns)

@@ -8,27 +8,27 @@ use Rattle.vrf_cache.proofs.fields.set_field_on_group.Statement.{statement}
 use Rattle.vrf_cache.proofs.fields.set_field_on_group.Tie as tie
 
 -- the function's entry state
-abbrev start : tie.After-find-index → tie.Start
-start c = c.before.before.before.before
+abbrev start : tie.After-find_index → tie.Start
+start c = c.before.before.before
 
-returns : tie.Need-returns
+returns : tie.Need-returns-in-At
 returns c =
     let set = c.before.before in
-    let p = set.before.before.before in
-    let first = p.before.before in
+    let p = set.before.before in
+    let first = p.before in
     let x = (start first).args in
-    rw (set_known (held x.m.now) x.handle x.checksum x.name.now x.index (sym first.find-index.ensures ∙ ap entry p.place.given.1)) set.set-slot.ensures
+    rw (set_known (held x.m.now) x.handle x.checksum x.name.now x.index (sym first.find_index.ensures ∙ ap entry p.in-At.is)) set.set_slot.ensures
 
-returns-2 : tie.Need-returns-2
+returns-2 : tie.Need-returns-in-Nowhere
 returns-2 c =
     let drop = c.before.before in
     let told = drop.before.before in
-    let first = told.before.before in
+    let first = told.before in
     let x = (start first).args in
-    rw (set-unknown (held x.m.now) x.handle x.checksum x.name.now x.index (sym first.find-index.ensures ∙ ap entry told.enum_told.given.1)) drop.drop-field.ensures
+    rw (set-unknown (held x.m.now) x.handle x.checksum x.name.now x.index (sym first.find_index.ensures ∙ ap entry told.in-Nowhere.is)) drop.drop_field.ensures
 
-pub set-field-on-group-spec : {M : Type 1} → statement M
-set-field-on-group-spec =
+pub set_field_on_group_spec : {M : Type 1} → statement M
+set_field_on_group_spec =
     tie.close
     (tie.spec
     (λ c κs. search rules) (λ c. search rules) (λ c κs. search rules) (λ c. search rules) (λ c κs. search rules)

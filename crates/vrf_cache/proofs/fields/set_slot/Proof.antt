@@ -10,54 +10,54 @@ use Rattle.vrf_cache.proofs.fields.set_slot.Statement.{statement}
 use Rattle.vrf_cache.proofs.fields.set_slot.Tie as tie
 
 -- the function's entry state
-abbrev start : tie.After-group-slots → tie.Start
-start c = c.before.before.before.before
+abbrev start : tie.After-group_slots → tie.Start
+start c = c.before.before.before
 
-abbrev slots : tie.After-find-field → tie.Else1
+abbrev slots : tie.After-find_field → tie.Else-group_slots-slot
 slots c = c.before.before
 
-inside : (c : tie.Else1) →
+inside : (c : tie.Else-group_slots-slot) →
     let x = (start c.before).args in
     x.slot < slots_at (held x.m.now).groups x.place
-inside c = rw c.before.group_slots.ensures at c.if1.false
+inside c = rw c.group_slots.ensures at c.if-group_slots-slot.false
 
-returns : tie.Need-returns
+returns : tie.Need-returns-then-group_slots-slot
 returns c =
     let d = c.before.before in
     let t = d.before.before in
     let x = (start t.before).args in
-    rw (set_past (held x.m.now) x.slot x.checksum x.name.now x.place (rw t.before.group_slots.ensures at t.if1.true)) d.drop-field.ensures
+    rw (set_past (held x.m.now) x.slot x.checksum x.name.now x.place (rw t.group_slots.ensures at t.if-group_slots-slot.true)) d.drop_field.ensures
 
-change-field-requires : tie.Need-change-field-requires
+change-field-requires : tie.Need-change_field-requires
 change-field-requires c κs =
-    let e = c.before.before in
-    let f = e.before.before in
+    let e = c.before in
+    let f = e.before in
     let s = start (slots f).before in
-    record { good = s.pre.0; is_text = s.pre.1; known = row-known s.pre.0 s.args.place (inside (slots f)) (sym f.find-field.ensures ∙ ap entry e.e.given.1) }
+    record { good = s.requires.0; is_text = s.requires.1; known = row-known s.requires.0 s.args.place (inside (slots f)) (sym f.find_field.ensures ∙ ap entry e.in-At.is) }
 
-add-field-requires : tie.Need-add-field-requires
+add-field-requires : tie.Need-add_field-requires
 add-field-requires c κs =
-    let f = c.before.before.before in
+    let f = c.before.before in
     let s = start (slots f).before in
-    record { good = s.pre.0; is_text = s.pre.1; slot-in = inside (slots f); free = slot-free s.pre.0 s.args.place (inside (slots f)) (sym f.find-field.ensures ∙ ap entry c.before.enum_told.given.1) }
+    record { good = s.requires.0; is_text = s.requires.1; slot-in = inside (slots f); free = slot-free s.requires.0 s.args.place (inside (slots f)) (sym f.find_field.ensures ∙ ap entry c.in-Nowhere.is) }
 
-returns-2 : tie.Need-returns-2
+returns-2 : tie.Need-returns-in-At
 returns-2 c =
     let n = c.before.before in
-    let e = n.before.before.before in
-    let f = e.before.before in
+    let e = n.before.before in
+    let f = e.before in
     let s = start (slots f).before in
-    rw (set-row s.pre.0 s.args.place (inside (slots f)) (sym f.find-field.ensures ∙ ap entry e.e.given.1) s.args.checksum s.args.name.now) n.change-field.ensures
+    rw (set-row s.requires.0 s.args.place (inside (slots f)) (sym f.find_field.ensures ∙ ap entry e.in-At.is) s.args.checksum s.args.name.now) n.change_field.ensures
 
-returns-3 : tie.Need-returns-3
+returns-3 : tie.Need-returns-in-Nowhere
 returns-3 c =
     let n = c.before.before in
-    let f = n.before.before.before.before in
+    let f = n.before.before.before in
     let x = (start (slots f).before).args in
-    rw (set-within (held x.m.now) x.slot x.checksum x.name.now x.place (inside (slots f))) n.add-field.ensures
+    rw (set-within (held x.m.now) x.slot x.checksum x.name.now x.place (inside (slots f))) n.add_field.ensures
 
-pub set-slot-spec : {M : Type 1} → statement M
-set-slot-spec =
+pub set_slot_spec : {M : Type 1} → statement M
+set_slot_spec =
     tie.close
     (tie.spec
     (λ c κs. search rules) (λ c κs. search rules) (λ c. search rules) returns (λ c κs. search rules) (λ c. search rules)

@@ -7,8 +7,8 @@ use Rattle.vrf_cache.proofs.Laws.Passed.{passes-guids, passes-groups, passes-fie
 use Rattle.vrf_cache.proofs.full.passed.Statement.{statement}
 use Rattle.vrf_cache.proofs.full.passed.Tie as tie
 
-pub passed-spec : {M : Type 1} → statement M
-passed-spec =
+pub passed_spec : {M : Type 1} → statement M
+passed_spec =
     tie.close
     (tie.spec
     (λ c κs. search rules) (λ c. passes-guids _ _ _ _ _ (omega arith)) (λ c κs. search rules)

@@ -11,8 +11,8 @@ returns c =
     let after-held = after-guids.before in
     rw (← after-held.held.ensures, ← after-guids.guids.ensures, ← after-groups.groups.ensures, ← after-fields.fields.ensures) c.passed.ensures
 
-pub passes-spec : {M : Type 1} → statement M
-passes-spec =
+pub passes_spec : {M : Type 1} → statement M
+passes_spec =
     tie.close
     (tie.spec
     (λ c κs. search rules) (λ c. search rules) (λ c. search rules) (λ c. search rules) (λ c κs. search rules)

@@ -8,33 +8,33 @@ use Rattle.vrf_cache.proofs.groups.add_export_group.Statement.{statement}
 use Rattle.vrf_cache.proofs.groups.add_export_group.Tie as tie
 
 -- the function's entry state
-abbrev start : tie.After-find-path-place → tie.Start
-start c = c.before.before.before.before
+abbrev start : tie.After-find_path_place → tie.Start
+start c = c.before.before.before
 
-merge-at-requires : tie.Need-merge-at-requires
+merge-at-requires : tie.Need-merge_at-requires
 merge-at-requires c κs =
-    let e = c.before.before in
-    let first = e.before.before in
-    path-found (start first).requires (sym (ap entry e.e.given.1) ∙ first.find-path-place.ensures)
+    let e = c.before in
+    let first = e.before in
+    path-found (start first).requires (sym (ap entry e.in-At.is) ∙ first.find_path_place.ensures)
 
-returns : tie.Need-returns
+returns : tie.Need-returns-in-At
 returns c =
     let merge = c.before.before in
-    let e = merge.before.before.before in
-    let first = e.before.before in
+    let e = merge.before.before in
+    let first = e.before in
     let x = (start first).args in
-    rw (added-by x.path.now x.index x.slots (held x.m.now) (sym (ap entry e.e.given.1) ∙ first.find-path-place.ensures)) merge.merge-at.ensures
+    rw (added-by x.path.now x.index x.slots (held x.m.now) (sym (ap entry e.in-At.is) ∙ first.find_path_place.ensures)) merge.merge_at.ensures
 
-returns-2 : tie.Need-returns-2
+returns-2 : tie.Need-returns-in-Nowhere
 returns-2 c =
     let add = c.before.before in
     let told = add.before.before in
-    let first = told.before.before in
+    let first = told.before in
     let x = (start first).args in
-    rw (added-by x.path.now x.index x.slots (held x.m.now) (sym (ap entry told.enum_told.given.1) ∙ first.find-path-place.ensures)) add.add-unknown.ensures
+    rw (added-by x.path.now x.index x.slots (held x.m.now) (sym (ap entry told.in-Nowhere.is) ∙ first.find_path_place.ensures)) add.add_unknown.ensures
 
-pub add-export-group-spec : {M : Type 1} → statement M
-add-export-group-spec =
+pub add_export_group_spec : {M : Type 1} → statement M
+add_export_group_spec =
     tie.close
     (tie.spec
     (λ c κs. search rules) (λ c. search rules) merge-at-requires (λ c. search rules) (λ c κs. search rules)

@@ -10,41 +10,41 @@ use Rattle.vrf_cache.proofs.groups.add_unknown.Statement.{statement}
 use Rattle.vrf_cache.proofs.groups.add_unknown.Tie as tie
 
 -- the function's entry state
-abbrev start : tie.After-find-index → tie.Start
-start c = c.before.before.before.before
+abbrev start : tie.After-find_index → tie.Start
+start c = c.before.before.before
 
 -- the group with the index is found, or there is none
-found : (c : tie.After-j) → some c.j.given.0.0 ≡ index_place (start c.before.before).args.index (held (start c.before.before).args.m.now).groups
-found c = sym (ap entry c.j.given.1) ∙ c.before.before.find-index.ensures
+found : (c : tie.In-At-2) → some c.in-At.j ≡ index_place (start c.before).args.index (held (start c.before).args.m.now).groups
+found c = sym (ap entry c.in-At.is) ∙ c.find_index.ensures
 
-missing : (c : tie.After-enum-told) → none ≡ index_place (start c.before.before).args.index (held (start c.before.before).args.m.now).groups
-missing c = sym (ap entry c.enum_told.given.1) ∙ c.before.before.find-index.ensures
+missing : (c : tie.In-Nowhere) → none ≡ index_place (start c.before).args.index (held (start c.before).args.m.now).groups
+missing c = sym (ap entry c.in-Nowhere.is) ∙ c.find_index.ensures
 
-replace-at-requires : tie.Need-replace-at-requires
+replace-at-requires : tie.Need-replace_at-requires
 replace-at-requires c κs =
-    let j = c.before.before in
-    let s = start j.before.before in
-    replace-asked s.args.index s.pre (found j)
+    let j = c.before in
+    let s = start j.before in
+    replace-asked s.args.index s.requires (found j)
 
-append-group-requires : tie.Need-append-group-requires
-append-group-requires c κs = let s = start c.before.before.before in append-asked s.args.index s.pre (missing c.before)
+append-group-requires : tie.Need-append_group-requires
+append-group-requires c κs = let s = start c.before.before in append-asked s.args.index s.requires (missing c.before)
 
-returns : tie.Need-returns
+returns : tie.Need-returns-in-At
 returns c =
     let r = c.before.before in
-    let j = r.before.before.before in
-    let s = start j.before.before in
-    rw (replaced-by s.args.index s.pre (found j)) r.replace-at.ensures
+    let j = r.before.before in
+    let s = start j.before in
+    rw (replaced-by s.args.index s.requires (found j)) r.replace_at.ensures
 
-returns-2 : tie.Need-returns-2
+returns-2 : tie.Need-returns-in-Nowhere
 returns-2 c =
     let a = c.before.before in
     let none_told = a.before.before in
-    let s = start none_told.before.before in
-    rw (appended-by s.args.index s.pre (missing none_told)) a.append-group.ensures
+    let s = start none_told.before in
+    rw (appended-by s.args.index s.requires (missing none_told)) a.append_group.ensures
 
-pub add-unknown-spec : {M : Type 1} → statement M
-add-unknown-spec =
+pub add_unknown_spec : {M : Type 1} → statement M
+add_unknown_spec =
     tie.close
     (tie.spec
     (λ c κs. search rules) (λ c. search rules) replace-at-requires (λ c. search rules) append-group-requires

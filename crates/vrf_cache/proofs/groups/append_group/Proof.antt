@@ -6,43 +6,43 @@ use Rattle.vrf_cache.proofs.groups.append_group.Statement.{statement}
 use Rattle.vrf_cache.proofs.groups.append_group.Tie as tie
 
 -- the function's entry state, and the places after the calls
-abbrev start : tie.After-passes → tie.Start
-start c = c.before.before.before.before
+abbrev start : tie.After-passes-which → tie.Start
+start c = c.before.before.before
 
-abbrev fit : tie.After-keep-text → tie.Else1
+abbrev fit : tie.After-keep_text-at → tie.Else-which-ne0
 fit c = c.before.before.before.before
 
-abbrev kept : tie.After-push-group → tie.After-keep-text
+abbrev kept : tie.After-push_group → tie.After-keep_text-at
 kept c = c.before.before.before.before
 
-abbrev pushed : tie.After-step-schema → tie.After-push-group
+abbrev pushed : tie.After-step_schema → tie.After-push_group
 pushed c = c.before.before.before.before
 
-keep-text-requires : tie.Need-keep-text-requires
+keep-text-requires : tie.Need-keep_text-at-requires
 keep-text-requires c κs =
     let f = c.before.before.before in
     let asked = (start f.before).requires in
-    (asked.good, new-space asked f.before.passes.ensures f.if1.false)
+    (asked.good, new-space asked f.passes-which.ensures f.if-which-ne0.false)
 
-push-group-requires : tie.Need-push-group-requires
+push-group-requires : tie.Need-push_group-requires
 push-group-requires c κs =
     let k = c.before.before.before in
     let f = fit k in
-    new-group (start f.before).requires f.before.passes.ensures f.if1.left k.keep-text.ensures
+    new-group (start f.before).requires f.passes-which.ensures f.if-which-ne0.left k.keep_text-at.ensures
 
-returns-2 : tie.Need-returns-2
+returns-2 : tie.Need-returns
 returns-2 c =
     let p = pushed c.before.before in
     let k = kept p in
     let f = fit k in
     let e = f.before in
-    new-taken (start e).pre e.passes.ensures f.if1.left k.keep-text.ensures k.before.before.groups.ensures p.push-group.ensures c.before.before.step-schema.ensures
+    new-taken (start e).requires e.passes-which.ensures f.if-which-ne0.left k.keep_text-at.ensures k.groups-n.ensures p.push_group.ensures c.step_schema.ensures
 
-pub append-group-spec : {M : Type 1} → statement M
-append-group-spec =
+pub append_group_spec : {M : Type 1} → statement M
+append_group_spec =
     tie.close
     (tie.spec
     (λ c κs. search rules) (λ c κs. search rules) (λ c. search rules)
-    (λ c. let p = c.before.before in rw c.full.ensures (new-full (start p).requires p.passes.ensures c.before.if1.true refl))
+    (λ c. let p = c.before.before in rw c.full.ensures (new-full (start p).requires p.passes-which.ensures c.if-which-ne0.true refl))
     (λ c κs. search rules) keep-text-requires (λ c. search rules) push-group-requires (λ c κs. search rules)
     (λ c. search rules) returns-2)

@@ -3,16 +3,16 @@ use borrow.Author.Rules.{rules}
 use Rattle.vrf_cache.proofs.groups.is_named.Statement.{statement}
 use Rattle.vrf_cache.proofs.groups.is_named.Tie as tie
 
-returns : tie.Need-returns
+returns : tie.Need-returns-then-same
 returns c =
     let at-if1 = c.before in
     let after_same = at-if1.before in
     let after-group-path = after_same.before in
-    rw (← after-group-path.group_path.ensures, ← c.group_index.ensures, ← after_same.same.ensures, at-if1.if1.true)
+    rw (← after-group-path.group_path.ensures, ← c.group_index.ensures, ← after_same.same.ensures, at-if1.if-same.true)
 
-returns-2 : tie.Need-returns-2
-returns-2 c = rw (← c.before.before.group_path.ensures, ← c.before.same.ensures, c.if1.false)
+returns-2 : tie.Need-returns
+returns-2 c = rw (← c.group_path.ensures, ← c.same.ensures, c.if-same.false)
 
-pub is-named-spec : {M : Type 1} → statement M
-is-named-spec =
+pub is_named_spec : {M : Type 1} → statement M
+is_named_spec =
     tie.close (tie.spec (λ c κs. search rules) (λ c κs. search rules) (λ c κs. search rules) returns returns-2)

@@ -5,18 +5,18 @@ use Rattle.vrf_cache.proofs.Laws.Groups.Steps.{named, grow-taken}
 use Rattle.vrf_cache.proofs.groups.merge_group.Statement.{statement}
 use Rattle.vrf_cache.proofs.groups.merge_group.Tie as tie
 
-returns : tie.Need-returns
+returns : tie.Need-returns-then-is_named
 returns c =
     let after-step-schema = c.before.before in
     let after-grow-group = after-step-schema.before.before.before.before in
     let at-if1 = after-grow-group.before.before in
     let after-is-named = at-if1.before in
-    let start = after-is-named.before.before.before.before in
-    let as-asked = named (sym after-is-named.is-named.ensures ∙ at-if1.if1.true) in
-    grow-taken start.requires as-asked.0 as-asked.1 after-grow-group.grow-group.ensures after-step-schema.step-schema.ensures
+    let start = after-is-named.before.before.before in
+    let as-asked = named (sym after-is-named.is_named.ensures ∙ at-if1.if-is_named.true) in
+    grow-taken start.requires as-asked.0 as-asked.1 after-grow-group.grow_group.ensures after-step-schema.step_schema.ensures
 
-pub merge-group-spec : {M : Type 1} → statement M
-merge-group-spec =
+pub merge_group_spec : {M : Type 1} → statement M
+merge_group_spec =
     tie.close
     (tie.spec
     (λ c κs. search rules) (λ c κs. search rules) (λ c κs. search rules) (λ c. search rules) returns

@@ -8,7 +8,7 @@ returns : tie.Need-returns
 returns c =
     let after-keep-text = c.before.before in
     let after-release-path = after-keep-text.before.before.before.before in
-    given after-release-path.release-path.ensures after-keep-text.keep-text.ensures
+    given after-release-path.release_path.ensures after-keep-text.keep_text.ensures
 
-pub put-path-spec : {M : Type 1} → statement M
-put-path-spec = tie.close (tie.spec (λ c κs. search rules) (λ c κs. search rules) (λ c. search rules) returns)
+pub put_path_spec : {M : Type 1} → statement M
+put_path_spec = tie.close (tie.spec (λ c κs. search rules) (λ c κs. search rules) (λ c. search rules) returns)

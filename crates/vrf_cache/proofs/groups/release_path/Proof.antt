@@ -6,26 +6,26 @@ use Rattle.vrf_cache.proofs.groups.release_path.Statement.{statement}
 use Rattle.vrf_cache.proofs.groups.release_path.Tie as tie
 
 -- the function's entry state
-abbrev start : tie.After-text-allowed → tie.Start
+abbrev start : tie.After-text_allowed → tie.Start
 start c =
     let h = c.before.before in
-    h.before.before.before
+    h.before
 
-set-group-requires : tie.Need-set-group-requires
+set-group-requires : tie.Need-set_group-requires
 set-group-requires c κs =
     let i = c.before in
     let e = i.before.before in
-    release-path (start e.before).requires i.group_index.ensures
+    release-path (start e.before).requires i.group_index-index.ensures
 
-returns-2 : tie.Need-returns-2
+returns-2 : tie.Need-returns
 returns-2 c =
     let set = c.before.before in
     let i = set.before.before in
     let e = i.before.before in
-    gone (start e.before).requires i.group_index.ensures set.set-group.ensures
+    gone (start e.before).requires i.group_index-index.ensures set.set_group.ensures
 
-pub release-path-spec : {M : Type 1} → statement M
-release-path-spec =
+pub release_path_spec : {M : Type 1} → statement M
+release_path_spec =
     tie.close
     (tie.spec
     (λ c κs. search rules) (λ c. search rules) (λ c. search rules) (λ c κs. search rules) (λ c. search rules)

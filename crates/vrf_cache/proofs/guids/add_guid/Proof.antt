@@ -6,41 +6,41 @@ use Rattle.vrf_cache.proofs.guids.add_guid.Statement.{statement}
 use Rattle.vrf_cache.proofs.guids.add_guid.Tie as tie
 
 -- the function's entry state, and the places after the calls
-abbrev start : tie.After-passes → tie.Start
-start c = c.before.before.before.before
+abbrev start : tie.After-passes-which → tie.Start
+start c = c.before.before.before
 
-abbrev fit : tie.After-keep-text → tie.Else1
+abbrev fit : tie.After-keep_text-at → tie.Else-which-ne0
 fit c = c.before.before
 
-abbrev kept : tie.After-push-guid → tie.After-keep-text
+abbrev kept : tie.After-push_guid → tie.After-keep_text-at
 kept c = c.before.before.before.before
 
-returns : tie.Need-returns
+returns : tie.Need-returns-then-which-ne0
 returns c =
     let p = c.before.before in
-    rw c.full.ensures (new-full (start p).args.guid (start p).args.outer (start p).requires p.passes.ensures c.before.if1.true refl)
+    rw c.full.ensures (new-full (start p).args.guid (start p).args.outer (start p).requires p.passes-which.ensures c.if-which-ne0.true refl)
 
-keep-text-requires : tie.Need-keep-text-requires
+keep-text-requires : tie.Need-keep_text-at-requires
 keep-text-requires c κs =
     let p = c.before.before in
-    ((start p).requires.good, new-space (start p).args.guid (start p).args.outer (start p).requires p.passes.ensures c.before.if1.false)
+    ((start p).requires.good, new-space (start p).args.guid (start p).args.outer (start p).requires p.passes-which.ensures c.if-which-ne0.false)
 
-push-guid-requires : tie.Need-push-guid-requires
+push-guid-requires : tie.Need-push_guid-requires
 push-guid-requires c κs =
     let k = c.before.before.before in
     let p = (fit k).before in
-    new-guid (start p).args.guid (start p).args.outer (start p).pre p.passes.ensures (fit k).if1.false k.keep-text.ensures
+    new-guid (start p).args.guid (start p).args.outer (start p).requires p.passes-which.ensures (fit k).if-which-ne0.false k.keep_text-at.ensures
 
-returns-2 : tie.Need-returns-2
+returns-2 : tie.Need-returns
 returns-2 c =
     let s = c.before.before in
     let n = s.before.before.before.before in
     let f = fit (kept n) in
     let p = f.before in
-    new-taken (start p).args.guid (start p).args.outer (start p).pre p.passes.ensures f.if1.left (kept n).keep-text.ensures n.push-guid.ensures s.step-guid.ensures
+    new-taken (start p).args.guid (start p).args.outer (start p).requires p.passes-which.ensures f.if-which-ne0.left (kept n).keep_text-at.ensures n.push_guid.ensures s.step_guid.ensures
 
-pub add-guid-spec : {M : Type 1} → statement M
-add-guid-spec =
+pub add_guid_spec : {M : Type 1} → statement M
+add_guid_spec =
     tie.close
     (tie.spec
     (λ c κs. search rules) (λ c κs. search rules) (λ c. search rules) returns keep-text-requires (λ c. search rules)

@@ -6,11 +6,11 @@ use Rattle.vrf_cache.proofs.guids.other_passes.Statement.{statement}
 use Rattle.vrf_cache.proofs.guids.other_passes.Tie as tie
 
 passes-requires : tie.Need-passes-requires
-passes-requires c κs = let s = c.before.before.requires in (s.0, omega arith, omega arith, omega arith, rw c.guid_path.ensures (path-held s.0 s.1.0), s.1.1)
+passes-requires c κs = let s = c.requires in (s.0, omega arith, omega arith, omega arith, rw c.guid_path.ensures (path-held s.0 s.1.0), s.1.1)
 
 returns : tie.Need-returns
-returns c = rw (← c.before.guid_path.ensures) c.passes.ensures
+returns c = rw (← c.guid_path.ensures) c.passes.ensures
 
-pub other-passes-spec : {M : Type 1} → statement M
-other-passes-spec =
+pub other_passes_spec : {M : Type 1} → statement M
+other_passes_spec =
     tie.close (tie.spec (λ c κs. search rules) passes-requires returns)

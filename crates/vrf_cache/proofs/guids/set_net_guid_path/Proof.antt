@@ -11,55 +11,55 @@ use Rattle.vrf_cache.proofs.guids.set_net_guid_path.Statement.{statement}
 use Rattle.vrf_cache.proofs.guids.set_net_guid_path.Tie as tie
 
 -- the function's entry state
-abbrev start : tie.After-find-guid → tie.Start
-start c = c.before.before.before.before
+abbrev start : tie.After-find_guid → tie.Start
+start c = c.before.before.before
 
 -- a record of this GUID is found
-there : (c : tie.After-e) → guid_place (start c.before.before).args.guid (held (start c.before.before).args.m.now).guids ≡ some c.e.given.0.0
-there c = sym c.before.before.find-guid.ensures ∙ ap entry c.e.given.1
+there : (c : tie.In-At-2) → guid_place (start c.before).args.guid (held (start c.before).args.m.now).guids ≡ some c.in-At.e
+there c = sym c.find_guid.ensures ∙ ap entry c.in-At.is
 
-asked : (c : tie.After-e) → GuidToChange (start c.before.before).args.m.now (start c.before.before).args.path.now c.e.given.0.0
+asked : (c : tie.In-At-2) → GuidToChange (start c.before).args.m.now (start c.before).args.path.now c.in-At.e
 asked c =
-    let s = start c.before.before in
-    found s.args.m.now s.args.guid s.args.path.now s.args.outer s.pre.0 (there c) s.pre.1
+    let s = start c.before in
+    found s.args.m.now s.args.guid s.args.path.now s.args.outer s.requires.0 (there c) s.requires.1
 
-returns : tie.Need-returns
+returns : tie.Need-returns-then-is_set
 returns c =
-    let e = c.before.before.before.before in
+    let e = c.before.before in
     let first = e.before.before in
     let s = start first in
-    set_same s.args.m.now s.args.guid s.args.path.now s.args.outer s.pre.0 (there e) (λ i. (first.before.before.before.slice-known.given i).fits) (sym c.if1.true ∙ c.before.is_set.ensures)
+    set_same s.args.m.now s.args.guid s.args.path.now s.args.outer s.requires.0 (there e) (λ i. (first.slice_known-1.given i).fits) (sym c.if-is_set.true ∙ c.is_set.ensures)
 
-change-guid-requires : tie.Need-change-guid-requires
+change-guid-requires : tie.Need-change_guid-requires
 change-guid-requires c κs =
     let is_set = c.before.before in
-    asked is_set.before.before.before
+    asked is_set.before
 
-add-guid-requires : tie.Need-add-guid-requires
+add-guid-requires : tie.Need-add_guid-requires
 add-guid-requires c κs =
-    let first = c.before.before.before in
+    let first = c.before.before in
     let p = (start first).requires in
-    record { good = p.0; is_text = p.1; new = sym first.find-guid.ensures ∙ ap entry c.before.enum_told.given.1 }
+    record { good = p.0; is_text = p.1; new = sym first.find_guid.ensures ∙ ap entry c.in-Nowhere.is }
 
-returns-2 : tie.Need-returns-2
+returns-2 : tie.Need-returns-else-is_set
 returns-2 c =
     let n = c.before.before in
     let other = n.before.before in
-    let e = other.before.before.before.before in
+    let e = other.before.before in
     let s = start e.before.before in
-    rw (set_other s.args.m.now s.args.guid s.args.path.now s.args.outer s.pre.0 (there e) (sym other.if1.false ∙ other.before.is_set.ensures)) n.change-guid.ensures
+    rw (set_other s.args.m.now s.args.guid s.args.path.now s.args.outer s.requires.0 (there e) (sym other.if-is_set.false ∙ other.is_set.ensures)) n.change_guid.ensures
 
-returns-3 : tie.Need-returns-3
+returns-3 : tie.Need-returns-in-Nowhere
 returns-3 c =
     let n = c.before.before in
     let told = n.before.before in
-    let first = told.before.before in
+    let first = told.before in
     let x = (start first).args in
-    rw (set_new x.m.now x.guid x.path.now x.outer (sym first.find-guid.ensures ∙ ap entry told.enum_told.given.1)) n.add-guid.ensures
+    rw (set_new x.m.now x.guid x.path.now x.outer (sym first.find_guid.ensures ∙ ap entry told.in-Nowhere.is)) n.add_guid.ensures
 
-pub set-net-guid-path-spec : {M : Type 1} → statement M
-set-net-guid-path-spec =
+pub set_net_guid_path_spec : {M : Type 1} → statement M
+set_net_guid_path_spec =
     tie.close
     (tie.spec
-    (λ c κs. search rules) (λ c. search rules) (λ c κs. asked c.before.before) (λ c. search rules) returns
+    (λ c κs. search rules) (λ c. search rules) (λ c κs. asked c) (λ c. search rules) returns
     change-guid-requires (λ c. search rules) add-guid-requires (λ c. search rules) returns-2 (λ c. search rules) returns-3)

@@ -5,17 +5,17 @@ use Rattle.vrf_table.proofs.Laws.Answers.{claim-one}
 use Rattle.vrf_cache.proofs.resolve.claimed.Statement.{statement}
 use Rattle.vrf_cache.proofs.resolve.claimed.Tie as tie
 
-returns : tie.Need-returns
+returns : tie.Need-returns-then-c-eq-ABSENT
 unfolding claim_or_next
-returns c = rw c.if1.true
+returns c = rw c.if-c-eq-ABSENT.true
 
-returns-2 : tie.Need-returns-2
+returns-2 : tie.Need-returns-then-c-eq-AMBIGUOUS
 unfolding claim_or_next
-returns-2 c = rw c.if2.true
+returns-2 c = rw c.if-c-eq-AMBIGUOUS.true
 
-returns-3 : tie.Need-returns-3
+returns-3 : tie.Need-returns
 unfolding claim_or_next
-returns-3 c = rw (claim-one c.before.before.args.c c.before.if1.false c.if2.false)
+returns-3 c = rw (claim-one c.args.c c.if-c-eq-ABSENT.false c.if-c-eq-AMBIGUOUS.false)
 
-pub claimed-spec : {M : Type 1} → statement M
-claimed-spec = tie.close (tie.spec returns returns-2 (λ c. search rules) returns-3)
+pub claimed_spec : {M : Type 1} → statement M
+claimed_spec = tie.close (tie.spec returns returns-2 (λ c. search rules) returns-3)

@@ -6,5 +6,5 @@ use Rattle.vrf_cache.proofs.resolve.decides.Tie as tie
 returns : tie.Need-returns
 returns c = decides-found c.args.c
 
-pub decides-spec : {M : Type 1} → statement M
-decides-spec = tie.close (tie.spec returns)
+pub decides_spec : {M : Type 1} → statement M
+decides_spec = tie.close (tie.spec returns)

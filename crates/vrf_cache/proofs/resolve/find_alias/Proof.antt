@@ -11,20 +11,20 @@ use Rattle.vrf_cache.proofs.resolve.find_alias.Statement.{statement}
 use Rattle.vrf_cache.proofs.resolve.find_alias.Tie as tie
 
 -- a key that is there is spelled by its bytes
-there : (c : tie.Else1) →
-    let x = c.before.before.before.before.args in
+there : (c : tie.Else-is_absent) →
+    let x = c.args in
     with_toggle (held x.m.now).groups (some (key_bytes x.path.now x.key)) ≡ with_toggle (held x.m.now).groups (spelled x.path.now x.key)
-there c = let x = c.before.before.before.before.args in ap (with_toggle (held x.m.now).groups) (sym (spelled-bytes x.path.now x.key (cc)))
+there c = let x = c.args in ap (with_toggle (held x.m.now).groups) (sym (spelled-bytes x.path.now x.key (cc)))
 
-returns : tie.Need-returns
+returns : tie.Need-returns-then-is_absent
 returns c =
-    let x = c.before.before.before.before.args in
+    let x = c.args in
     sym (toggle-none (held x.m.now).groups (spelled-absent x.path.now x.key (cc)))
 
-pub find-alias-spec : {M : Type 1} → statement M
-find-alias-spec =
+pub find_alias_spec : {M : Type 1} → statement M
+find_alias_spec =
     tie.close
     (tie.spec
     (λ c κs. search rules) returns (λ c κs. search rules) (λ c κs. search rules)
-    (λ c. c.find-short-alias.ensures ∙ there c.before.before.before) (λ c κs. search rules)
-    (λ c. c.find-long-alias.ensures ∙ there c.before.before.before))
+    (λ c. c.find_short_alias.ensures ∙ there c.before.before.before) (λ c κs. search rules)
+    (λ c. c.find_long_alias.ensures ∙ there c.before.before.before))

@@ -5,23 +5,23 @@ use Rattle.vrf_table.proofs.Laws.Spelled.{written-part}
 use Rattle.vrf_cache.proofs.resolve.find_alias_in.Statement.{statement}
 use Rattle.vrf_cache.proofs.resolve.find_alias_in.Tie as tie
 
-slice-aggregate-find-or-toggled : tie.Need-slice-aggregate-find-or-toggled
-slice-aggregate-find-or-toggled c = written-part c.before.before.before.spell.ensures
+slice-aggregate-find-or-toggled : tie.Need-slice_bounds-find_or_toggled-end-2
+slice-aggregate-find-or-toggled c = written-part c.spell-n.ensures
 
-find-or-toggled-requires : tie.Need-find-or-toggled-requires
+find-or-toggled-requires : tie.Need-find_or_toggled-requires
 find-or-toggled-requires c κs =
     let after-spell = c.before.before.before in
     let back = after-spell.before.before.before.before in
-    let start = back.before in
-    (start.requires.0, rw after-spell.spell.ensures.bytes (omega arith))
+    let start = back in
+    (start.requires.0, rw after-spell.spell-n.ensures.bytes (omega arith))
 
 returns : tie.Need-returns
 returns c =
-    let spelled = c.before.before.before.before.spell.ensures.bytes in
+    let spelled = c.spell-n.ensures.bytes in
     cc
 
-pub find-alias-in-spec : {M : Type 1} → statement M
-find-alias-in-spec =
+pub find_alias_in_spec : {M : Type 1} → statement M
+find_alias_in_spec =
     tie.close
     (tie.spec
     (λ c κs. search rules) (λ c. search rules) slice-aggregate-find-or-toggled find-or-toggled-requires

@@ -11,38 +11,38 @@ use Rattle.vrf_cache.proofs.resolve.find_aliases.Statement.{statement}
 use Rattle.vrf_cache.proofs.resolve.find_aliases.Tie as tie
 
 -- the function's entry state
-abbrev start : tie.After-default-object-alias → tie.Start
+abbrev start : tie.After-default_object_alias → tie.Start
 start c = c.before.before.before
 
-find-alias-requires : tie.Need-find-alias-requires
-find-alias-requires c κs = ((start c).requires.0, omega (arith, default-fits (start c).args.path.now c.default-object-alias.result c.default-object-alias.ensures.text))
+find-alias-requires : tie.Need-find_alias-requires
+find-alias-requires c κs = ((start c).requires.0, omega (arith, default-fits (start c).args.path.now c.default_object_alias.result c.default_object_alias.ensures.text))
 
-find-alias-requires-2 : tie.Need-find-alias-requires-2
+find-alias-requires-2 : tie.Need-find_alias-requires-in-Nowhere
 find-alias-requires-2 c κs =
-    let first = c.before.before.before in
+    let first = c.before.before in
     let s = start first.before in
-    (s.pre.0, omega (arith, core-fits s.args.path.now c.core-alias.result c.core-alias.ensures.text))
+    (s.requires.0, omega (arith, core-fits s.args.path.now c.core_alias.result c.core_alias.ensures.text))
 
-returns : tie.Need-returns
+returns : tie.Need-returns-in-At
 unfolding found_or_next
 returns c =
-    let first = c.before.before.before in
+    let first = c.before in
     let d = first.before in
     let x = (start d).args in
-    sym (alias-turn (held x.m.now).groups x.path.now d.default-object-alias.ensures.text (sym first.find-alias.ensures ∙ ap entry c.before.e.given.1))
+    sym (alias-turn (held x.m.now).groups x.path.now d.default_object_alias.ensures.text (sym first.find_alias.ensures ∙ ap entry c.in-At.is))
 
-returns-2 : tie.Need-returns-2
+returns-2 : tie.Need-returns-in-Nowhere
 unfolding found_or_next
 returns-2 c =
     let told = c.before.before in
-    let first = told.before.before in
+    let first = told.before in
     let x = (start first.before).args in
     let groups = (held x.m.now).groups in
-    let turn = alias-turn groups x.path.now first.before.default-object-alias.ensures.text (sym first.find-alias.ensures ∙ ap entry told.enum_told.given.1) in
-    c.find-alias2.ensures ∙ ap (with_toggle groups) c.before.core-alias.ensures.text ∙ sym turn
+    let turn = alias-turn groups x.path.now first.default_object_alias.ensures.text (sym first.find_alias.ensures ∙ ap entry told.in-Nowhere.is) in
+    c.find_alias-in-Nowhere.ensures ∙ ap (with_toggle groups) c.core_alias.ensures.text ∙ sym turn
 
-pub find-aliases-spec : {M : Type 1} → statement M
-find-aliases-spec =
+pub find_aliases_spec : {M : Type 1} → statement M
+find_aliases_spec =
     tie.close
     (tie.spec
     (λ c κs. search rules) find-alias-requires (λ c. search rules) (λ c. search rules) (λ c κs. search rules)

@@ -8,21 +8,21 @@ use Rattle.vrf_cache.proofs.Laws.Resolve.{keys-turn}
 use Rattle.vrf_cache.proofs.resolve.find_class_net_cache_key.Statement.{statement}
 use Rattle.vrf_cache.proofs.resolve.find_class_net_cache_key.Tie as tie
 
-returns : tie.Need-returns
+returns : tie.Need-returns-in-At
 unfolding found_or_next
 returns c =
-    let first = c.before.before.before in
-    let x = first.before.before.before.args in
-    sym (rw (sym first.find-or-toggled.ensures ∙ ap entry c.before.e.given.1) at (keys-turn (held x.m.now).groups x.path.now))
+    let first = c.before in
+    let x = first.args in
+    sym (rw (sym first.find_or_toggled.ensures ∙ ap entry c.in-At.is) at (keys-turn (held x.m.now).groups x.path.now))
 
-returns-2 : tie.Need-returns-2
+returns-2 : tie.Need-returns-in-Nowhere
 unfolding found_or_next
 returns-2 c =
-    let first = c.before.before.before in
-    let x = first.before.before.before.args in
-    c.find-aliases.ensures ∙ sym (rw (sym first.find-or-toggled.ensures ∙ ap entry c.before.enum_told.given.1) at (keys-turn (held x.m.now).groups x.path.now))
+    let first = c.before.before in
+    let x = first.args in
+    c.find_aliases.ensures ∙ sym (rw (sym first.find_or_toggled.ensures ∙ ap entry c.in-Nowhere.is) at (keys-turn (held x.m.now).groups x.path.now))
 
-pub find-class-net-cache-key-spec : {M : Type 1} → statement M
-find-class-net-cache-key-spec =
+pub find_class_net_cache_key_spec : {M : Type 1} → statement M
+find_class_net_cache_key_spec =
     tie.close
     (tie.spec (λ c κs. search rules) (λ c. search rules) (λ c. search rules) (λ c κs. search rules) returns returns-2)

@@ -6,26 +6,26 @@ use Rattle.vrf_table.proofs.Laws.Spelled.{written-part, written-within}
 use Rattle.vrf_cache.proofs.resolve.find_in.Statement.{statement}
 use Rattle.vrf_cache.proofs.resolve.find_in.Tie as tie
 
-slice-reshare-prefix-find-path-place : tie.Need-slice-reshare-prefix-find-path-place
-slice-reshare-prefix-find-path-place c = written-within c.before.before.join.ensures
+slice-reshare-prefix-find-path-place : tie.Need-slice_bounds-find_path_place-end
+slice-reshare-prefix-find-path-place c = written-within c.join-n.ensures
 
-slice-aggregate-find-path-place : tie.Need-slice-aggregate-find-path-place
-slice-aggregate-find-path-place c = written-part c.before.before.before.join.ensures
+slice-aggregate-find-path-place : tie.Need-slice_bounds-find_path_place-end-2
+slice-aggregate-find-path-place c = written-part c.join-n.ensures
 
-find-path-place-requires : tie.Need-find-path-place-requires
+find-path-place-requires : tie.Need-find_path_place-requires
 find-path-place-requires c κs =
     let after-join = c.before.before.before in
     let back = after-join.before.before.before.before in
-    let start = back.before.before in
-    (start.requires.0, rw (after-join.join.ensures.bytes, length-append) (omega arith))
+    let start = back.before in
+    (start.requires.0, rw (after-join.join-n.ensures.bytes, length-append) (omega arith))
 
 returns : tie.Need-returns
 returns c =
-    let joined = c.before.before.before.before.join.ensures.bytes in
+    let joined = c.join-n.ensures.bytes in
     cc
 
-pub find-in-spec : {M : Type 1} → statement M
-find-in-spec =
+pub find_in_spec : {M : Type 1} → statement M
+find_in_spec =
     tie.close
     (tie.spec
     (λ c κs. search rules) slice-reshare-prefix-find-path-place slice-aggregate-find-path-place find-path-place-requires

@@ -8,21 +8,21 @@ use Rattle.vrf_cache.proofs.Laws.Resolve.{toggle-turn}
 use Rattle.vrf_cache.proofs.resolve.find_or_toggled.Statement.{statement}
 use Rattle.vrf_cache.proofs.resolve.find_or_toggled.Tie as tie
 
-returns : tie.Need-returns
+returns : tie.Need-returns-in-At
 unfolding found_or_next
 returns c =
-    let first = c.before.before.before in
-    let x = first.before.before.before.args in
-    sym (rw (sym first.find-path-place.ensures ∙ ap entry c.before.e.given.1) at (toggle-turn (held x.m.now).groups x.key.now))
+    let first = c.before in
+    let x = first.args in
+    sym (rw (sym first.find_path_place.ensures ∙ ap entry c.in-At.is) at (toggle-turn (held x.m.now).groups x.key.now))
 
-returns-2 : tie.Need-returns-2
+returns-2 : tie.Need-returns-in-Nowhere
 unfolding found_or_next
 returns-2 c =
-    let first = c.before.before.before in
-    let x = first.before.before.before.args in
-    c.find-toggled.ensures ∙ sym (rw (sym first.find-path-place.ensures ∙ ap entry c.before.enum_told.given.1) at (toggle-turn (held x.m.now).groups x.key.now))
+    let first = c.before.before in
+    let x = first.args in
+    c.find_toggled.ensures ∙ sym (rw (sym first.find_path_place.ensures ∙ ap entry c.in-Nowhere.is) at (toggle-turn (held x.m.now).groups x.key.now))
 
-pub find-or-toggled-spec : {M : Type 1} → statement M
-find-or-toggled-spec =
+pub find_or_toggled_spec : {M : Type 1} → statement M
+find_or_toggled_spec =
     tie.close
     (tie.spec (λ c κs. search rules) (λ c. search rules) (λ c. search rules) (λ c κs. search rules) returns returns-2)

@@ -12,36 +12,34 @@ use Rattle.vrf_cache.proofs.resolve.find_toggled.Statement.{statement}
 use Rattle.vrf_cache.proofs.resolve.find_toggled.Tie as tie
 
 -- the function's entry state
-abbrev start : tie.After-toggle-class-net-cache → tie.Start
+abbrev start : tie.After-toggle_class_net_cache → tie.Start
 start c = c.before.before.before
 
 -- the key has the suffix
-stripped : (c : tie.After-n) →
+stripped : (c : tie.In-Stripped-2) →
     let key = (start c.before.before).args.key.now in
-    (toggle key ≡ some (take c.n.given.0.0 key)) × (c.n.given.0.0 ≤ length key)
-stripped c = rw c.n.given.1 at c.before.before.toggle-class-net-cache.ensures
+    (toggle key ≡ some (take c.in-Stripped.n key)) × (c.in-Stripped.n ≤ length key)
+stripped c = rw c.in-Stripped.is at c.toggle_class_net_cache.ensures
 
-returns : tie.Need-returns
+returns : tie.Need-returns-in-Stripped
 returns c =
-    let n = c.before.before.before in
-    c.find-path-place.ensures ∙ sym (path-alone (held (start n.before.before).args.m.now).groups (stripped n).0)
+    let n = c.before in
+    c.find_path_place.ensures ∙ sym (path-alone (held (start n.before.before).args.m.now).groups (stripped n).0)
 
-returns-2 : tie.Need-returns-2
+returns-2 : tie.Need-returns-in-Appended
 unfolding class_net_cache
 returns-2 c =
     let told = c.before.before in
-    let t = told.before.before in
-    c.find-joined.ensures ∙ sym (path-alone (held (start t).args.m.now).groups (rw told.enum_told.given.1 at t.toggle-class-net-cache.ensures))
+    let t = told.before in
+    c.find_joined.ensures ∙ sym (path-alone (held (start t).args.m.now).groups (rw told.in-Appended.is at t.toggle_class_net_cache.ensures))
 
-returns-3 : tie.Need-returns-3
+returns-3 : tie.Need-returns-in-Absent
 returns-3 c =
-    let t = c.before.before in
-    sym (path-missing (held (start t).args.m.now).groups (rw c.enum-told2.given.1 at t.toggle-class-net-cache.ensures))
+    let t = c.before in
+    sym (path-missing (held (start t).args.m.now).groups (rw c.in-Absent.is at t.toggle_class_net_cache.ensures))
 
-pub find-toggled-spec : {M : Type 1} → statement M
-find-toggled-spec =
+pub find_toggled_spec : {M : Type 1} → statement M
+find_toggled_spec =
     tie.close
     (tie.spec
-    (λ c κs. search rules) (λ c. search rules) (λ c. rw length-take (omega (arith, (stripped c.before.before).1)))
-    (λ c κs. let n = c.before.before in ((start n.before.before).requires.0, rw length-take (omega (arith, (stripped n).1))))
-    (λ c. search rules) (λ c. search rules) (λ c κs. search rules) (λ c. search rules) returns returns-2 returns-3)
+    (λ c κs. search rules) (λ c. search rules) (λ c. rw length-take (omega (arith, (stripped c).1))) (λ c κs. let n = c in ((start n.before.before).requires.0, rw length-take (omega (arith, (stripped n).1)))) (λ c. search rules) (λ c κs. search rules) (λ c. search rules) returns returns-2 returns-3)

@@ -13,68 +13,68 @@ use Rattle.vrf_cache.proofs.Laws.Resolve.{stem-decides, stem-passes, no-stems, s
 use Rattle.vrf_cache.proofs.resolve.resolve_cnc_for_instance_name.Statement.{statement}
 use Rattle.vrf_cache.proofs.resolve.resolve_cnc_for_instance_name.Tie as tie
 
-abbrev invariant-loop : tie.invariant-loop
+abbrev invariant-loop : tie.invariant-loop-stem
 invariant-loop m name stem₀ stem =
     (resolve_cnc name (held m).groups ≡ first_claim (held m).groups (stems_leaves (stems_from name stem))) × (stem_length stem ≤ length name)
 
-abbrev decreases-loop : tie.decreases-loop
+abbrev decreases-loop : tie.decreases-loop-stem
 decreases-loop m name stem₀ stem = length (stems_from name stem)
 
 -- the function's entry state, seen from the loop
-abbrev start : tie.Else1 invariant-loop decreases-loop → tie.Start invariant-loop decreases-loop
+abbrev start : tie.Else-has_path_separator invariant-loop decreases-loop → tie.Start invariant-loop decreases-loop
 start c = c.before.before.before.before
 
-abbrev begin : tie.At-loop invariant-loop decreases-loop → tie.Start invariant-loop decreases-loop
+abbrev begin : tie.At-loop-stem invariant-loop decreases-loop → tie.Start invariant-loop decreases-loop
 begin c = start c.before.before
 
-returns-2 : tie.Need-returns-2 invariant-loop decreases-loop
+returns-2 : tie.Need-returns-in-End invariant-loop decreases-loop
 returns-2 c =
-    let l = c.before.before in
-    sym (rw c.enum_told.given.1 at l.loop.invariant.0 ∙ no-stems (held (begin l).args.m.now).groups)
+    let l = c.before in
+    sym (rw c.in-End.is at l.loop-stem.invariant.0 ∙ no-stems (held (begin l).args.m.now).groups)
 
 slice-aggregate-try-cnc-leaf-candidates :
-    tie.Need-slice-aggregate-try-cnc-leaf-candidates invariant-loop decreases-loop
+    tie.Need-slice_bounds-try_cnc_leaf_candidates-end invariant-loop decreases-loop
 slice-aggregate-try-cnc-leaf-candidates c =
     let s = c.before.before in
-    let within = rw s.stem.given.1 at s.before.before.loop.invariant.1 in
+    let within = rw s.in-At.is at s.loop-stem.invariant.1 in
     rw length-take (omega (arith, within))
 
-try-cnc-leaf-candidates-requires : tie.Need-try-cnc-leaf-candidates-requires invariant-loop decreases-loop
+try-cnc-leaf-candidates-requires : tie.Need-try_cnc_leaf_candidates-c-requires invariant-loop decreases-loop
 try-cnc-leaf-candidates-requires c κs =
-    let s = c.before.before in
+    let s = c in
     let x = begin s.before.before in
-    (x.pre.0, separators-take s.stem.given.0.0 x.args.name.now (cc), rw length-take (omega arith))
+    (x.requires.0, separators-take s.in-At.len x.args.name.now (cc), rw length-take (omega arith))
 
-returns-3 : tie.Need-returns-3 invariant-loop decreases-loop
+returns-3 : tie.Need-returns-then-decides invariant-loop decreases-loop
 returns-3 c =
     let t = c.before.before.before in
-    let s = t.before.before.before in
+    let s = t.before in
     let l = s.before.before in
-    let rest = rw s.stem.given.1 at l.loop.invariant.0 in
-    c.claimed.ensures ∙ sym (stem-decides (held (begin l).args.m.now).groups _ _ rest t.try-cnc-leaf-candidates.ensures (cc))
+    let rest = rw s.in-At.is at l.loop-stem.invariant.0 in
+    c.claimed.ensures ∙ sym (stem-decides (held (begin l).args.m.now).groups _ _ rest t.try_cnc_leaf_candidates-c.ensures (cc))
 
-loop-less : tie.Need-loop-smaller invariant-loop decreases-loop
+loop-less : tie.Need-loop-stem-smaller invariant-loop decreases-loop
 loop-less c =
     let t = c.before.before.before in
-    let s = t.before.before.before in
-    stems-fewer (begin s.before.before).args.name.now c.next-stem.result s.stem.given.1 c.next-stem.ensures.stems
+    let s = t.before in
+    stems-fewer (begin s.before.before).args.name.now c.next_stem-stem.result s.in-At.is c.next_stem-stem.ensures.stems
 
-loop-again : tie.Need-loop-preserved invariant-loop decreases-loop
+loop-again : tie.Need-loop-stem-preserved invariant-loop decreases-loop
 loop-again c =
     let t = c.before.before.before in
-    let s = t.before.before.before in
+    let s = t.before in
     let l = s.before.before in
-    let rest = rw s.stem.given.1 at l.loop.invariant.0 in
-    (stem-passes (held (begin l).args.m.now).groups _ _ rest t.try-cnc-leaf-candidates.ensures (cc) c.next-stem.ensures.stems, c.next-stem.ensures.within)
+    let rest = rw s.in-At.is at l.loop-stem.invariant.0 in
+    (stem-passes (held (begin l).args.m.now).groups _ _ rest t.try_cnc_leaf_candidates-c.ensures (cc) c.next_stem-stem.ensures.stems, c.next_stem-stem.ensures.within)
 
-pub resolve-cnc-for-instance-name-spec : {M : Type 1} → statement M
-resolve-cnc-for-instance-name-spec =
+pub resolve_cnc_for_instance_name_spec : {M : Type 1} → statement M
+resolve_cnc_for_instance_name_spec =
     tie.close
     (tie.spec
     invariant-loop decreases-loop (λ c κs. search rules)
-    (λ c. let x = c.before.before.before.before.args in resolve-path x.name.now (held x.m.now).groups (cc))
+    (λ c. let x = c.args in resolve-path x.name.now (held x.m.now).groups (cc))
     (λ c κs. search rules)
-    (λ c. let x = (start c.before).args in (resolve-name x.name.now (held x.m.now).groups (cc) c.first-stem.ensures.stems, c.first-stem.ensures.within))
+    (λ c. let x = (start c.before).args in (resolve-name x.name.now (held x.m.now).groups (cc) c.first_stem-stem.ensures.stems, c.first_stem-stem.ensures.within))
     (λ c. search rules) returns-2 (λ c. search rules) slice-aggregate-try-cnc-leaf-candidates
     try-cnc-leaf-candidates-requires (λ c κs. search rules) (λ c κs. search rules) returns-3 (λ c κs. search rules)
     loop-less loop-again)

@@ -7,12 +7,12 @@ use Rattle.vrf_cache.proofs.Laws.Resolve.{stem-in-turn, stem-leaves}
 use Rattle.vrf_cache.proofs.resolve.try_cnc_leaf_candidates.Statement.{statement}
 use Rattle.vrf_cache.proofs.resolve.try_cnc_leaf_candidates.Tie as tie
 
-claim-of-requires : tie.Need-claim-of-requires
+claim-of-requires : tie.Need-claim_of-requires
 unfolding component underscore_c class_net_cache
 claim-of-requires c κs =
     let after-class-base = c.before.before.before in
     let s = after-class-base.before.before.before in
-    (s.requires.0, stem-leaves s.args.stem.now s.requires.1 s.requires.2 after-class-base.class-base.ensures)
+    (s.requires.0, stem-leaves s.args.stem.now s.requires.1 s.requires.2 after-class-base.class_base.ensures)
 
 returns : tie.Need-returns
 unfolding component underscore_c class_net_cache
@@ -20,10 +20,10 @@ returns c =
     let back = c.before.before.before.before in
     let start = back.before.before.before in
     let x = start.args in
-    stem-in-turn (held x.m.now).groups x.stem.now c.claim-of.ensures
+    stem-in-turn (held x.m.now).groups x.stem.now c.claim_of.ensures
 
-pub try-cnc-leaf-candidates-spec : {M : Type 1} → statement M
-try-cnc-leaf-candidates-spec =
+pub try_cnc_leaf_candidates_spec : {M : Type 1} → statement M
+try_cnc_leaf_candidates_spec =
     tie.close
     (tie.spec
-    (λ c κs. search rules) (λ c. search rules) (λ c. search rules) (λ c. search rules) claim-of-requires returns)
+    (λ c κs. search rules) claim-of-requires returns)

@@ -8,30 +8,27 @@ use Rattle.vrf_cache.proofs.resolve.unique_leaf_match.Statement.{statement}
 use Rattle.vrf_cache.proofs.resolve.unique_leaf_match.Tie as tie
 
 -- the function's entry state
-abbrev start : tie.Else1 → tie.Start
+abbrev start : tie.Else-has_path_separator → tie.Start
 start c = c.before.before.before.before
 
-claim-of-requires : tie.Need-claim-of-requires
+claim-of-requires : tie.Need-claim_of-requires
 unfolding component underscore_c
 claim-of-requires c κs =
     let base = c.before.before.before in
     let s = start base.before in
-    (s.pre.0, name-leaves s.args.name.now (cc) s.pre.1 base.leaf-base.ensures)
+    (s.requires.0, name-leaves s.args.name.now (cc) s.requires.1 base.leaf_base.ensures)
 
-returns-2 : tie.Need-returns-2
+returns-2 : tie.Need-returns
 unfolding component underscore_c
 returns-2 c =
     let claim = c.before in
     let base = claim.before.before.before.before in
     let x = (start base.before).args in
     let groups = (held x.m.now).groups in
-    c.claimed.ensures ∙ match-name x.name.now groups (cc) (name-in-turn groups x.name.now claim.claim-of.ensures)
+    c.claimed.ensures ∙ match-name x.name.now groups (cc) (name-in-turn groups x.name.now claim.claim_of.ensures)
 
-pub unique-leaf-match-spec : {M : Type 1} → statement M
-unique-leaf-match-spec =
+pub unique_leaf_match_spec : {M : Type 1} → statement M
+unique_leaf_match_spec =
     tie.close
     (tie.spec
-    (λ c κs. search rules)
-    (λ c. let x = c.before.before.before.before.args in match-path x.name.now (held x.m.now).groups (cc))
-    (λ c κs. search rules) (λ c. search rules) (λ c. search rules) (λ c. search rules) claim-of-requires
-    (λ c κs. search rules) returns-2)
+    (λ c κs. search rules) (λ c. let x = c.args in match-path x.name.now (held x.m.now).groups (cc)) (λ c κs. search rules) claim-of-requires (λ c κs. search rules) returns-2)

@@ -8,8 +8,8 @@ returns : tie.Need-returns
 returns c =
     let after-append-text = c.before.before in
     let after-make-space = after-append-text.before.before.before.before in
-    put_written after-make-space.make-space.ensures after-append-text.append-text.ensures
+    put_written after-make-space.make_space.ensures after-append-text.append_text.ensures
 
-pub keep-text-spec : {M : Type 1} → statement M
-keep-text-spec =
+pub keep_text_spec : {M : Type 1} → statement M
+keep_text_spec =
     tie.close (tie.spec (λ c. search rules) (λ c κs. search rules) (λ c κs. search rules) (λ c. search rules) returns)

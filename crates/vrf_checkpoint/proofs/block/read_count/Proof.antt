@@ -10,28 +10,28 @@ use Rattle.vrf_checkpoint.proofs.block.read_count.Statement.{statement}
 use Rattle.vrf_checkpoint.proofs.block.read_count.Tie as tie
 
 -- the function's entry state, and the word
-abbrev start : tie.After-read-u32 → tie.Start
+abbrev start : tie.After-read_u32 → tie.Start
 start c = c.before.before
 
-word : (c : tie.After-read-u32) {x : Word} → c.read_u32.result ≡ x → let a = (start c).args in WordAnswer a.s.now a.c (read_at a.s.now a.c word32) x
+word : (c : tie.After-read_u32) {x : Word} → c.read_u32.result ≡ x → let a = (start c).args in WordAnswer a.s.now a.c (read_at a.s.now a.c word32) x
 word c e = rw e at c.read_u32.ensures
 
-returns : tie.Need-returns
+returns : tie.Need-returns-then-top-n
 returns c =
-    let n = c.before.before in
-    let a = (start n.before.before).args in
-    (count-over (word n.before.before n.n.given.1) a.which a.top c.if1.true, tt)
+    let n = c.before in
+    let a = (start n.before).args in
+    (count-over (word n.before n.in-Value.is) a.which a.top c.if-top-n.true, tt)
 
-returns-2 : tie.Need-returns-2
-returns-2 c = let u = c.before.before.before in (count-refused (word u c.before.r.given.1) (start u).args.which (start u).args.top, tt)
+returns-2 : tie.Need-returns-in-Refused
+returns-2 c = let u = c.before in (count-refused (word u c.in-Refused.is) (start u).args.which (start u).args.top, tt)
 
-returns-3 : tie.Need-returns-3
+returns-3 : tie.Need-returns-else-top-n
 returns-3 c =
-    let n = c.before.before in
-    let a = (start n.before.before).args in
-    (count-read (word n.before.before n.n.given.1) a.which a.top (omega arith), omega arith)
+    let n = c.before in
+    let a = (start n.before).args in
+    (count-read (word n.before n.in-Value.is) a.which a.top (omega arith), omega arith)
 
-pub read-count-spec : {M : Type 1} → statement M
-read-count-spec =
+pub read_count_spec : {M : Type 1} → statement M
+read_count_spec =
     tie.close
     (tie.spec (λ c κs. search rules) (λ c. search rules) (λ c. search rules) (λ c. search rules) returns returns-2 returns-3)

@@ -4,11 +4,11 @@ use Rattle.vrf_checkpoint.proofs.Laws.Block.{end-missed, end-met}
 use Rattle.vrf_checkpoint.proofs.block.read_end.Statement.{statement}
 use Rattle.vrf_checkpoint.proofs.block.read_end.Tie as tie
 
-returns : tie.Need-returns
-returns c = λ s. end-missed s c.before.before.args.c c.before.before.args.w c.if1.true
+returns : tie.Need-returns-then-end-expected
+returns c = λ s. end-missed s c.args.c c.args.w c.if-end-expected.true
 
-returns-2 : tie.Need-returns-2
-returns-2 c = λ s. end-met s c.before.before.args.c c.before.before.args.w c.if1.false
+returns-2 : tie.Need-returns
+returns-2 c = λ s. end-met s c.args.c c.args.w c.if-end-expected.false
 
-pub read-end-spec : {M : Type 1} → statement M
-read-end-spec = tie.close (tie.spec (λ c. search rules) (λ c. search rules) (λ c. search rules) returns returns-2)
+pub read_end_spec : {M : Type 1} → statement M
+read_end_spec = tie.close (tie.spec (λ c. search rules) (λ c. search rules) (λ c. search rules) returns returns-2)

@@ -15,53 +15,53 @@ use Rattle.vrf_checkpoint.proofs.block.read_head.Statement.{statement}
 use Rattle.vrf_checkpoint.proofs.block.read_head.Tie as tie
 
 -- the places before
-abbrev start : tie.After-read-u32 → tie.Start
+abbrev start : tie.After-read_u32 → tie.Start
 start c = c.before.before
 
-abbrev width : tie.After-read-zeros → tie.After-w
-width c = c.before.before
+abbrev width : tie.After-read_zeros → tie.In-Value-2
+width c = c.before
 
-abbrev zeros : tie.After-read-count → tie.After-then
-zeros c = c.before.before
+abbrev zeros : tie.After-read_count → tie.In-To-2
+zeros c = c.before
 
 -- what the calls read
-word : (c : tie.After-read-u32) {x : Word} → c.read_u32.result ≡ x → let a = (start c).args in WordAnswer a.s.now a.c (read_at a.s.now a.c word32) x
+word : (c : tie.After-read_u32) {x : Word} → c.read_u32.result ≡ x → let a = (start c).args in WordAnswer a.s.now a.c (read_at a.s.now a.c word32) x
 word c e = rw e at c.read_u32.ensures
 
-first : (c : tie.After-w) →
+first : (c : tie.In-Value-2) →
     let a = (start c.before.before).args in
-    WordAnswer a.s.now a.c (read_at a.s.now a.c word32) (Value c.w.given.0.0 c.w.given.0.1.0)
-first c = word c.before.before c.w.given.1
+    WordAnswer a.s.now a.c (read_at a.s.now a.c word32) (Value c.in-Value.w c.in-Value.next)
+first c = word c.before.before c.in-Value.is
 
-zero : (c : tie.After-read-zeros) {x : Advanced} → c.read-zeros.result ≡ x → ZerosRead (start (width c).before.before).args.s.now (width c).w.given.0.1.0 x
-zero c e = rw e at c.read-zeros.ensures
+zero : (c : tie.After-read_zeros) {x : Advanced} → c.read_zeros.result ≡ x → ZerosRead (start (width c).before).args.s.now (width c).in-Value.next x
+zero c e = rw e at c.read_zeros.ensures
 
-count : (c : tie.After-read-count) {x : ReadNumber} → c.read_count.result ≡ x → RefinesReading (start (width (zeros c).before.before).before.before).args.s.now (count_up_to 1 1000000) (zeros c).then.given.0.0 (number_outcome x)
+count : (c : tie.After-read_count) {x : ReadNumber} → c.read_count.result ≡ x → RefinesReading (start (width (zeros c).before).before.before).args.s.now (count_up_to 1 1000000) (zeros c).in-To.then (number_outcome x)
 count c e = rw e at c.read_count.ensures.0
 
-returns : tie.Need-returns
-returns c = head-refused (word c.before.before.before c.before.r.given.1)
+returns : tie.Need-returns-in-Refused
+returns c = head-refused (word c.before c.in-Refused.is)
 
-returns-2 : tie.Need-returns-2
+returns-2 : tie.Need-returns-in-Refused-read_zeros
 returns-2 c =
-    let z = c.before.before.before in
-    head-not-zero (first (width z)) c.before.r2.given.0.0 (zero z c.before.r2.given.1)
+    let z = c.before in
+    head-not-zero (first (width z)) c.in-Refused-read_zeros.r (zero z c.in-Refused-read_zeros.is)
 
-returns-3 : tie.Need-returns-3
+returns-3 : tie.Need-returns-in-Refused-read_count
 returns-3 c =
-    let n = c.before.before.before in
-    let z = (zeros n).before.before in
-    head-no-count (first (width z)) (zero z (zeros n).then.given.1) (count n c.before.r3.given.1)
+    let n = c.before in
+    let z = (zeros n).before in
+    head-no-count (first (width z)) (zero z (zeros n).in-To.is) (count n c.in-Refused-read_count.is)
 
-returns-4 : tie.Need-returns-4
+returns-4 : tie.Need-returns-in-Of
 returns-4 c =
-    let n = c.before.before.before in
-    let z = (zeros n).before.before in
-    let e = c.before.guids.given.1 in
-    (head_read (first (width z)) (zero z (zeros n).then.given.1) (count n e), subst (UpTo 1000000) e n.read_count.ensures.1)
+    let n = c.before in
+    let z = (zeros n).before in
+    let e = c.in-Of.is in
+    (head_read (first (width z)) (zero z (zeros n).in-To.is) (count n e), subst (UpTo 1000000) e n.read_count.ensures.1)
 
-pub read-head-spec : {M : Type 1} → statement M
-read-head-spec =
+pub read_head_spec : {M : Type 1} → statement M
+read_head_spec =
     tie.close
     (tie.spec
     (λ c κs. search rules) (λ c. search rules) (λ c. search rules) (λ c κs. search rules) (λ c. search rules)

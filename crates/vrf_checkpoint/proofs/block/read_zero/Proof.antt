@@ -9,26 +9,26 @@ use Rattle.vrf_checkpoint.proofs.block.read_zero.Statement.{statement}
 use Rattle.vrf_checkpoint.proofs.block.read_zero.Tie as tie
 
 -- the function's entry state, and the word
-abbrev start : tie.After-read-u32 → tie.Start
+abbrev start : tie.After-read_u32 → tie.Start
 start c = c.before.before
 
-word : (c : tie.After-read-u32) {x : Word} → c.read_u32.result ≡ x → let a = (start c).args in WordAnswer a.s.now a.c (read_at a.s.now a.c word32) x
+word : (c : tie.After-read_u32) {x : Word} → c.read_u32.result ≡ x → let a = (start c).args in WordAnswer a.s.now a.c (read_at a.s.now a.c word32) x
 word c e = rw e at c.read_u32.ensures
 
-returns : tie.Need-returns
+returns : tie.Need-returns-then-w-ne0
 returns c =
-    let w = c.before.before in
-    zero-set (word w.before.before w.w.given.1) (start w.before.before).args.at c.if1.true
+    let w = c.before in
+    zero-set (word w.before w.in-Value.is) (start w.before).args.at c.if-w-ne0.true
 
-returns-2 : tie.Need-returns-2
-returns-2 c = let u = c.before.before.before in zero-refused (word u c.before.r.given.1) (start u).args.at
+returns-2 : tie.Need-returns-in-Refused
+returns-2 c = let u = c.before in zero-refused (word u c.in-Refused.is) (start u).args.at
 
-returns-3 : tie.Need-returns-3
+returns-3 : tie.Need-returns-else-w-ne0
 returns-3 c =
-    let w = c.before.before in
-    zero-read (word w.before.before w.w.given.1) (start w.before.before).args.at c.if1.false
+    let w = c.before in
+    zero-read (word w.before w.in-Value.is) (start w.before).args.at c.if-w-ne0.false
 
-pub read-zero-spec : {M : Type 1} → statement M
-read-zero-spec =
+pub read_zero_spec : {M : Type 1} → statement M
+read_zero_spec =
     tie.close
     (tie.spec (λ c κs. search rules) (λ c. search rules) (λ c. search rules) (λ c. search rules) returns returns-2 returns-3)

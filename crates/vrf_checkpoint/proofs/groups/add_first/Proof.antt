@@ -9,26 +9,26 @@ use Rattle.vrf_checkpoint.proofs.groups.add_first.Statement.{statement}
 use Rattle.vrf_checkpoint.proofs.groups.add_first.Tie as tie
 
 -- the function's entry state
-abbrev start : tie.After-is-found → tie.Start
-start c = c.before.before.before.before
+abbrev start : tie.After-is_found → tie.Start
+start c = c.before.before.before
 
-returns : tie.Need-returns
-returns c = let a = (start c.before).args in already a.path.now a.index a.slots a.m.now c.before.is_found.ensures c.if1.true
+returns : tie.Need-returns-then-is_found
+returns c = let a = (start c.before).args in already a.path.now a.index a.slots a.m.now c.is_found.ensures c.if-is_found.true
 
-append-group-requires : tie.Need-append-group-requires
+append-group-requires : tie.Need-append_group-requires
 append-group-requires c κs =
     let e = c.before in
     let s = start e.before in
-    first-asked s.args.path.now s.args.index s.args.slots s.args.m.now e.before.is_found.ensures e.if1.false s.pre.0 s.pre.1 s.pre.2
+    first-asked s.args.path.now s.args.index s.args.slots s.args.m.now e.is_found.ensures e.if-is_found.false s.requires.0 s.requires.1 s.requires.2
 
-returns-2 : tie.Need-returns-2
+returns-2 : tie.Need-returns
 returns-2 c =
     let call = c.before.before in
     let e = call.before.before in
     let a = (start e.before).args in
-    subst (λ (s : Step ℕ). AddedBy s a.m.now call.append-group.new.0 call.append-group.result) (sym (first-added a.path.now a.index a.slots a.m.now e.before.is_found.ensures e.if1.false)) call.append-group.ensures
+    subst (λ (s : Step ℕ). AddedBy s a.m.now call.append_group.new.m call.append_group.result) (sym (first-added a.path.now a.index a.slots a.m.now e.is_found.ensures e.if-is_found.false)) call.append_group.ensures
 
-pub add-first-spec : {M : Type 1} → statement M
-add-first-spec =
+pub add_first_spec : {M : Type 1} → statement M
+add_first_spec =
     tie.close
     (tie.spec (λ c κs. search rules) (λ c. search rules) returns append-group-requires (λ c. search rules) returns-2)

@@ -6,23 +6,23 @@ use Rattle.vrf_checkpoint.proofs.Laws.Groups.{index-found, path-found, none_foun
 use Rattle.vrf_checkpoint.proofs.groups.is_found.Statement.{statement}
 use Rattle.vrf_checkpoint.proofs.groups.is_found.Tie as tie
 
-returns : tie.Need-returns
-returns c = index-found _ _ (sym (ap entry c.enum_told.given.1) ∙ c.before.before.find-index.ensures)
+returns : tie.Need-returns-in-At
+returns c = index-found _ _ (sym (ap entry c.in-At.is) ∙ c.find_index.ensures)
 
-returns-2 : tie.Need-returns-2
+returns-2 : tie.Need-returns-in-At-find_path_place
 returns-2 c =
-    let call = c.before.before in
+    let call = c.before in
     let t = call.before in
-    path-found _ _ (sym (ap entry t.enum-told2.given.1) ∙ t.before.before.find-index.ensures) (sym (ap entry c.enum-told3.given.1) ∙ call.find-path-place.ensures)
+    path-found _ _ (sym (ap entry t.in-Nowhere.is) ∙ t.find_index.ensures) (sym (ap entry c.in-At-find_path_place.is) ∙ call.find_path_place.ensures)
 
-returns-3 : tie.Need-returns-3
+returns-3 : tie.Need-returns-in-Nowhere-find_path_place
 returns-3 c =
-    let call = c.before.before in
+    let call = c.before in
     let t = call.before in
-    none_found _ _ (sym (ap entry t.enum-told2.given.1) ∙ t.before.before.find-index.ensures) (sym (ap entry c.enum-told4.given.1) ∙ call.find-path-place.ensures)
+    none_found _ _ (sym (ap entry t.in-Nowhere.is) ∙ t.find_index.ensures) (sym (ap entry c.in-Nowhere-find_path_place.is) ∙ call.find_path_place.ensures)
 
-pub is-found-spec : {M : Type 1} → statement M
-is-found-spec =
+pub is_found_spec : {M : Type 1} → statement M
+is_found_spec =
     tie.close
     (tie.spec
     (λ c κs. search rules) (λ c. search rules) (λ c. search rules) (λ c κs. search rules) (λ c. search rules)

@@ -5,49 +5,49 @@ use Rattle.vrf_checkpoint.proofs.groups.read_declared.Statement.{statement}
 use Rattle.vrf_checkpoint.proofs.groups.read_declared.Tie as tie
 
 -- the function's entry state
-abbrev start : tie.After-read-int-packed → tie.Start
+abbrev start : tie.After-read_int_packed → tie.Start
 start c = c.before.before.before.before
 
-returns : tie.Need-returns
+returns : tie.Need-returns-then-slots-gt65536
 returns c =
-    let n = c.before.before in
-    let w = n.before.before in
-    let i = w.before.before in
-    too_many _ (start i.before.before).requires.0 (rw i.index.given.1 at i.before.before.read-int-packed.ensures) (rw n.slots.given.1 at w.read-int-packed2.ensures) c.if1.true
+    let n = c.before in
+    let w = n.before in
+    let i = w.before in
+    too_many _ (start i.before).requires.0 (rw i.in-Value.is at i.read_int_packed.ensures) (rw n.in-Value-read_int_packed.is at w.read_int_packed-in-Value.ensures) c.if-slots-gt65536.true
 
-returns-2 : tie.Need-returns-2
+returns-2 : tie.Need-returns-in-Refused
 returns-2 c =
-    let r = c.before in
-    no_index _ (start r.before.before).requires.0 r.r.given.0.0 (rw r.r.given.1 at r.before.before.read-int-packed.ensures)
+    let r = c in
+    no_index _ (start r.before).requires.0 r.in-Refused.r (rw r.in-Refused.is at r.read_int_packed.ensures)
 
-returns-3 : tie.Need-returns-3
+returns-3 : tie.Need-returns-in-Refused-read_int_packed
 returns-3 c =
-    let r = c.before in
-    let w = r.before.before in
-    let i = w.before.before in
-    no-count _ (start i.before.before).requires.0 (rw i.index.given.1 at i.before.before.read-int-packed.ensures) r.r2.given.0.0 (rw r.r2.given.1 at w.read-int-packed2.ensures)
+    let r = c in
+    let w = r.before in
+    let i = w.before in
+    no-count _ (start i.before).requires.0 (rw i.in-Value.is at i.read_int_packed.ensures) r.in-Refused-read_int_packed.r (rw r.in-Refused-read_int_packed.is at w.read_int_packed-in-Value.ensures)
 
-returns-4 : tie.Need-returns-4
+returns-4 : tie.Need-returns-in-Refused-add_first
 returns-4 c =
-    let r = c.before in
-    let add = r.before.before.before.before in
+    let r = c in
+    let add = r.before.before.before in
     let e = add.before.before in
-    let n = e.before.before in
-    let w = n.before.before in
-    let i = w.before.before in
-    not-added _ (start i.before.before).requires.0 (rw i.index.given.1 at i.before.before.read-int-packed.ensures) (rw n.slots.given.1 at w.read-int-packed2.ensures) e.if1.false r.r3.given.0.0 (rw r.r3.given.1 at add.add-first.ensures)
+    let n = e.before in
+    let w = n.before in
+    let i = w.before in
+    not-added _ (start i.before).requires.0 (rw i.in-Value.is at i.read_int_packed.ensures) (rw n.in-Value-read_int_packed.is at w.read_int_packed-in-Value.ensures) e.if-slots-gt65536.false r.in-Refused-add_first.r (rw r.in-Refused-add_first.is at add.add_first.ensures)
 
-returns-5 : tie.Need-returns-5
+returns-5 : tie.Need-returns-in-At
 returns-5 c =
-    let add = c.before.before.before.before in
+    let add = c.before.before.before in
     let e = add.before.before in
-    let n = e.before.before in
-    let w = n.before.before in
-    let i = w.before.before in
-    (added _ (start i.before.before).requires.0 (rw i.index.given.1 at i.before.before.read-int-packed.ensures) (rw n.slots.given.1 at w.read-int-packed2.ensures) e.if1.false (rw c.enum_told.given.1 at add.add-first.ensures), e.if1.false)
+    let n = e.before in
+    let w = n.before in
+    let i = w.before in
+    (added _ (start i.before).requires.0 (rw i.in-Value.is at i.read_int_packed.ensures) (rw n.in-Value-read_int_packed.is at w.read_int_packed-in-Value.ensures) e.if-slots-gt65536.false (rw c.in-At.is at add.add_first.ensures), e.if-slots-gt65536.false)
 
-pub read-declared-spec : {M : Type 1} → statement M
-read-declared-spec =
+pub read_declared_spec : {M : Type 1} → statement M
+read_declared_spec =
     tie.close
     (tie.spec
     (λ c κs. search rules) (λ c. search rules) (λ c. search rules) (λ c κs. search rules) (λ c. search rules)

@@ -10,45 +10,45 @@ use Rattle.vrf_checkpoint.proofs.groups.read_field.Statement.{statement}
 use Rattle.vrf_checkpoint.proofs.groups.read_field.Tie as tie
 
 -- the places before
-abbrev start : tie.After-read-int-packed → tie.Start
+abbrev start : tie.After-read_int_packed → tie.Start
 start c = c.before.before.before.before
 
-abbrev read : tie.After-handle → tie.After-read-int-packed
-read c = c.before.before
+abbrev read : tie.In-Value-2 → tie.After-read_int_packed
+read c = c.before
 
-abbrev same : tie.After-named-field → tie.Else1
+abbrev same : tie.After-named_field → tie.Else-handle-slot
 same c = c.before.before.before
 
-word : (c : tie.After-read-int-packed) {x : Word} → c.read-int-packed.result ≡ x → let a = (start c).args in WordAnswer a.s.now a.c (read_at a.s.now a.c packed) x
-word c e = rw e at c.read-int-packed.ensures
+word : (c : tie.After-read_int_packed) {x : Word} → c.read_int_packed.result ≡ x → let a = (start c).args in WordAnswer a.s.now a.c (read_at a.s.now a.c packed) x
+word c e = rw e at c.read_int_packed.ensures
 
-returns : tie.Need-returns
-returns c = let h = c.before.before in other-handle _ _ (start (read h)).requires.0 (word (read h) h.handle.given.1) c.if1.true
+returns : tie.Need-returns-then-handle-slot
+returns c = let h = c.before in other-handle _ _ (start (read h)).requires.0 (word (read h) h.in-Value.is) c.if-handle-slot.true
 
-returns-2 : tie.Need-returns-2
+returns-2 : tie.Need-returns-in-Refused
 returns-2 c =
-    let r = c.before in
-    let w = r.before.before in
-    no-handle _ _ (start w).requires.0 r.r.given.0.0 (word w r.r.given.1)
+    let r = c in
+    let w = r.before in
+    no-handle _ _ (start w).requires.0 r.in-Refused.r (word w r.in-Refused.is)
 
-returns-3 : tie.Need-returns-3
+returns-3 : tie.Need-returns-in-Refused-named_field
 returns-3 c =
-    let r = c.before in
-    let known = r.before.before in
+    let r = c in
+    let known = r.before in
     let f = known.before.before.before.before in
-    let h = (same f).before.before in
-    field-refused _ _ (start (read h)).requires.0 (word (read h) h.handle.given.1) (same f).if1.false r.r2.given.0.0 (rw r.r2.given.1 at f.named-field.ensures)
+    let h = (same f).before in
+    field-refused _ _ (start (read h)).requires.0 (word (read h) h.in-Value.is) (same f).if-handle-slot.false r.in-Refused-named_field.r (rw r.in-Refused-named_field.is at f.named_field.ensures)
 
-returns-4 : tie.Need-returns-4
+returns-4 : tie.Need-returns-in-To
 returns-4 c =
-    let e = c.before in
-    let known = e.before.before in
+    let e = c in
+    let known = e.before in
     let f = known.before.before.before.before in
-    let h = (same f).before.before in
-    (field-read _ _ (start (read h)).requires.0 (word (read h) h.handle.given.1) (same f).if1.false (rw e.end.given.1 at f.named-field.ensures), omega (arith, c))
+    let h = (same f).before in
+    (field-read _ _ (start (read h)).requires.0 (word (read h) h.in-Value.is) (same f).if-handle-slot.false (rw e.in-To.is at f.named_field.ensures), omega (arith, c))
 
-pub read-field-spec : {M : Type 1} → statement M
-read-field-spec =
+pub read_field_spec : {M : Type 1} → statement M
+read_field_spec =
     tie.close
     (tie.spec
     (λ c κs. search rules) (λ c. search rules) (λ c. search rules) (λ c. search rules) returns (λ c κs. search rules)

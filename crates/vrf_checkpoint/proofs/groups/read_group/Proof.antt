@@ -12,60 +12,60 @@ use Rattle.vrf_checkpoint.proofs.groups.read_group.Statement.{statement}
 use Rattle.vrf_checkpoint.proofs.groups.read_group.Tie as tie
 
 -- the places before, and the path
-abbrev start : tie.After-read-text → tie.Start
+abbrev start : tie.After-read_text → tie.Start
 start c =
     let known = c.before.before in
     known.before.before.before
 
-abbrev text : tie.After-slice-known3 → tie.After-read-text
+abbrev text : tie.After-slice_known-3-1 → tie.After-read_text
 text c = c.before.before
 
-abbrev named : tie.After-read-declared → tie.After-n
-named c = c.before.before.before.before
+abbrev named : tie.After-read_declared → tie.In-Read-2
+named c = c.before.before
 
-path : (c : tie.After-n) →
+path : (c : tie.In-Read-2) →
     let t = text c.before.before in
     let a = (start t).args in
-    TextIn a.s.now a.c (read_at a.s.now a.c fstring) t.read-text.last.1.1.0 (Read c.n.given.0.0 c.n.given.0.1.0)
-path c = rw c.n.given.1 at c.before.before.before.before.read-text.ensures
+    TextIn a.s.now a.c (read_at a.s.now a.c fstring) t.read_text.last.1.1.0 (Read c.in-Read.n c.in-Read.next)
+path c = rw c.in-Read.is at c.read_text.ensures
 
-read-declared-requires : tie.Need-read-declared-requires
+read-declared-requires : tie.Need-read_declared-requires
 read-declared-requires c κs =
-    let n = c.before.before.before in
+    let n = c.before in
     ((start (text n.before.before)).requires.0, scratch-text fstring-reads (path n))
 
-read-slots-requires : tie.Need-read-slots-requires
+read-slots-requires : tie.Need-read_slots-requires
 read-slots-requires c κs =
-    let i = c.before.before.before in
-    let d = i.before.before.before.before in
-    let t = text (named d).before.before in
-    let g = rw i.index.given.1 at d.read-declared.ensures in
-    (g.0.good, omega (arith, t.read-text.kept.1.1.0, (start t).pre.1), g.1)
+    let i = c.before.before in
+    let d = i.before.before.before in
+    let t = text (named d).before in
+    let g = rw i.in-Slots.is at d.read_declared.ensures in
+    (g.0.good, omega (arith, t.read_text.kept.1.1.0, (start t).requires.1), g.1)
 
-returns : tie.Need-returns
+returns : tie.Need-returns-in-Refused
 returns c =
-    let r = c.before in
-    let t = r.before.before.before.before in
-    no-path (start t).requires.0 r.r.given.0.0 (rw r.r.given.1 at t.read-text.ensures)
+    let r = c in
+    let t = r.before.before.before in
+    no-path (start t).requires.0 r.in-Refused.r (rw r.in-Refused.is at t.read_text.ensures)
 
-returns-2 : tie.Need-returns-2
+returns-2 : tie.Need-returns-in-Refused-read_declared
 returns-2 c =
-    let r = c.before in
-    let d = r.before.before.before.before in
-    group-refused (start (text (named d).before.before)).requires.0 (path (named d)) r.r2.given.0.0 (rw r.r2.given.1 at d.read-declared.ensures)
+    let r = c in
+    let d = r.before.before.before in
+    group-refused (start (text (named d).before)).requires.0 (path (named d)) r.in-Refused-read_declared.r (rw r.in-Refused-read_declared.is at d.read_declared.ensures)
 
-returns-3 : tie.Need-returns-3
+returns-3 : tie.Need-returns-in-Slots
 returns-3 c =
     let slots = c.before.before.before.before in
-    let i = slots.before.before.before.before in
-    let d = i.before.before.before.before in
-    group-then (start (text (named d).before.before)).requires.0 (path (named d)) i.index.given.0.0 i.index.given.0.1.0 (rw i.index.given.1 at d.read-declared.ensures).0 slots.read-slots.new.1.1.0 slots.read-slots.result slots.read-slots.ensures
+    let i = slots.before.before.before in
+    let d = i.before.before.before in
+    group-then (start (text (named d).before)).requires.0 (path (named d)) i.in-Slots.index i.in-Slots.slots (rw i.in-Slots.is at d.read_declared.ensures).0 slots.read_slots.new.scratch.1.0 slots.read_slots.result slots.read_slots.ensures
 
-pub read-group-spec : {M : Type 1} → statement M
-read-group-spec =
+pub read_group_spec : {M : Type 1} → statement M
+read_group_spec =
     tie.close
     (tie.spec
     (λ c κs. search rules) (λ c. search rules) (λ c. search rules) (λ c. search rules)
-    (λ c. (path c.before.before).fits)
-    (λ c. scratch-length (path c.before.before.before)) read-declared-requires (λ c. search rules) (λ c. search rules) read-slots-requires (λ c. search rules) returns (λ c. search rules) (λ c. search rules)
+    (λ c. (path c.before).fits)
+    (λ c. scratch-length (path c.before)) read-declared-requires (λ c. search rules) (λ c. search rules) read-slots-requires (λ c. search rules) returns (λ c. search rules) (λ c. search rules)
     returns-2 (λ c. search rules) (λ c. search rules) returns-3)

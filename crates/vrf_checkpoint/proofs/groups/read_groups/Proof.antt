@@ -21,51 +21,51 @@ decreases-loop s m₀ scratch₀ n at₀ fields₀ counter₀ m scratch at field
 abbrev start : tie.At-loop invariant-loop decreases-loop → tie.Start invariant-loop decreases-loop
 start c = c.before.before.before.before
 
-abbrev turn : tie.After-slice-known4 invariant-loop decreases-loop → tie.After-read-group invariant-loop decreases-loop
+abbrev turn : tie.After-slice_known-in-loop-2-1 invariant-loop decreases-loop → tie.After-read_group invariant-loop decreases-loop
 turn c = c.before.before.before.before
 
-abbrev test : tie.After-read-group invariant-loop decreases-loop → tie.In-loop invariant-loop decreases-loop
+abbrev test : tie.After-read_group invariant-loop decreases-loop → tie.In-loop invariant-loop decreases-loop
 test c = c.before.before.before
 
-sum : (c : tie.After-read-group invariant-loop decreases-loop) {x : Fields} → c.read-group.result ≡ x →
-    let l = (test c).before.loop in
+sum : (c : tie.After-read_group invariant-loop decreases-loop) {x : Fields} → c.read_group.result ≡ x →
+    let l = (test c).loop in
     let a = (start (test c).before).args in
-    CountReads a.s.now block_group l.at l.m c.read-group.new.1.1.0 65536 x
-sum c e = rw e at c.read-group.ensures
+    CountReads a.s.now block_group l.at l.m-1 c.read_group.new.scratch.1.0 65536 x
+sum c e = rw e at c.read_group.ensures
 
 loop-holds : tie.Need-loop-init invariant-loop decreases-loop
-loop-holds c = (none_read c.before.before.before.requires.0, omega arith, refl)
+loop-holds c = (none_read c.requires.0, omega arith, refl)
 
-read-group-requires : tie.Need-read-group-requires invariant-loop decreases-loop
+read-group-requires : tie.Need-read_group-requires invariant-loop decreases-loop
 read-group-requires c κs = let at-loop = c.before.before.before in (at-loop.loop.invariant.0.simulates.good, omega (arith, at-loop.loop.invariant.2))
 
-returns : tie.Need-returns invariant-loop decreases-loop
+returns : tie.Need-returns-in-Refused invariant-loop decreases-loop
 returns c =
-    let x = turn c.before.before.before in
-    one-refused (test x).before.loop.inv.0 (test x).loop-test.taken c.before.r.given.0.0 (sum x c.before.r.given.1)
+    let x = turn c.before in
+    one-refused (test x).loop.inv.0 (test x).loop-test.taken c.in-Refused.r (sum x c.in-Refused.is)
 
-add-fields : tie.Need-overflow-add-fields invariant-loop decreases-loop
+add-fields : tie.Need-overflow_add-fields invariant-loop decreases-loop
 add-fields c =
-    let x = turn c.before.before.before in
+    let x = turn c.before in
     let l = (test x).before in
-    omega (arith, l.loop.inv.1, l.loop.inv.0.below, (start l).pre.2, (sum x c.before.more.given.1).1)
+    omega (arith, l.loop.inv.1, l.loop.inv.0.below, (start l).requires.2, (sum x c.in-Read.is).1)
 
 loop-again : tie.Need-loop-preserved invariant-loop decreases-loop
 loop-again c =
-    let x = turn c.before.before.before in
-    let i = (test x).before.loop.inv in
-    let more = sum x c.before.more.given.1 in
-    (one-read i.0 (test x).loop-test.taken _ more.0, omega (arith, i.1, more.1), x.read-group.kept.1.1.1.0 ∙ i.2)
+    let x = turn c.before in
+    let i = (test x).loop.inv in
+    let more = sum x c.in-Read.is in
+    (one-read i.0 (test x).loop-test.taken _ more.0, omega (arith, i.1, more.1), x.read_group.kept.1.1.1.0 ∙ i.2)
 
-returns-2 : tie.Need-returns-2 invariant-loop decreases-loop
-returns-2 c = (all_read c.before.loop.invariant.0 c.loop-test.false, omega (arith, c.before.loop.invariant.1, c.before.loop.invariant.0.below))
+returns-2 : tie.Need-returns invariant-loop decreases-loop
+returns-2 c = (all_read c.loop.invariant.0 c.loop-test.false, omega (arith, c.loop.invariant.1, c.loop.invariant.0.below))
 
-pub read-groups-spec : {M : Type 1} → statement M
-read-groups-spec =
+pub read_groups_spec : {M : Type 1} → statement M
+read_groups_spec =
     tie.close
     (tie.spec
     invariant-loop decreases-loop loop-holds read-group-requires (λ c. search rules)
-    (λ c. let x = turn c.before.before.before in x.read-group.kept.1.1.0 ∙ (test x).before.loop.inv.0.simulates.long)
-    (λ c. let x = turn c.before.before.before in x.read-group.kept.1.1.1.0 ∙ (test x).before.loop.inv.2) returns
-    (λ c. search rules) add-fields (λ c. omega arith) (λ c. omega arith) loop-again (λ c. c.before.loop.invariant.0.simulates.long)
-    (λ c. c.before.loop.invariant.2) returns-2)
+    (λ c. let x = turn c.before in x.read_group.kept.1.1.0 ∙ (test x).loop.inv.0.simulates.long)
+    (λ c. let x = turn c.before in x.read_group.kept.1.1.1.0 ∙ (test x).loop.inv.2) returns
+    (λ c. search rules) add-fields (λ c. omega arith) (λ c. omega arith) loop-again (λ c. c.loop.invariant.0.simulates.long)
+    (λ c. c.loop.invariant.2) returns-2)

@@ -11,64 +11,64 @@ use Rattle.vrf_checkpoint.proofs.Laws.Sums.{SumLeft, none_read, one-read, one-re
 use Rattle.vrf_checkpoint.proofs.groups.read_slots.Statement.{statement}
 use Rattle.vrf_checkpoint.proofs.groups.read_slots.Tie as tie
 
-abbrev invariant-loop : tie.invariant-loop
+abbrev invariant-loop : tie.invariant-loop-slot
 invariant-loop s m₀ scratch₀ index slots at₀ filled₀ slot₀ m scratch at filled slot = SumLeft s (block_slot index) slots at₀ m₀ slot at m filled × (filled ≤ slot) × (length scratch ≡ length scratch₀)
 
-abbrev decreases-loop : tie.decreases-loop
+abbrev decreases-loop : tie.decreases-loop-slot
 decreases-loop s m₀ scratch₀ index slots at₀ filled₀ slot₀ m scratch at filled slot = slots - slot
 
 -- the places before, and what a turn reads
-abbrev start : tie.At-loop invariant-loop decreases-loop → tie.Start invariant-loop decreases-loop
+abbrev start : tie.At-loop-slot invariant-loop decreases-loop → tie.Start invariant-loop decreases-loop
 start c = c.before.before.before.before
 
-abbrev turn : tie.After-slice-known4 invariant-loop decreases-loop → tie.After-read-slot invariant-loop decreases-loop
+abbrev turn : tie.After-slice_known-in-loop-slot-2-1 invariant-loop decreases-loop → tie.After-read_slot invariant-loop decreases-loop
 turn c = c.before.before.before.before
 
-abbrev test : tie.After-read-slot invariant-loop decreases-loop → tie.In-loop invariant-loop decreases-loop
+abbrev test : tie.After-read_slot invariant-loop decreases-loop → tie.In-loop-slot invariant-loop decreases-loop
 test c = c.before.before.before
 
-sum : (c : tie.After-read-slot invariant-loop decreases-loop) {x : Fields} → c.read-slot.result ≡ x →
-    let l = (test c).before.loop in
+sum : (c : tie.After-read_slot invariant-loop decreases-loop) {x : Fields} → c.read_slot.result ≡ x →
+    let l = (test c).loop-slot in
     let a = (start (test c).before).args in
-    CountReads a.s.now (block_slot a.index l.slot) l.at l.m c.read-slot.new.1.1.0 1 x
-sum c e = rw e at c.read-slot.ensures
+    CountReads a.s.now (block_slot a.index l.slot) l.at l.m-1 c.read_slot.new.scratch.1.0 1 x
+sum c e = rw e at c.read_slot.ensures
 
-loop-holds : tie.Need-loop-init invariant-loop decreases-loop
-loop-holds c = (none_read c.before.before.before.requires.0, omega arith, refl)
+loop-holds : tie.Need-loop-slot-init invariant-loop decreases-loop
+loop-holds c = (none_read c.requires.0, omega arith, refl)
 
-read-slot-requires : tie.Need-read-slot-requires invariant-loop decreases-loop
-read-slot-requires c κs = let at-loop = c.before.before.before in (at-loop.loop.invariant.0.simulates.good, omega (arith, at-loop.loop.invariant.2))
+read-slot-requires : tie.Need-read_slot-requires invariant-loop decreases-loop
+read-slot-requires c κs = let at-loop = c.before.before.before in (at-loop.loop-slot.invariant.0.simulates.good, omega (arith, at-loop.loop-slot.invariant.2))
 
-returns : tie.Need-returns invariant-loop decreases-loop
+returns : tie.Need-returns-in-Refused invariant-loop decreases-loop
 returns c =
-    let x = turn c.before.before.before in
-    one-refused (test x).before.loop.inv.0 (test x).loop-test.taken c.before.r.given.0.0 (sum x c.before.r.given.1)
+    let x = turn c.before in
+    one-refused (test x).loop-slot.inv.0 (test x).loop-slot-test.taken c.in-Refused.r (sum x c.in-Refused.is)
 
-add-filled : tie.Need-overflow-add-filled invariant-loop decreases-loop
+add-filled : tie.Need-overflow_add-filled invariant-loop decreases-loop
 add-filled c =
-    let x = turn c.before.before.before in
+    let x = turn c.before in
     let l = (test x).before in
-    omega (arith, l.loop.inv.1, l.loop.inv.0.below, (start l).pre.2, (sum x c.before.more.given.1).1)
+    omega (arith, l.loop-slot.inv.1, l.loop-slot.inv.0.below, (start l).requires.2, (sum x c.in-Read.is).1)
 
-loop-again : tie.Need-loop-preserved invariant-loop decreases-loop
+loop-again : tie.Need-loop-slot-preserved invariant-loop decreases-loop
 loop-again c =
-    let x = turn c.before.before.before in
-    let i = (test x).before.loop.inv in
-    let more = sum x c.before.more.given.1 in
-    (one-read i.0 (test x).loop-test.taken _ more.0, omega (arith, i.1, more.1), x.read-slot.kept.1.1.1.0 ∙ i.2)
+    let x = turn c.before in
+    let i = (test x).loop-slot.inv in
+    let more = sum x c.in-Read.is in
+    (one-read i.0 (test x).loop-slot-test.taken _ more.0, omega (arith, i.1, more.1), x.read_slot.kept.1.1.1.0 ∙ i.2)
 
-returns-2 : tie.Need-returns-2 invariant-loop decreases-loop
+returns-2 : tie.Need-returns invariant-loop decreases-loop
 returns-2 c =
     let l = c.before in
-    let i = l.loop.invariant in
-    (all_read i.0 c.loop-test.false, omega (arith, i.1, i.0.below, (start l).requires.2))
+    let i = l.loop-slot.invariant in
+    (all_read i.0 c.loop-slot-test.false, omega (arith, i.1, i.0.below, (start l).requires.2))
 
-pub read-slots-spec : {M : Type 1} → statement M
-read-slots-spec =
+pub read_slots_spec : {M : Type 1} → statement M
+read_slots_spec =
     tie.close
     (tie.spec
     invariant-loop decreases-loop loop-holds read-slot-requires (λ c. search rules)
-    (λ c. let x = turn c.before.before.before in x.read-slot.kept.1.1.0 ∙ (test x).before.loop.inv.0.simulates.long)
-    (λ c. let x = turn c.before.before.before in x.read-slot.kept.1.1.1.0 ∙ (test x).before.loop.inv.2) returns
-    (λ c. search rules) add-filled (λ c. omega arith) (λ c. omega arith) loop-again (λ c. c.before.loop.invariant.0.simulates.long)
-    (λ c. c.before.loop.invariant.2) returns-2)
+    (λ c. let x = turn c.before in x.read_slot.kept.1.1.0 ∙ (test x).loop-slot.inv.0.simulates.long)
+    (λ c. let x = turn c.before in x.read_slot.kept.1.1.1.0 ∙ (test x).loop-slot.inv.2) returns
+    (λ c. search rules) add-filled (λ c. omega arith) (λ c. omega arith) loop-again (λ c. c.loop-slot.invariant.0.simulates.long)
+    (λ c. c.loop-slot.invariant.2) returns-2)

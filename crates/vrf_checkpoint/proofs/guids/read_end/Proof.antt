@@ -9,35 +9,35 @@ use Rattle.vrf_checkpoint.proofs.guids.read_end.Statement.{statement}
 use Rattle.vrf_checkpoint.proofs.guids.read_end.Tie as tie
 
 -- the function's entry state, and the flags byte
-abbrev start : tie.After-read-u8 → tie.Start
+abbrev start : tie.After-read_u8 → tie.Start
 start c = c.before.before.before.before
 
-flags : (c : tie.After-read-u8) {x : Byte} → c.read-u8.result ≡ x → let a = (start c).args in ByteAnswer a.s.now a.c (read_at a.s.now a.c byte) x
-flags c e = rw e at c.read-u8.ensures
+flags : (c : tie.After-read_u8) {x : Byte} → c.read_u8.result ≡ x → let a = (start c).args in ByteAnswer a.s.now a.c (read_at a.s.now a.c byte) x
+flags c e = rw e at c.read_u8.ensures
 
-returns : tie.Need-returns
+returns : tie.Need-returns-in-Refused
 returns c =
-    let f = c.before.before.before in
+    let f = c.before in
     let a = (start f).args in
-    no-flags (start f).requires.0 a.guid a.path.now a.outer (flags f c.before.r.given.1)
+    no-flags (start f).requires.0 a.guid a.path.now a.outer (flags f c.in-Refused.is)
 
-returns-2 : tie.Need-returns-2
+returns-2 : tie.Need-returns-in-Refused-set_net_guid_path
 returns-2 c =
-    let r = c.before in
-    let set = r.before.before.before.before in
-    let n = set.before.before.before in
-    let s = start n.before.before in
-    set-refused s.pre.0 s.args.guid s.args.path.now s.args.outer (flags n.before.before n.next.given.1) (rw r.r2.given.1 at set.set_net_guid_path.ensures)
+    let r = c in
+    let set = r.before.before.before in
+    let n = set.before.before in
+    let s = start n.before in
+    set-refused s.requires.0 s.args.guid s.args.path.now s.args.outer (flags n.before n.in-Value.is) (rw r.in-Refused-set_net_guid_path.is at set.set_net_guid_path.ensures)
 
-returns-3 : tie.Need-returns-3
+returns-3 : tie.Need-returns-in-Done
 returns-3 c =
-    let set = c.before.before.before.before in
-    let n = set.before.before.before in
-    let s = start n.before.before in
-    set-taken s.pre.0 s.args.guid s.args.path.now s.args.outer (flags n.before.before n.next.given.1) (rw c.enum_told.given.1 at set.set_net_guid_path.ensures)
+    let set = c.before.before.before in
+    let n = set.before.before in
+    let s = start n.before in
+    set-taken s.requires.0 s.args.guid s.args.path.now s.args.outer (flags n.before n.in-Value.is) (rw c.in-Done.is at set.set_net_guid_path.ensures)
 
-pub read-end-spec : {M : Type 1} → statement M
-read-end-spec =
+pub read_end_spec : {M : Type 1} → statement M
+read_end_spec =
     tie.close
     (tie.spec
     (λ c κs. search rules) (λ c. search rules) (λ c. search rules) (λ c κs. search rules) (λ c. search rules)

@@ -10,49 +10,49 @@ use Rattle.vrf_checkpoint.proofs.guids.read_guid.Statement.{statement}
 use Rattle.vrf_checkpoint.proofs.guids.read_guid.Tie as tie
 
 -- the places before
-abbrev start : tie.After-read-int-packed → tie.Start
+abbrev start : tie.After-read_int_packed → tie.Start
 start c = c.before.before.before.before
 
-abbrev read : tie.After-guid → tie.After-read-int-packed
-read c = c.before.before
+abbrev read : tie.In-Value-2 → tie.After-read_int_packed
+read c = c.before
 
-abbrev guid : tie.After-read-int-packed2 → tie.After-guid
-guid c = c.before.before
+abbrev guid : tie.After-read_int_packed-in-Value → tie.In-Value-2
+guid c = c.before
 
 -- the first word
-word : (c : tie.After-read-int-packed) {x : Word} → c.read-int-packed.result ≡ x → let a = (start c).args in WordAnswer a.s.now a.c (read_at a.s.now a.c packed) x
-word c e = rw e at c.read-int-packed.ensures
+word : (c : tie.After-read_int_packed) {x : Word} → c.read_int_packed.result ≡ x → let a = (start c).args in WordAnswer a.s.now a.c (read_at a.s.now a.c packed) x
+word c e = rw e at c.read_int_packed.ensures
 
-read-named-requires : tie.Need-read-named-requires
+read-named-requires : tie.Need-read_named-requires
 read-named-requires c κs =
-    let o = c.before.before.before in
-    let w = guid o.before.before in
-    let g = word (read w) w.guid.given.1 in
-    let h = rw o.outer.given.1 at o.before.before.read-int-packed2.ensures in
+    let o = c.before.before in
+    let w = guid o.before in
+    let g = word (read w) w.in-Value.is in
+    let h = rw o.in-Value-read_int_packed.is at o.read_int_packed-in-Value.ensures in
     counting-on (h.first ∙ g.first) (h.count ∙ g.count) (start (read w)).requires
 
-returns : tie.Need-returns
-returns c table represents = let w = c.before.before.before in no-guid (start w).requires.good (start w).args.entry table (word w c.before.r.given.1)
+returns : tie.Need-returns-in-Refused
+returns c table represents = let w = c.before in no-guid (start w).requires.good (start w).args.entry table (word w c.in-Refused.is)
 
-returns-2 : tie.Need-returns-2
+returns-2 : tie.Need-returns-in-Refused-read_int_packed
 returns-2 c table represents =
-    let o = c.before.before.before in
+    let o = c.before in
     let w = guid o in
     let s = start (read w) in
-    no_outer s.pre.good s.args.entry table (word (read w) w.guid.given.1) (rw c.before.r2.given.1 at o.read-int-packed2.ensures)
+    no_outer s.requires.good s.args.entry table (word (read w) w.in-Value.is) (rw c.in-Refused-read_int_packed.is at o.read_int_packed-in-Value.ensures)
 
-returns-3 : tie.Need-returns-3
+returns-3 : tie.Need-returns-in-Value-read_int_packed
 returns-3 c table represents =
     let n = c.before.before.before.before in
-    let o = n.before.before.before.before in
-    let w = guid o.before.before in
+    let o = n.before.before.before in
+    let w = guid o.before in
     let s = start (read w) in
-    let g = word (read w) w.guid.given.1 in
-    let h = rw o.outer.given.1 at o.before.before.read-int-packed2.ensures in
-    guid-on (guid-simulates s.pre.good s.args.entry table g h) n.read_named.new.1.1.0 (s.args.entry + 1) n.read_named.result (n.read_named.ensures table (represents-on (h.first ∙ g.first) (h.count ∙ g.count) refl represents))
+    let g = word (read w) w.in-Value.is in
+    let h = rw o.in-Value-read_int_packed.is at o.read_int_packed-in-Value.ensures in
+    guid-on (guid-simulates s.requires.good s.args.entry table g h) n.read_named.new.scratch.1.0 (s.args.entry + 1) n.read_named.result (n.read_named.ensures table (represents-on (h.first ∙ g.first) (h.count ∙ g.count) refl represents))
 
-pub read-guid-spec : {M : Type 1} → statement M
-read-guid-spec =
+pub read_guid_spec : {M : Type 1} → statement M
+read_guid_spec =
     tie.close
     (tie.spec
     (λ c κs. search rules) (λ c. search rules) (λ c. search rules) (λ c κs. search rules) (λ c. search rules)

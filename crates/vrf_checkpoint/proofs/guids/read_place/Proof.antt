@@ -9,49 +9,49 @@ use Rattle.vrf_checkpoint.proofs.guids.read_place.Statement.{statement}
 use Rattle.vrf_checkpoint.proofs.guids.read_place.Tie as tie
 
 -- the places before
-abbrev start : tie.After-read-int-packed → tie.Start
+abbrev start : tie.After-read_int_packed → tie.Start
 start c = c.before.before.before.before
 
-abbrev read : tie.After-place → tie.After-read-int-packed
-read c = c.before.before
+abbrev read : tie.In-Value-2 → tie.After-read_int_packed
+read c = c.before
 
-abbrev found : tie.After-reread → tie.Else1
+abbrev found : tie.After-reread → tie.Else-t-place
 found c = c.before.before
 
-abbrev place : tie.Else1 → tie.After-place
-place c = c.before.before.before
+abbrev place : tie.Else-t-place → tie.In-Value-2
+place c = c.before.before
 
 -- the place that was read
-word : (c : tie.After-read-int-packed) {x : Word} → c.read-int-packed.result ≡ x → let a = (start c).args in WordAnswer a.s.now a.c (read_at a.s.now a.c packed) x
-word c e = rw e at c.read-int-packed.ensures
+word : (c : tie.After-read_int_packed) {x : Word} → c.read_int_packed.result ≡ x → let a = (start c).args in WordAnswer a.s.now a.c (read_at a.s.now a.c packed) x
+word c e = rw e at c.read_int_packed.ensures
 
-returns : tie.Need-returns
+returns : tie.Need-returns-then-t-place
 returns c table represents =
-    let p = c.before.before.before in
+    let p = c.before.before in
     let s = start (read p) in
-    place-beyond s.pre.good represents s.args.entry (word (read p) p.place.given.1) c.if1.true
+    place-beyond s.requires.good represents s.args.entry (word (read p) p.in-Value.is) c.if-t-place.true
 
-returns-2 : tie.Need-returns-2
-returns-2 c table represents = let w = c.before.before.before in no_place (start w).requires.good represents (start w).args.entry (word w c.before.r.given.1)
+returns-2 : tie.Need-returns-in-Refused
+returns-2 c table represents = let w = c.before in no_place (start w).requires.good represents (start w).args.entry (word w c.in-Refused.is)
 
-returns-3 : tie.Need-returns-3
+returns-3 : tie.Need-returns-in-Refused-reread
 returns-3 c table represents =
-    let r = c.before in
-    let again = r.before.before.before.before in
+    let r = c in
+    let again = r.before.before.before in
     let p = place (found again) in
     let s = start (read p) in
-    place_found s.pre.good represents s.args.entry (word (read p) p.place.given.1) (found again).if1.false (rw r.r2.given.1 at again.reread.ensures)
+    place_found s.requires.good represents s.args.entry (word (read p) p.in-Value.is) (found again).if-t-place.false (rw r.in-Refused-reread.is at again.reread.ensures)
 
-returns-4 : tie.Need-returns-4
+returns-4 : tie.Need-returns-in-Read
 returns-4 c table represents =
-    let n = c.before.before.before in
-    let again = n.before.before.before.before in
+    let n = c.before.before in
+    let again = n.before.before.before in
     let p = place (found again) in
     let s = start (read p) in
-    place-taken s.pre.good represents s.args.entry (word (read p) p.place.given.1) (found again).if1.false (rw n.n.given.1 at again.reread.ensures) s.pre.few
+    place-taken s.requires.good represents s.args.entry (word (read p) p.in-Value.is) (found again).if-t-place.false (rw n.in-Read.is at again.reread.ensures) s.requires.few
 
-pub read-place-spec : {M : Type 1} → statement M
-read-place-spec =
+pub read_place_spec : {M : Type 1} → statement M
+read_place_spec =
     tie.close
     (tie.spec
     (λ c κs. search rules) (λ c. search rules) (λ c. search rules) (λ c. search rules) returns (λ c κs. search rules)

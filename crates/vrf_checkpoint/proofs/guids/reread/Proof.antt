@@ -15,9 +15,9 @@ returns c =
     let after-literal-at = after-read-text.before.before in
     let start = after-literal-at.before.before.before.before in
     let a = start.args in
-    let call = after-read-text.read-text in
+    let call = after-read-text.read_text in
     let at : ℕ → Cursor = λ p. record { first = a.c.first; count = a.c.count; pos = p } in
-    subst (λ (p : ℕ). TextIn a.s.now (at p) (read_at a.s.now (at p) fstring) call.new.1.1.0 call.result) after-literal-at.literal-at.ensures call.ensures
+    subst (λ (p : ℕ). TextIn a.s.now (at p) (read_at a.s.now (at p) fstring) call.new.1.1.0 call.result) after-literal-at.literal_at.ensures call.ensures
 
-pub reread-spec : {M : Type 1} → statement M
-reread-spec = tie.close (tie.spec (λ c κs. search rules) (λ c κs. search rules) (λ c. search rules) returns)
+pub reread_spec : {M : Type 1} → statement M
+reread_spec = tie.close (tie.spec (λ c κs. search rules) (λ c κs. search rules) (λ c. search rules) returns)

@@ -12,72 +12,72 @@ use Rattle.vrf_reader.proofs.fields.declared_group.Statement.{statement}
 use Rattle.vrf_reader.proofs.fields.declared_group.Tie as tie
 
 -- the places before, and the path
-abbrev start : tie.After-read-text → tie.Start
+abbrev start : tie.After-read_text → tie.Start
 start c =
     let known = c.before.before in
     known.before.before.before
 
-abbrev read : tie.After-n → tie.After-read-text
-read c = c.before.before.before.before
+abbrev read : tie.In-Read-2 → tie.After-read_text
+read c = c.before.before.before
 
-abbrev named : tie.After-slots → tie.After-n
-named c = c.before.before.before.before
+abbrev named : tie.In-Value-2 → tie.In-Read-2
+named c = c.before.before
 
-path : (c : tie.After-n) →
+path : (c : tie.In-Read-2) →
     let a = (start (read c)).args in
-    TextRead a.s.now a.c (read_at a.s.now a.c fstring) (read c).read-text.new.1.1.0 c.n.given.0.0 c.n.given.0.1.0
-path c = rw c.n.given.1 at c.before.before.before.before.read-text.ensures
+    TextRead a.s.now a.c (read_at a.s.now a.c fstring) (read c).read_text.new.1.1.0 c.in-Read.n c.in-Read.next
+path c = rw c.in-Read.is at c.read_text.ensures
 
-returns : tie.Need-returns
+returns : tie.Need-returns-then-slots-gt-MAX_SLOTS
 returns c =
-    let m = c.before.before in
+    let m = c.before in
     let n = named m in
-    too_many _ (start (read n)).requires.0 (path n) (rw m.slots.given.1 at m.before.before.read-int-packed.ensures) c.if1.true
+    too_many _ (start (read n)).requires.0 (path n) (rw m.in-Value.is at m.read_int_packed.ensures) c.if-slots-gt-MAX_SLOTS.true
 
-add-export-group-requires : tie.Need-add-export-group-requires
+add-export-group-requires : tie.Need-add_export_group-requires
 add-export-group-requires c κs =
     let e = c.before.before in
-    let n = named e.before.before in
-    ((start (read n)).requires.0, scratch-text fstring-reads (path n), e.if1.false)
+    let n = named e in
+    ((start (read n)).requires.0, scratch-text fstring-reads (path n), e.if-slots-gt-MAX_SLOTS.false)
 
-returns-2 : tie.Need-returns-2
+returns-2 : tie.Need-returns-in-Refused
 unfolding declared_group
 returns-2 c =
-    let r = c.before in
-    let t = r.before.before.before.before in
-    read-stops fstring _ (start t).requires.0 (rw r.r.given.1 at t.read-text.ensures)
+    let r = c in
+    let t = r.before.before.before in
+    read-stops fstring _ (start t).requires.0 (rw r.in-Refused.is at t.read_text.ensures)
 
-returns-3 : tie.Need-returns-3
+returns-3 : tie.Need-returns-in-Refused-read_int_packed
 returns-3 c =
-    let r = c.before in
-    let w = r.before.before in
-    let n = w.before.before in
-    no-slots _ (start (read n)).requires.0 (path n) (rw r.r2.given.1 at w.read-int-packed.ensures)
+    let r = c in
+    let w = r.before in
+    let n = w.before in
+    no-slots _ (start (read n)).requires.0 (path n) (rw r.in-Refused-read_int_packed.is at w.read_int_packed.ensures)
 
-returns-4 : tie.Need-returns-4
+returns-4 : tie.Need-returns-in-Refused-add_export_group
 returns-4 c =
-    let r = c.before in
-    let add = r.before.before.before.before in
+    let r = c in
+    let add = r.before.before.before in
     let e = add.before.before.before in
-    let m = e.before.before in
+    let m = e in
     let n = named m in
-    adding-refused _ (start (read n)).requires.0 (path n) (rw m.slots.given.1 at m.before.before.read-int-packed.ensures) e.if1.false (rw r.r3.given.1 at add.add_export_group.ensures)
+    adding-refused _ (start (read n)).requires.0 (path n) (rw m.in-Value.is at m.read_int_packed.ensures) e.if-slots-gt-MAX_SLOTS.false (rw r.in-Refused-add_export_group.is at add.add_export_group.ensures)
 
-returns-5 : tie.Need-returns-5
+returns-5 : tie.Need-returns-in-At
 returns-5 c =
-    let add = c.before.before.before.before in
+    let add = c.before.before.before in
     let e = add.before.before.before in
-    let m = e.before.before in
+    let m = e in
     let n = named m in
-    group-added _ (start (read n)).requires.0 (path n) (rw m.slots.given.1 at m.before.before.read-int-packed.ensures) e.if1.false (rw c.enum_told.given.1 at add.add_export_group.ensures)
+    group-added _ (start (read n)).requires.0 (path n) (rw m.in-Value.is at m.read_int_packed.ensures) e.if-slots-gt-MAX_SLOTS.false (rw c.in-At.is at add.add_export_group.ensures)
 
-pub declared-group-spec : {M : Type 1} → statement M
-declared-group-spec =
+pub declared_group_spec : {M : Type 1} → statement M
+declared_group_spec =
     tie.close
     (tie.spec
     (λ c κs. search rules) (λ c. search rules) (λ c. search rules) (λ c κs. search rules) (λ c. search rules)
     (λ c. search rules) (λ c. search rules) (λ c. search rules) returns (λ c. search rules)
-    (λ c. (path (named c.before.before.before)).fits)
-    (λ c. scratch-length (path (named c.before.before.before.before))) add-export-group-requires (λ c. search rules)
+    (λ c. (path (named c.before.before)).fits)
+    (λ c. scratch-length (path (named c.before.before))) add-export-group-requires (λ c. search rules)
     (λ c. search rules) (λ c. search rules) returns-2 (λ c. search rules) returns-3 (λ c. search rules)
     (λ c. search rules) returns-4 (λ c. search rules) (λ c. search rules) returns-5)

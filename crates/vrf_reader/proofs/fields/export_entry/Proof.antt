@@ -10,52 +10,52 @@ use Rattle.vrf_reader.proofs.fields.export_entry.Statement.{statement}
 use Rattle.vrf_reader.proofs.fields.export_entry.Tie as tie
 
 -- the function's entry state
-abbrev start : tie.After-read-int-packed → tie.Start
+abbrev start : tie.After-read_int_packed → tie.Start
 start c = c.before.before.before.before
 
-field-of-requires : tie.Need-field-of-requires
+field-of-requires : tie.Need-field_of-requires
 field-of-requires c κs =
-    let f = c.before.before.before in
-    let known = f.before.before.before.before in
+    let f = c.before.before in
+    let known = f.before.before.before in
     let g = known.before.before in
-    let flag = g.before.before.before.before in
-    let i = flag.before.before.before.before in
-    ((rw f.at_field.given.1 at g.Group-of.ensures).good, omega (arith, g.Group-of.auto.1.1.1.0, (start i.before.before).requires.1))
+    let flag = g.before.before.before in
+    let i = flag.before.before in
+    ((rw f.in-To.is at g.Group-of.ensures).good, omega (arith, g.Group-of.auto.1.1.1.0, (start i.before).requires.1))
 
-returns : tie.Need-returns
+returns : tie.Need-returns-in-Refused
 unfolding export_entry
-returns c = let w = c.before.before.before in read-stops packed _ (start w).requires.0 (rw c.before.r.given.1 at w.read-int-packed.ensures)
+returns c = let w = c.before in read-stops packed _ (start w).requires.0 (rw c.in-Refused.is at w.read_int_packed.ensures)
 
-returns-2 : tie.Need-returns-2
+returns-2 : tie.Need-returns-in-Refused-read_int_packed
 returns-2 c =
-    let r = c.before in
-    let w = r.before.before in
-    let i = w.before.before in
-    no_flag (start i.before.before).requires.0 (rw i.index.given.1 at i.before.before.read-int-packed.ensures) (rw r.r2.given.1 at w.read-int-packed2.ensures)
+    let r = c in
+    let w = r.before in
+    let i = w.before in
+    no_flag (start i.before).requires.0 (rw i.in-Value.is at i.read_int_packed.ensures) (rw r.in-Refused-read_int_packed.is at w.read_int_packed-in-Value.ensures)
 
-returns-3 : tie.Need-returns-3
+returns-3 : tie.Need-returns-in-Refused-group_of
 returns-3 c =
-    let r = c.before in
-    let known = r.before.before.before.before in
+    let r = c in
+    let known = r.before.before.before in
     let g = known.before.before in
-    let f = g.before.before.before.before in
-    let i = f.before.before.before.before in
-    let flag = rw f.flag.given.1 at f.before.before.read-int-packed2.ensures in
-    group-refused (start i.before.before).requires.0 (rw i.index.given.1 at i.before.before.read-int-packed.ensures) flag _ (rw r.r3.given.1 at g.Group-of.ensures)
+    let f = g.before.before.before in
+    let i = f.before.before in
+    let flag = rw f.in-Value-read_int_packed.is at f.read_int_packed-in-Value.ensures in
+    group-refused (start i.before).requires.0 (rw i.in-Value.is at i.read_int_packed.ensures) flag _ (rw r.in-Refused-group_of.is at g.Group-of.ensures)
 
-returns-4 : tie.Need-returns-4
+returns-4 : tie.Need-returns-in-To
 returns-4 c =
     let field = c.before.before.before.before in
-    let o = field.before.before.before.before in
-    let known = o.before.before.before.before in
+    let o = field.before.before.before in
+    let known = o.before.before.before in
     let g = known.before.before in
-    let f = g.before.before.before.before in
-    let i = f.before.before.before.before in
-    let flag = rw f.flag.given.1 at f.before.before.read-int-packed2.ensures in
-    group-then (start i.before.before).requires.0 (rw i.index.given.1 at i.before.before.read-int-packed.ensures) flag (rw o.at_field.given.1 at g.Group-of.ensures) _ (cursor_outcome field.field_of.result) field.field_of.ensures
+    let f = g.before.before.before in
+    let i = f.before.before in
+    let flag = rw f.in-Value-read_int_packed.is at f.read_int_packed-in-Value.ensures in
+    group-then (start i.before).requires.0 (rw i.in-Value.is at i.read_int_packed.ensures) flag (rw o.in-To.is at g.Group-of.ensures) _ (cursor_outcome field.field_of.result) field.field_of.ensures
 
-pub export-entry-spec : {M : Type 1} → statement M
-export-entry-spec =
+pub export_entry_spec : {M : Type 1} → statement M
+export_entry_spec =
     tie.close
     (tie.spec
     (λ c κs. search rules) (λ c. search rules) (λ c. search rules) (λ c κs. search rules) (λ c. search rules)

@@ -8,23 +8,23 @@ use Rattle.vrf_reader.proofs.fields.exported_field.Statement.{statement}
 use Rattle.vrf_reader.proofs.fields.exported_field.Tie as tie
 
 -- the function's entry state
-abbrev start : tie.After-read-int-packed → tie.Start
+abbrev start : tie.After-read_int_packed → tie.Start
 start c = c.before.before.before.before
 
-returns : tie.Need-returns
+returns : tie.Need-returns-in-Refused
 unfolding exported_field
-returns c = let w = c.before.before.before in read-stops packed _ (start w).requires.0 (rw c.before.r.given.1 at w.read-int-packed.ensures)
+returns c = let w = c.before in read-stops packed _ (start w).requires.0 (rw c.in-Refused.is at w.read_int_packed.ensures)
 
-returns-2 : tie.Need-returns-2
+returns-2 : tie.Need-returns-in-Value
 unfolding exported_field
 returns-2 c =
     let call = c.before.before.before.before in
-    let h = call.before.before.before.before in
-    let handle = rw h.handle.given.1 at h.before.before.read-int-packed.ensures in
-    reads (read-on packed _ (start h.before.before).requires.0 handle) _ (cursor_outcome call.named-field.result) call.named-field.ensures
+    let h = call.before.before.before in
+    let handle = rw h.in-Value.is at h.read_int_packed.ensures in
+    reads (read-on packed _ (start h.before).requires.0 handle) _ (cursor_outcome call.named_field.result) call.named_field.ensures
 
-pub exported-field-spec : {M : Type 1} → statement M
-exported-field-spec =
+pub exported_field_spec : {M : Type 1} → statement M
+exported_field_spec =
     tie.close
     (tie.spec
     (λ c κs. search rules) (λ c. search rules) (λ c. search rules) (λ c κs. search rules) returns (λ c. search rules)

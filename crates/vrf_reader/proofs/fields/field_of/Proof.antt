@@ -9,27 +9,27 @@ use Rattle.vrf_reader.proofs.fields.field_of.Statement.{statement}
 use Rattle.vrf_reader.proofs.fields.field_of.Tie as tie
 
 -- the function's entry state
-abbrev start : tie.After-read-u8 → tie.Start
+abbrev start : tie.After-read_u8 → tie.Start
 start c = c.before.before.before.before
 
-returns : tie.Need-returns
+returns : tie.Need-returns-then-has_field-eq0
 returns c =
-    let u = c.before.before.before.before in
-    field-absent _ (start u).requires.0 (rw c.before.before.has-field.given.1 at u.read-u8.ensures) c.if1.true
+    let u = c.before.before in
+    field-absent _ (start u).requires.0 (rw c.in-Value.is at u.read_u8.ensures) c.if-has_field-eq0.true
 
-returns-2 : tie.Need-returns-2
+returns-2 : tie.Need-returns-in-Refused
 unfolding field_of
-returns-2 c = let u = c.before.before.before in read-stops byte _ (start u).requires.0 (rw c.before.r.given.1 at u.read-u8.ensures)
+returns-2 c = let u = c.before in read-stops byte _ (start u).requires.0 (rw c.in-Refused.is at u.read_u8.ensures)
 
-returns-3 : tie.Need-returns-3
+returns-3 : tie.Need-returns-else-has_field-eq0
 returns-3 c =
     let call = c.before.before.before.before in
     let e = call.before.before.before in
-    let h = e.before.before in
-    field-present _ (start h.before.before).requires.0 (rw h.has-field.given.1 at h.before.before.read-u8.ensures) e.if1.false _ (cursor_outcome call.exported-field.result) call.exported-field.ensures
+    let h = e.before in
+    field-present _ (start h.before).requires.0 (rw h.in-Value.is at h.read_u8.ensures) e.if-has_field-eq0.false _ (cursor_outcome call.exported_field.result) call.exported_field.ensures
 
-pub field-of-spec : {M : Type 1} → statement M
-field-of-spec =
+pub field_of_spec : {M : Type 1} → statement M
+field_of_spec =
     tie.close
     (tie.spec
     (λ c κs. search rules) (λ c. search rules) (λ c. search rules) returns (λ c κs. search rules) returns-2

@@ -6,7 +6,7 @@ use Rattle.vrf_model.specs.Runs.{fields_run}
 use Rattle.vrf_reader.proofs.fields.read_net_field_exports.Statement.{statement}
 use Rattle.vrf_reader.proofs.fields.read_net_field_exports.Tie as tie
 
-read-run-requires : tie.Need-read-run-requires
+read-run-requires : tie.Need-read_run-requires
 read-run-requires c κs =
     let at-slice-known2 = c.before.before in
     let start = at-slice-known2.before.before.before in
@@ -14,7 +14,7 @@ read-run-requires c κs =
 
 returns : tie.Need-returns
 unfolding fields_run
-returns c = c.before.before.before.before.read-run.ensures
+returns c = c.read_run.ensures
 
-pub read-net-field-exports-spec : {M : Type 1} → statement M
-read-net-field-exports-spec = tie.close (tie.spec read-run-requires (λ c. search rules) (λ c. search rules) returns)
+pub read_net_field_exports_spec : {M : Type 1} → statement M
+read_net_field_exports_spec = tie.close (tie.spec read-run-requires (λ c. search rules) (λ c. search rules) returns)

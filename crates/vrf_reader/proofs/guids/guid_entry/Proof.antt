@@ -9,45 +9,45 @@ use Rattle.vrf_reader.proofs.guids.guid_entry.Statement.{statement}
 use Rattle.vrf_reader.proofs.guids.guid_entry.Tie as tie
 
 -- the function's entry state
-abbrev start : tie.After-read-u32 → tie.Start
+abbrev start : tie.After-read_u32 → tie.Start
 start c = c.before.before.before.before
 
-returns : tie.Need-returns
+returns : tie.Need-returns-then-size-ge2147483648
 returns c =
-    let w = c.before.before.before.before in
-    entry-negative (start w).requires.0 (rw c.before.before.size.given.1 at w.read_u32.ensures) c.if1.true
+    let w = c.before.before in
+    entry-negative (start w).requires.0 (rw c.in-Value.is at w.read_u32.ensures) c.if-size-ge2147483648.true
 
-read-payload-requires : tie.Need-read-payload-requires
+read-payload-requires : tie.Need-read_payload-requires
 read-payload-requires c κs =
-    let n = c.before.before.before.before in
-    let p = (start n.before.before).requires in
-    let size = rw n.size.given.1 at n.before.before.read_u32.ensures in
+    let n = c.before.before.before in
+    let p = (start n.before).requires in
+    let size = rw n.in-Value.is at n.read_u32.ensures in
     (p.0, (p.1.0, same-window p.1.1 size.first size.count))
 
-returns-2 : tie.Need-returns-2
+returns-2 : tie.Need-returns-in-Refused
 unfolding guid_entry
-returns-2 c = let w = c.before.before.before in read-stops word32 _ (start w).requires.0 (rw c.before.r.given.1 at w.read_u32.ensures)
+returns-2 c = let w = c.before in read-stops word32 _ (start w).requires.0 (rw c.in-Refused.is at w.read_u32.ensures)
 
-returns-3 : tie.Need-returns-3
+returns-3 : tie.Need-returns-in-Refused-read_payload
 returns-3 c =
-    let r = c.before in
-    let known = r.before.before.before.before in
+    let r = c in
+    let known = r.before.before.before in
     let p = known.before.before in
     let e = p.before.before.before in
-    let n = e.before.before in
-    entry-refused (start n.before.before).requires.0 (rw n.size.given.1 at n.before.before.read_u32.ensures) e.if1.false _ (rw r.r2.given.1 at p.read-payload.ensures)
+    let n = e.before in
+    entry-refused (start n.before).requires.0 (rw n.in-Value.is at n.read_u32.ensures) e.if-size-ge2147483648.false _ (rw r.in-Refused-read_payload.is at p.read_payload.ensures)
 
-returns-4 : tie.Need-returns-4
+returns-4 : tie.Need-returns-in-Of
 returns-4 c =
-    let r = c.before in
-    let known = r.before.before.before.before in
+    let r = c in
+    let known = r.before.before.before in
     let p = known.before.before in
     let e = p.before.before.before in
-    let n = e.before.before in
-    entry_read (start n.before.before).requires.0 (rw n.size.given.1 at n.before.before.read_u32.ensures) e.if1.false _ (rw r.following.given.1 at p.read-payload.ensures)
+    let n = e.before in
+    entry_read (start n.before).requires.0 (rw n.in-Value.is at n.read_u32.ensures) e.if-size-ge2147483648.false _ (rw r.in-Of.is at p.read_payload.ensures)
 
-pub guid-entry-spec : {M : Type 1} → statement M
-guid-entry-spec =
+pub guid_entry_spec : {M : Type 1} → statement M
+guid_entry_spec =
     tie.close
     (tie.spec
     (λ c κs. search rules) (λ c. search rules) (λ c. search rules) (λ c. search rules) returns read-payload-requires

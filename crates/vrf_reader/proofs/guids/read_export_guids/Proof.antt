@@ -4,7 +4,7 @@ use Rattle.vrf_model.specs.Runs.{guid_run}
 use Rattle.vrf_reader.proofs.guids.read_export_guids.Statement.{statement}
 use Rattle.vrf_reader.proofs.guids.read_export_guids.Tie as tie
 
-read-run-requires : tie.Need-read-run-requires
+read-run-requires : tie.Need-read_run-requires
 read-run-requires c κs =
     let at-slice-known2 = c.before.before in
     let start = at-slice-known2.before.before.before in
@@ -12,7 +12,7 @@ read-run-requires c κs =
 
 returns : tie.Need-returns
 unfolding guid_run
-returns c = c.before.before.before.before.read-run.ensures
+returns c = c.read_run.ensures
 
-pub read-export-guids-spec : {M : Type 1} → statement M
-read-export-guids-spec = tie.close (tie.spec read-run-requires (λ c. search rules) (λ c. search rules) returns)
+pub read_export_guids_spec : {M : Type 1} → statement M
+read_export_guids_spec = tie.close (tie.spec read-run-requires (λ c. search rules) (λ c. search rules) returns)

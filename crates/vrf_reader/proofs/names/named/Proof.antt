@@ -7,14 +7,14 @@ use Rattle.vrf_reader.specs.Inner.Texts.{Small, named_by}
 use Rattle.vrf_reader.proofs.names.named.Statement.{statement}
 use Rattle.vrf_reader.proofs.names.named.Tie as tie
 
-cast-t6 : tie.Need-overflow-cast-t6
-cast-t6 c = record { fits = omega (arith, subst Small c.before.r.given.1 c.before.before.before.requires) }
+cast-t6 : tie.Need-overflow_cast-result
+cast-t6 c = record { fits = omega (arith, subst Small c.in-Length.is c.requires) }
 
-returns : tie.Need-returns
-returns c = sym (ap (λ (x : Rendered). named_by x c.before.before.before.args.next) c.before.r.given.1)
+returns : tie.Need-returns-in-Length
+returns c = sym (ap (λ (x : Rendered). named_by x c.args.next) c.in-Length.is)
 
-returns-2 : tie.Need-returns-2
-returns-2 c = sym (ap (λ (x : Rendered). named_by x c.before.before.before.args.next) c.before.r2.given.1)
+returns-2 : tie.Need-returns-in-Refused
+returns-2 c = sym (ap (λ (x : Rendered). named_by x c.args.next) c.in-Refused.is)
 
-pub named-spec : {M : Type 1} → statement M
-named-spec = tie.close (tie.spec (λ c. search rules) cast-t6 (λ c. search rules) returns returns-2)
+pub named_spec : {M : Type 1} → statement M
+named_spec = tie.close (tie.spec (λ c. search rules) cast-t6 (λ c. search rules) returns returns-2)

@@ -7,24 +7,24 @@ use Rattle.vrf_reader.proofs.Laws.Texts.{text-kind, index-kind}
 use Rattle.vrf_reader.proofs.names.read_fname.Statement.{statement}
 use Rattle.vrf_reader.proofs.names.read_fname.Tie as tie
 
-returns : tie.Need-returns
+returns : tie.Need-returns-then-kind-eq0
 returns c =
     let call = c.before.before in
-    let k = call.before.before.before.before in
-    text-kind (rw k.kind.given.1 at k.before.before.read-u8.ensures) _ call.read-text-name.result call.before.before.if1.true call.read-text-name.ensures
+    let k = call.before.before.before in
+    text-kind (rw k.in-Value.is at k.read_u8.ensures) _ call.read_text_name.result call.if-kind-eq0.true call.read_text_name.ensures
 
-returns-2 : tie.Need-returns-2
+returns-2 : tie.Need-returns-in-Refused
 unfolding fname
-returns-2 c = refused-first _ _ byte _ (rw c.before.r.given.1 at c.before.before.before.read-u8.ensures)
+returns-2 c = refused-first _ _ byte _ (rw c.in-Refused.is at c.read_u8.ensures)
 
-returns-3 : tie.Need-returns-3
+returns-3 : tie.Need-returns-else-kind-eq0
 returns-3 c =
     let call = c.before.before in
-    let k = call.before.before.before.before in
-    index-kind (rw k.kind.given.1 at k.before.before.read-u8.ensures) _ call.read-index-name.result call.before.before.if1.false call.read-index-name.ensures
+    let k = call.before.before.before in
+    index-kind (rw k.in-Value.is at k.read_u8.ensures) _ call.read_index_name.result call.if-kind-eq0.false call.read_index_name.ensures
 
-pub read-fname-spec : {M : Type 1} → statement M
-read-fname-spec =
+pub read_fname_spec : {M : Type 1} → statement M
+read_fname_spec =
     tie.close
     (tie.spec
     (λ c κs. search rules) (λ c. search rules) (λ c. search rules) (λ c κs. search rules) (λ c. search rules) returns

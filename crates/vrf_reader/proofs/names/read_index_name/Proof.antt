@@ -9,22 +9,22 @@ use Rattle.vrf_reader.proofs.names.read_index_name.Statement.{statement}
 use Rattle.vrf_reader.proofs.names.read_index_name.Tie as tie
 
 named-requires : tie.Need-named-requires
-named-requires c κs = is-small _ _ _ c.before.before.render-index.result c.before.before.render-index.ensures
+named-requires c κs = is-small _ _ _ c.render_index.result c.render_index.ensures
 
-returns : tie.Need-returns
+returns : tie.Need-returns-in-Refused
 unfolding index_name
-returns c = refused-first _ _ packed _ (rw c.before.r.given.1 at c.before.before.before.read-int-packed.ensures)
+returns c = refused-first _ _ packed _ (rw c.in-Refused.is at c.read_int_packed.ensures)
 
-returns-2 : tie.Need-returns-2
+returns-2 : tie.Need-returns-in-Value
 returns-2 c =
     let call = c.before.before.before in
-    let i = call.before.before.before in
-    let w = i.before.before in
+    let i = call.before.before in
+    let w = i.before in
     let start = w.before.before.before in
-    index_in _ _ start.requires call.render-index.result c.named.ensures (omega arith) (rw i.index.given.1 at w.read-int-packed.ensures) call.render-index.ensures
+    index_in _ _ start.requires call.render_index.result c.named.ensures (omega arith) (rw i.in-Value.is at w.read_int_packed.ensures) call.render_index.ensures
 
-pub read-index-name-spec : {M : Type 1} → statement M
-read-index-name-spec =
+pub read_index_name_spec : {M : Type 1} → statement M
+read_index_name_spec =
     tie.close
     (tie.spec
     (λ c κs. search rules) (λ c. search rules) (λ c. search rules) (λ c κs. search rules) named-requires returns

@@ -4,15 +4,15 @@ use Rattle.vrf_reader.proofs.Laws.Objects.{checksum-none, checksum-read, checksu
 use Rattle.vrf_reader.proofs.objects.skip_checksum.Statement.{statement}
 use Rattle.vrf_reader.proofs.objects.skip_checksum.Tie as tie
 
-returns : tie.Need-returns
+returns : tie.Need-returns-in-Refused
 returns c =
-    let w = c.before.before.before in
-    checksum-refused _ w.before.if1.true (rw c.before.r.given.1 at w.read_u32.ensures)
+    let w = c.before in
+    checksum-refused _ w.if-flags-eq1.true (rw c.in-Refused.is at w.read_u32.ensures)
 
-returns-2 : tie.Need-returns-2
+returns-2 : tie.Need-returns-in-Value
 returns-2 c =
-    let w = c.before.before.before in
-    checksum-read _ w.before.if1.true (rw c.before.next.given.1 at w.read_u32.ensures)
+    let w = c.before in
+    checksum-read _ w.if-flags-eq1.true (rw c.in-Value.is at w.read_u32.ensures)
 
-pub skip-checksum-spec : {M : Type 1} → statement M
-skip-checksum-spec = tie.close (tie.spec (λ c κs. search rules) (λ c. search rules) (λ c. search rules) returns returns-2 (λ c. checksum-none _ c.if1.false))
+pub skip_checksum_spec : {M : Type 1} → statement M
+skip_checksum_spec = tie.close (tie.spec (λ c κs. search rules) (λ c. search rules) (λ c. search rules) returns returns-2 (λ c. checksum-none _ c.if-flags-eq1.false))

@@ -10,42 +10,42 @@ use Rattle.vrf_reader.proofs.Laws.Within.{same-window}
 use Rattle.vrf_reader.proofs.runs.read_entries.Statement.{statement}
 use Rattle.vrf_reader.proofs.runs.read_entries.Tie as tie
 
-abbrev invariant-loop : tie.invariant-loop
+abbrev invariant-loop : tie.invariant-loop-i
 invariant-loop s m₀ scratch₀ n guids at₀ i₀ m scratch at i = EntriesLeft s (entry_of guids) n at₀ m₀ i at m × (length scratch ≡ length scratch₀)
 
-abbrev decreases-loop : tie.decreases-loop
+abbrev decreases-loop : tie.decreases-loop-i
 decreases-loop s m₀ scratch₀ n guids at₀ i₀ m scratch at i = n - i
 
-loop-holds : tie.Need-loop-init invariant-loop decreases-loop
-loop-holds c = (none_read c.before.before.before.requires.good, refl)
+loop-holds : tie.Need-loop-i-init invariant-loop decreases-loop
+loop-holds c = (none_read c.requires.good, refl)
 
-read-entry-requires : tie.Need-read-entry-requires invariant-loop decreases-loop
+read-entry-requires : tie.Need-read_entry-requires invariant-loop decreases-loop
 read-entry-requires c κs =
     let at-loop = c.before.before.before in
     let start = at-loop.before.before.before.before in
-    let run = at-loop.loop.invariant.0.simulates in
-    record { good = run.good; wide = omega (arith, at-loop.loop.invariant.1, start.requires.wide); within = λ e. same-window (start.requires.within e) run.first run.count }
+    let run = at-loop.loop-i.invariant.0.simulates in
+    record { good = run.good; wide = omega (arith, at-loop.loop-i.invariant.1, start.requires.wide); within = λ e. same-window (start.requires.within e) run.first run.count }
 
-returns : tie.Need-returns invariant-loop decreases-loop
+returns : tie.Need-returns-in-Refused invariant-loop decreases-loop
 returns c =
-    let r = c.before in
-    let known = r.before.before.before.before in
+    let r = c in
+    let known = r.before.before.before in
     let entry = known.before.before in
     let t = entry.before.before.before in
-    one-refused t.before.loop.invariant.0 t.loop-test.true _ (rw r.r.given.1 at entry.read-entry.ensures)
+    one-refused t.loop-i.invariant.0 t.loop-i-test.true _ (rw r.in-Refused.is at entry.read_entry.ensures)
 
-loop-again : tie.Need-loop-preserved invariant-loop decreases-loop
+loop-again : tie.Need-loop-i-preserved invariant-loop decreases-loop
 loop-again c =
-    let next = c.before in
-    let known = next.before.before.before.before in
+    let next = c in
+    let known = next.before.before.before in
     let entry = known.before.before in
     let t = entry.before.before.before in
-    (one-more t.before.loop.invariant.0 t.loop-test.true (rw next.next.given.1 at entry.read-entry.ensures), search rules)
+    (one-more t.loop-i.invariant.0 t.loop-i-test.true (rw next.in-To.is at entry.read_entry.ensures), search rules)
 
-pub read-entries-spec : {M : Type 1} → statement M
-read-entries-spec =
+pub read_entries_spec : {M : Type 1} → statement M
+read_entries_spec =
     tie.close
     (tie.spec
     invariant-loop decreases-loop loop-holds read-entry-requires (λ c. search rules) (λ c. search rules) (λ c. search rules) returns
     (λ c. search rules) (λ c. search rules) (λ c. search rules) loop-again (λ c. search rules) (λ c. search rules)
-    (λ c. all_read c.before.loop.invariant.0 c.loop-test.false))
+    (λ c. all_read c.loop-i.invariant.0 c.loop-i-test.false))

@@ -9,38 +9,38 @@ use Rattle.vrf_reader.proofs.runs.read_run.Statement.{statement}
 use Rattle.vrf_reader.proofs.runs.read_run.Tie as tie
 
 -- the function's entry state
-abbrev start : tie.After-read-int-packed → tie.Start
+abbrev start : tie.After-read_int_packed → tie.Start
 start c = c.before.before.before.before
 
-read-entries-requires : tie.Need-read-entries-requires
+read-entries-requires : tie.Need-read_entries-requires
 read-entries-requires c κs =
-    let n = c.before.before.before in
-    let p = (start n.before.before).requires in
-    let count = rw n.n.given.1 at n.before.before.read-int-packed.ensures in
+    let n = c.before.before in
+    let p = (start n.before).requires in
+    let count = rw n.in-Value.is at n.read_int_packed.ensures in
     record { good = p.good; wide = p.wide; within = λ e. same-window (p.within e) count.first count.count }
 
-returns : tie.Need-returns
+returns : tie.Need-returns-in-Refused
 unfolding run_of
-returns c = let w = c.before.before.before in read-stops number _ (start w).requires.good (rw c.before.r.given.1 at w.read-int-packed.ensures)
+returns c = let w = c.before in read-stops number _ (start w).requires.good (rw c.in-Refused.is at w.read_int_packed.ensures)
 
-returns-2 : tie.Need-returns-2
+returns-2 : tie.Need-returns-in-Refused-read_entries
 returns-2 c =
-    let r = c.before in
-    let known = r.before.before.before.before in
+    let r = c in
+    let known = r.before.before.before in
     let e = known.before.before in
-    let n = e.before.before.before.before in
-    run-refused _ (start n.before.before).requires.good (rw n.n.given.1 at n.before.before.read-int-packed.ensures) _ (rw r.r2.given.1 at e.read-entries.ensures)
+    let n = e.before.before.before in
+    run-refused _ (start n.before).requires.good (rw n.in-Value.is at n.read_int_packed.ensures) _ (rw r.in-Refused-read_entries.is at e.read_entries.ensures)
 
-returns-3 : tie.Need-returns-3
+returns-3 : tie.Need-returns-in-To
 returns-3 c =
-    let r = c.before in
-    let known = r.before.before.before.before in
+    let r = c in
+    let known = r.before.before.before in
     let e = known.before.before in
-    let n = e.before.before.before.before in
-    run-read _ (start n.before.before).requires.good (rw n.n.given.1 at n.before.before.read-int-packed.ensures) (rw r.end.given.1 at e.read-entries.ensures)
+    let n = e.before.before.before in
+    run-read _ (start n.before).requires.good (rw n.in-Value.is at n.read_int_packed.ensures) (rw r.in-To.is at e.read_entries.ensures)
 
-pub read-run-spec : {M : Type 1} → statement M
-read-run-spec =
+pub read_run_spec : {M : Type 1} → statement M
+read_run_spec =
     tie.close
     (tie.spec
     (λ c κs. search rules) (λ c. search rules) (λ c. search rules) read-entries-requires (λ c. search rules)

@@ -7,20 +7,20 @@ use Rattle.vrf_schema.proofs.Laws.Checked.{step-refused, admitted-good, admitted
 use Rattle.vrf_schema.proofs.calls.add_export_group.Statement.{statement}
 use Rattle.vrf_schema.proofs.calls.add_export_group.Tie as tie
 
-returns : tie.Need-returns
+returns : tie.Need-returns-then-slots-gt65536
 returns c = search (too_many, arith)
 
-add-export-group-requires : tie.Need-add-export-group-requires
+add-export-group-requires : tie.Need-add_export_group-requires
 add-export-group-requires c κs = (search admitted-good, search admitted-text, omega arith)
 
-returns-2 : tie.Need-returns-2
+returns-2 : tie.Need-returns-in-Refused
 unfolding run if_text_accepted
 returns-2 c =
-    let checks = c.before.before.before in
-    step-refused at_place _ checks.before.before.before.slice-known.given checks.check-book-text.ensures c.before.r.given.1 refl
+    let checks = c.before in
+    step-refused at_place _ checks.slice_known-1.given checks.check_book_text.ensures c.in-Refused.is refl
 
-returns-3 : tie.Need-returns-3
+returns-3 : tie.Need-returns-else-slots-gt65536
 returns-3 c = search (added-directly, arith)
 
-pub add-export-group-spec : {M : Type 1} → statement M
-add-export-group-spec = tie.close (tie.spec (λ c κs. search rules) (λ c. search rules) (λ c. search rules) (λ c. search rules) returns add-export-group-requires (λ c. search rules) returns-2 (λ c. search rules) returns-3)
+pub add_export_group_spec : {M : Type 1} → statement M
+add_export_group_spec = tie.close (tie.spec (λ c κs. search rules) (λ c. search rules) (λ c. search rules) (λ c. search rules) returns add-export-group-requires (λ c. search rules) returns-2 (λ c. search rules) returns-3)

@@ -8,10 +8,10 @@ use Rattle.vrf_schema.proofs.calls.clear.Tie as tie
 clear-requires : tie.Need-clear-requires
 clear-requires c κs = search admitted-good
 
-returns : tie.Need-returns
+returns : tie.Need-returns-in-Refused
 returns c = search call-refused
 
-returns-2 : tie.Need-returns-2
+returns-2 : tie.Need-returns-in-Accepted
 unfolding run if_text_accepted
 returns-2 c = search acted-by
 

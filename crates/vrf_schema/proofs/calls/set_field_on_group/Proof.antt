@@ -6,18 +6,18 @@ use Rattle.vrf_schema.proofs.Laws.Checked.{step-refused, admitted-good, admitted
 use Rattle.vrf_schema.proofs.calls.set_field_on_group.Statement.{statement}
 use Rattle.vrf_schema.proofs.calls.set_field_on_group.Tie as tie
 
-set-field-on-group-requires : tie.Need-set-field-on-group-requires
+set-field-on-group-requires : tie.Need-set_field_on_group-requires
 set-field-on-group-requires c κs = (search admitted-good, search admitted-text)
 
-returns : tie.Need-returns
+returns : tie.Need-returns-in-Refused
 unfolding run if_text_accepted
 returns c =
-    let checks = c.before.before.before in
-    step-refused field_placed _ checks.before.before.before.slice-known.given checks.check-book-text.ensures c.before.r.given.1 refl
+    let checks = c.before in
+    step-refused field_placed _ checks.slice_known-1.given checks.check_book_text.ensures c.in-Refused.is refl
 
-returns-2 : tie.Need-returns-2
+returns-2 : tie.Need-returns-in-Accepted
 unfolding run if_text_accepted
 returns-2 c = search placed_by
 
-pub set-field-on-group-spec : {M : Type 1} → statement M
-set-field-on-group-spec = tie.close (tie.spec (λ c κs. search rules) (λ c. search rules) (λ c. search rules) set-field-on-group-requires (λ c. search rules) returns (λ c. search rules) returns-2)
+pub set_field_on_group_spec : {M : Type 1} → statement M
+set_field_on_group_spec = tie.close (tie.spec (λ c κs. search rules) (λ c. search rules) (λ c. search rules) set-field-on-group-requires (λ c. search rules) returns (λ c. search rules) returns-2)

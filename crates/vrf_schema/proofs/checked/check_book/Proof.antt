@@ -4,11 +4,11 @@ use Rattle.vrf_store.proofs.Laws.Check.Steps.{fails, holds}
 use Rattle.vrf_schema.proofs.checked.check_book.Statement.{statement}
 use Rattle.vrf_schema.proofs.checked.check_book.Tie as tie
 
-returns : tie.Need-returns
-returns c = record { answer = rw (fails c.before.check.ensures c.if1.true) }
+returns : tie.Need-returns-then-not-check
+returns c = record { answer = rw (fails c.check.ensures c.if-not-check.true) }
 
-returns-2 : tie.Need-returns-2
-returns-2 c = record { answer = rw (holds c.before.check.ensures c.if1.false) }
+returns-2 : tie.Need-returns
+returns-2 c = record { answer = rw (holds c.check.ensures c.if-not-check.false) }
 
-pub check-book-spec : {M : Type 1} → statement M
-check-book-spec = tie.close (tie.spec (λ c κs. search rules) returns returns-2)
+pub check_book_spec : {M : Type 1} → statement M
+check_book_spec = tie.close (tie.spec (λ c κs. search rules) returns returns-2)

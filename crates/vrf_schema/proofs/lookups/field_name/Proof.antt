@@ -7,15 +7,15 @@ use Rattle.vrf_schema.proofs.Laws.Checked.{text-refused, text-found}
 use Rattle.vrf_schema.proofs.lookups.field_name.Statement.{statement}
 use Rattle.vrf_schema.proofs.lookups.field_name.Tie as tie
 
-returns : tie.Need-returns
+returns : tie.Need-returns-then-not-check
 returns c = search (text-refused, fails)
 
-field-name-requires : tie.Need-field-name-requires
+field-name-requires : tie.Need-field_name-requires
 field-name-requires c κs = search (check-good, holds)
 
-returns-2 : tie.Need-returns-2
+returns-2 : tie.Need-returns
 unfolding look_groups look
 returns-2 c = search (text-found, holds, c.field_name.ensures)
 
-pub field-name-spec : {M : Type 1} → statement M
-field-name-spec = tie.close (tie.spec (λ c κs. search rules) (λ c. search rules) (λ c. search rules) (λ c. search rules) returns field-name-requires returns-2)
+pub field_name_spec : {M : Type 1} → statement M
+field_name_spec = tie.close (tie.spec (λ c κs. search rules) (λ c. search rules) (λ c. search rules) (λ c. search rules) returns field-name-requires returns-2)

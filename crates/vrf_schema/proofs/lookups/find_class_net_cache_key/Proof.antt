@@ -7,18 +7,18 @@ use Rattle.vrf_schema.proofs.Laws.Checked.{look-refused, admitted-good, admitted
 use Rattle.vrf_schema.proofs.lookups.find_class_net_cache_key.Statement.{statement}
 use Rattle.vrf_schema.proofs.lookups.find_class_net_cache_key.Tie as tie
 
-find-class-net-cache-key-requires : tie.Need-find-class-net-cache-key-requires
-find-class-net-cache-key-requires c κs = (search admitted-good, omega (arith, (admitted-text c.before.before.check-book-text.ensures c.enum_told.given.1).short))
+find-class-net-cache-key-requires : tie.Need-find_class_net_cache_key-requires
+find-class-net-cache-key-requires c κs = (search admitted-good, omega (arith, (admitted-text c.check_book_text.ensures c.in-Accepted.is).short))
 
-returns : tie.Need-returns
+returns : tie.Need-returns-in-Refused
 unfolding if_text_accepted look_groups look
 returns c =
-    let checks = c.before.before.before in
-    look-refused _ checks.before.before.shared-slice-known.given checks.check-book-text.ensures c.before.r.given.1 refl
+    let checks = c.before in
+    look-refused _ checks.shared_slice_known-1.given checks.check_book_text.ensures c.in-Refused.is refl
 
-returns-2 : tie.Need-returns-2
+returns-2 : tie.Need-returns-in-Accepted
 unfolding if_text_accepted look_groups look
-returns-2 c = search (looked, c.place.ensures, c.before.find-class-net-cache-key.ensures)
+returns-2 c = search (looked, c.place.ensures, c.find_class_net_cache_key.ensures)
 
-pub find-class-net-cache-key-spec : {M : Type 1} → statement M
-find-class-net-cache-key-spec = tie.close (tie.spec (λ c κs. search rules) (λ c. search rules) (λ c. search rules) find-class-net-cache-key-requires (λ c κs. search rules) returns returns-2)
+pub find_class_net_cache_key_spec : {M : Type 1} → statement M
+find_class_net_cache_key_spec = tie.close (tie.spec (λ c κs. search rules) (λ c. search rules) (λ c. search rules) find-class-net-cache-key-requires (λ c κs. search rules) returns returns-2)

@@ -6,14 +6,14 @@ use Rattle.vrf_schema.proofs.Laws.Counters.{counters-refused, counters-read}
 use Rattle.vrf_schema.proofs.lookups.get_counters.Statement.{statement}
 use Rattle.vrf_schema.proofs.lookups.get_counters.Tie as tie
 
-read-counters-requires : tie.Need-read-counters-requires
-read-counters-requires c κs = omega (arith, (admitted-good c.before.before.check-book.ensures c.enum_told.given.1).enough)
+read-counters-requires : tie.Need-read_counters-requires
+read-counters-requires c κs = omega (arith, (admitted-good c.check_book.ensures c.in-Accepted.is).enough)
 
-returns : tie.Need-returns
+returns : tie.Need-returns-in-Refused
 returns c = search counters-refused
 
-returns-2 : tie.Need-returns-2
+returns-2 : tie.Need-returns-in-Accepted
 returns-2 c = search counters-read
 
-pub get-counters-spec : {M : Type 1} → statement M
-get-counters-spec = tie.close (tie.spec (λ c κs. search rules) (λ c. search rules) (λ c. search rules) read-counters-requires returns returns-2)
+pub get_counters_spec : {M : Type 1} → statement M
+get_counters_spec = tie.close (tie.spec (λ c κs. search rules) (λ c. search rules) (λ c. search rules) read-counters-requires returns returns-2)

@@ -5,15 +5,15 @@ use Rattle.vrf_schema.proofs.Laws.Checked.{call-refused, admitted-good, looked}
 use Rattle.vrf_schema.proofs.lookups.get_outer_guid.Statement.{statement}
 use Rattle.vrf_schema.proofs.lookups.get_outer_guid.Tie as tie
 
-get-outer-guid-requires : tie.Need-get-outer-guid-requires
+get-outer-guid-requires : tie.Need-get_outer_guid-requires
 get-outer-guid-requires c κs = search admitted-good
 
-returns : tie.Need-returns
+returns : tie.Need-returns-in-Refused
 returns c = search call-refused
 
-returns-2 : tie.Need-returns-2
+returns-2 : tie.Need-returns-in-Accepted
 unfolding if_text_accepted look_guids look
-returns-2 c = search (looked, c.number.ensures, c.before.get_outer_guid.ensures)
+returns-2 c = search (looked, c.number.ensures, c.get_outer_guid.ensures)
 
-pub get-outer-guid-spec : {M : Type 1} → statement M
-get-outer-guid-spec = tie.close (tie.spec (λ c κs. search rules) (λ c. search rules) (λ c. search rules) get-outer-guid-requires (λ c κs. search rules) returns returns-2)
+pub get_outer_guid_spec : {M : Type 1} → statement M
+get_outer_guid_spec = tie.close (tie.spec (λ c κs. search rules) (λ c. search rules) (λ c. search rules) get-outer-guid-requires (λ c κs. search rules) returns returns-2)

@@ -5,15 +5,15 @@ use Rattle.vrf_schema.proofs.Laws.Checked.{call-refused, admitted-good, looked}
 use Rattle.vrf_schema.proofs.lookups.group_index.Statement.{statement}
 use Rattle.vrf_schema.proofs.lookups.group_index.Tie as tie
 
-group-index-requires : tie.Need-group-index-requires
+group-index-requires : tie.Need-group_index-requires
 group-index-requires c κs = search admitted-good
 
-returns : tie.Need-returns
+returns : tie.Need-returns-in-Refused
 returns c = search call-refused
 
-returns-2 : tie.Need-returns-2
+returns-2 : tie.Need-returns-in-Accepted
 unfolding if_text_accepted look_groups look
 returns-2 c = search (looked, c.group_index.ensures)
 
-pub group-index-spec : {M : Type 1} → statement M
-group-index-spec = tie.close (tie.spec (λ c κs. search rules) (λ c. search rules) (λ c. search rules) group-index-requires returns returns-2)
+pub group_index_spec : {M : Type 1} → statement M
+group_index_spec = tie.close (tie.spec (λ c κs. search rules) (λ c. search rules) (λ c. search rules) group-index-requires returns returns-2)

@@ -6,11 +6,11 @@ use Rattle.vrf_store.specs.Inner.Lookups.{number_found}
 use Rattle.vrf_schema.proofs.lookups.number.Statement.{statement}
 use Rattle.vrf_schema.proofs.lookups.number.Tie as tie
 
-returns : tie.Need-returns
-returns c = ap found (sym (ap number_found c.before.n.given.1))
+returns : tie.Need-returns-in-Is
+returns c = ap found (sym (ap number_found c.in-Is.is))
 
-returns-2 : tie.Need-returns-2
-returns-2 c = ap found (sym (ap number_found c.enum_told.given.1))
+returns-2 : tie.Need-returns-in-Nothing
+returns-2 c = ap found (sym (ap number_found c.in-Nothing.is))
 
-pub number-spec : {M : Type 1} → statement M
-number-spec = tie.close (tie.spec (λ c. search rules) (λ c. search rules) returns returns-2)
+pub number_spec : {M : Type 1} → statement M
+number_spec = tie.close (tie.spec (λ c. search rules) (λ c. search rules) returns returns-2)

@@ -6,11 +6,11 @@ use Rattle.vrf_table.specs.Inner.Answers.{entry}
 use Rattle.vrf_schema.proofs.lookups.place.Statement.{statement}
 use Rattle.vrf_schema.proofs.lookups.place.Tie as tie
 
-returns : tie.Need-returns
-returns c = ap found (sym (ap entry c.before.e.given.1))
+returns : tie.Need-returns-in-At
+returns c = ap found (sym (ap entry c.in-At.is))
 
-returns-2 : tie.Need-returns-2
-returns-2 c = ap found (sym (ap entry c.enum_told.given.1))
+returns-2 : tie.Need-returns-in-Nowhere
+returns-2 c = ap found (sym (ap entry c.in-Nowhere.is))
 
-pub place-spec : {M : Type 1} → statement M
-place-spec = tie.close (tie.spec (λ c. search rules) (λ c. search rules) returns returns-2)
+pub place_spec : {M : Type 1} → statement M
+place_spec = tie.close (tie.spec (λ c. search rules) (λ c. search rules) returns returns-2)

@@ -7,18 +7,18 @@ use Rattle.vrf_schema.proofs.Laws.Checked.{look-refused, admitted-good, admitted
 use Rattle.vrf_schema.proofs.lookups.resolve_cnc_for_instance_name.Statement.{statement}
 use Rattle.vrf_schema.proofs.lookups.resolve_cnc_for_instance_name.Tie as tie
 
-resolve-cnc-for-instance-name-requires : tie.Need-resolve-cnc-for-instance-name-requires
-resolve-cnc-for-instance-name-requires c κs = (search admitted-good, omega (arith, (admitted-text c.before.before.check-book-text.ensures c.enum_told.given.1).short))
+resolve-cnc-for-instance-name-requires : tie.Need-resolve_cnc_for_instance_name-requires
+resolve-cnc-for-instance-name-requires c κs = (search admitted-good, omega (arith, (admitted-text c.check_book_text.ensures c.in-Accepted.is).short))
 
-returns : tie.Need-returns
+returns : tie.Need-returns-in-Refused
 unfolding if_text_accepted look_groups look
 returns c =
-    let checks = c.before.before.before in
-    look-refused _ checks.before.before.shared-slice-known.given checks.check-book-text.ensures c.before.r.given.1 refl
+    let checks = c.before in
+    look-refused _ checks.shared_slice_known-1.given checks.check_book_text.ensures c.in-Refused.is refl
 
-returns-2 : tie.Need-returns-2
+returns-2 : tie.Need-returns-in-Accepted
 unfolding if_text_accepted look_groups look
-returns-2 c = search (looked, c.place.ensures, c.before.resolve_cnc_for_instance_name.ensures)
+returns-2 c = search (looked, c.place.ensures, c.resolve_cnc_for_instance_name.ensures)
 
-pub resolve-cnc-for-instance-name-spec : {M : Type 1} → statement M
-resolve-cnc-for-instance-name-spec = tie.close (tie.spec (λ c κs. search rules) (λ c. search rules) (λ c. search rules) resolve-cnc-for-instance-name-requires (λ c κs. search rules) returns returns-2)
+pub resolve_cnc_for_instance_name_spec : {M : Type 1} → statement M
+resolve_cnc_for_instance_name_spec = tie.close (tie.spec (λ c κs. search rules) (λ c. search rules) (λ c. search rules) resolve-cnc-for-instance-name-requires (λ c κs. search rules) returns returns-2)

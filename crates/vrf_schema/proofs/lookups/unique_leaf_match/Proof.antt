@@ -7,18 +7,18 @@ use Rattle.vrf_schema.proofs.Laws.Checked.{look-refused, admitted-good, admitted
 use Rattle.vrf_schema.proofs.lookups.unique_leaf_match.Statement.{statement}
 use Rattle.vrf_schema.proofs.lookups.unique_leaf_match.Tie as tie
 
-unique-leaf-match-requires : tie.Need-unique-leaf-match-requires
-unique-leaf-match-requires c κs = (search admitted-good, omega (arith, (admitted-text c.before.before.check-book-text.ensures c.enum_told.given.1).short))
+unique-leaf-match-requires : tie.Need-unique_leaf_match-requires
+unique-leaf-match-requires c κs = (search admitted-good, omega (arith, (admitted-text c.check_book_text.ensures c.in-Accepted.is).short))
 
-returns : tie.Need-returns
+returns : tie.Need-returns-in-Refused
 unfolding if_text_accepted look_groups look
 returns c =
-    let checks = c.before.before.before in
-    look-refused _ checks.before.before.shared-slice-known.given checks.check-book-text.ensures c.before.r.given.1 refl
+    let checks = c.before in
+    look-refused _ checks.shared_slice_known-1.given checks.check_book_text.ensures c.in-Refused.is refl
 
-returns-2 : tie.Need-returns-2
+returns-2 : tie.Need-returns-in-Accepted
 unfolding if_text_accepted look_groups look
-returns-2 c = search (looked, c.place.ensures, c.before.unique-leaf-match.ensures)
+returns-2 c = search (looked, c.place.ensures, c.unique_leaf_match.ensures)
 
-pub unique-leaf-match-spec : {M : Type 1} → statement M
-unique-leaf-match-spec = tie.close (tie.spec (λ c κs. search rules) (λ c. search rules) (λ c. search rules) unique-leaf-match-requires (λ c κs. search rules) returns returns-2)
+pub unique_leaf_match_spec : {M : Type 1} → statement M
+unique_leaf_match_spec = tie.close (tie.spec (λ c κs. search rules) (λ c. search rules) (λ c. search rules) unique-leaf-match-requires (λ c κs. search rules) returns returns-2)

@@ -10,31 +10,31 @@ use Rattle.vrf_schema.proofs.Laws.Reading.{window-good, window-refused, run-read
 use Rattle.vrf_schema.proofs.reading.load_object.Statement.{statement}
 use Rattle.vrf_schema.proofs.reading.load_object.Tie as tie
 
-load-object-requires : tie.Need-load-object-requires
+load-object-requires : tie.Need-load_object-requires
 load-object-requires c κs = (search window-good, omega arith)
 
-returns : tie.Need-returns
+returns : tie.Need-returns-in-Refused
 unfolding run read_window
 returns c =
-    let checks = c.before.before.before in
-    let start = checks.before.before.before.before in
-    window-refused ran (object_at start.args.depth start.args.exporting) _ refl checks.before.before.before.slice-known.given checks.check-book-window.ensures c.before.r.given.1
+    let checks = c.before in
+    let start = checks.before.before.before in
+    window-refused ran (object_at start.args.depth start.args.exporting) _ refl checks.slice_known-1.given checks.check_book_window.ensures c.in-Refused.is
 
-returns-2 : tie.Need-returns-2
+returns-2 : tie.Need-returns-in-Window
 unfolding run read_window object_at
 returns-2 c =
     let after = c.before.before.before.before in
     let left = after.before.before.before in
-    let told = left.before.before in
-    let checks = told.before.before in
-    let start = checks.before.before.before.before in
+    let told = left.before in
+    let checks = told.before in
+    let start = checks.before.before.before in
     let call = after.load_object in
     let a = start.args in
-    run-read (object_at a.depth a.exporting) _ refl checks.before.before.before.slice-known.given checks.check-book-window.ensures told.c.given.1 call.result
-    (subst (λ (n : ℕ). Refines a.window.now (object n a.exporting) told.c.given.0.0 a.book.now call.new.1.1.0 (number_outcome call.result)) left.depth-left.ensures call.ensures) c.ended.ensures
+    run-read (object_at a.depth a.exporting) _ refl checks.slice_known-1.given checks.check_book_window.ensures told.in-Window.is call.result
+    (subst (λ (n : ℕ). Refines a.window.now (object n a.exporting) told.in-Window.c a.book.now call.new.1.1.0 (number_outcome call.result)) left.depth_left-left.ensures call.ensures) c.ended.ensures
 
-pub load-object-spec : {M : Type 1} → statement M
-load-object-spec =
+pub load_object_spec : {M : Type 1} → statement M
+load_object_spec =
     tie.close
     (tie.spec
     (λ c κs. search rules) (λ c. search rules) (λ c. search rules) (λ c κs. search rules) (λ c. search rules)

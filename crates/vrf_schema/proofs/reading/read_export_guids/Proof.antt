@@ -7,19 +7,19 @@ use Rattle.vrf_schema.proofs.Laws.Reading.{window-good, window-within, window-re
 use Rattle.vrf_schema.proofs.reading.read_export_guids.Statement.{statement}
 use Rattle.vrf_schema.proofs.reading.read_export_guids.Tie as tie
 
-read-export-guids-requires : tie.Need-read-export-guids-requires
+read-export-guids-requires : tie.Need-read_export_guids-requires
 read-export-guids-requires c κs = (search window-good, (omega arith, search window-within))
 
-returns : tie.Need-returns
+returns : tie.Need-returns-in-Refused
 unfolding run read_window
 returns c = search (window-refused ran guid_run)
 
-returns-2 : tie.Need-returns-2
+returns-2 : tie.Need-returns-in-Window
 unfolding run read_window
 returns-2 c = search (run-read guid_run)
 
-pub read-export-guids-spec : {M : Type 1} → statement M
-read-export-guids-spec =
+pub read_export_guids_spec : {M : Type 1} → statement M
+read_export_guids_spec =
     tie.close
     (tie.spec
     (λ c κs. search rules) (λ c. search rules) (λ c. search rules) (λ c. search rules) read-export-guids-requires

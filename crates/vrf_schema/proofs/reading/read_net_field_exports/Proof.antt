@@ -7,19 +7,19 @@ use Rattle.vrf_schema.proofs.Laws.Reading.{window-good, window-refused, run-read
 use Rattle.vrf_schema.proofs.reading.read_net_field_exports.Statement.{statement}
 use Rattle.vrf_schema.proofs.reading.read_net_field_exports.Tie as tie
 
-read-net-field-exports-requires : tie.Need-read-net-field-exports-requires
+read-net-field-exports-requires : tie.Need-read_net_field_exports-requires
 read-net-field-exports-requires c κs = (search window-good, omega arith)
 
-returns : tie.Need-returns
+returns : tie.Need-returns-in-Refused
 unfolding run read_window
 returns c = search (window-refused ran fields_run)
 
-returns-2 : tie.Need-returns-2
+returns-2 : tie.Need-returns-in-Window
 unfolding run read_window
 returns-2 c = search run-read
 
-pub read-net-field-exports-spec : {M : Type 1} → statement M
-read-net-field-exports-spec =
+pub read_net_field_exports_spec : {M : Type 1} → statement M
+read_net_field_exports_spec =
     tie.close
     (tie.spec
     (λ c κs. search rules) (λ c. search rules) (λ c. search rules) (λ c. search rules) read-net-field-exports-requires

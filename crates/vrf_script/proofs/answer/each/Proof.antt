@@ -5,10 +5,10 @@ use borrow.Author.Rules.{rules}
 use Rattle.vrf_script.proofs.answer.each.Statement.{statement}
 use Rattle.vrf_script.proofs.answer.each.Tie as tie
 
-abbrev invariant-loop : tie.invariant-loop
+abbrev invariant-loop : tie.invariant-loop-k
 invariant-loop out₀ to text how to₀ k₀ k-end out to' k = (k ≤ k-end) × (length out ≡ length out₀)
 
-abbrev decreases-loop : tie.decreases-loop
+abbrev decreases-loop : tie.decreases-loop-k
 decreases-loop out₀ to text how to₀ k₀ k-end out to' k = k-end - k
 
 pub each_spec : {M : Type 1} → statement M

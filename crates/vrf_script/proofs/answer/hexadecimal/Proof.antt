@@ -11,8 +11,8 @@ invariant-loop out₀ to n to₀ left₀ counter₀ out to' left counter = (coun
 abbrev decreases-loop : tie.decreases-loop
 decreases-loop out₀ to n to₀ left₀ counter₀ out to' left counter = 16 - counter
 
-pub hexadecimal-spec : {M : Type 1} → statement M
-hexadecimal-spec =
+pub hexadecimal_spec : {M : Type 1} → statement M
+hexadecimal_spec =
     tie.close
     (tie.spec
     invariant-loop decreases-loop (λ c. search rules) (λ c. search rules) (λ c κs. search rules) (λ c κs. search rules)

@@ -11,8 +11,8 @@ invariant-loop s script n out₀ run₀ windows₀ counter₀ out run windows co
 abbrev decreases-loop : tie.decreases-loop
 decreases-loop s script n out₀ run₀ windows₀ counter₀ out run windows counter = n - counter
 
-pub play-readings-spec : {M : Type 1} → statement M
-play-readings-spec =
+pub play_readings_spec : {M : Type 1} → statement M
+play_readings_spec =
     tie.close
     (tie.spec
     invariant-loop decreases-loop (λ c κs. search rules) (λ c. search rules) (λ c κs. search rules) (λ c. search rules)

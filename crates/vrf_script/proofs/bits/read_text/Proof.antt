@@ -3,17 +3,17 @@ use Rattle.vrf_script.proofs.Scratch.{text-within}
 use Rattle.vrf_script.proofs.bits.read_text.Statement.{statement}
 use Rattle.vrf_script.proofs.bits.read_text.Tie as tie
 
-returns : tie.Need-returns
+returns : tie.Need-returns-then-named
 returns c =
     let after-read-fname = c.before.before in
-    text-within _ _ _ _ _ after-read-fname.read-fname.result (search rules) after-read-fname.read-fname.ensures
+    text-within _ _ _ _ _ after-read-fname.read_fname.result (search rules) after-read-fname.read_fname.ensures
 
-returns-2 : tie.Need-returns-2
+returns-2 : tie.Need-returns
 returns-2 c =
     let after-read-text = c.before.before in
-    text-within _ _ _ _ _ after-read-text.read-text.result (search rules) after-read-text.read-text.ensures
+    text-within _ _ _ _ _ after-read-text.read_text.result (search rules) after-read-text.read_text.ensures
 
-pub read-text-spec : {M : Type 1} → statement M
-read-text-spec =
+pub read_text_spec : {M : Type 1} → statement M
+read_text_spec =
     tie.close
     (tie.spec (λ c κs. search rules) (λ c. search rules) returns (λ c κs. search rules) (λ c. search rules) returns-2)

@@ -11,8 +11,8 @@ invariant-loop script n out₀ run₀ counter₀ out run counter = (counter ≤ 
 abbrev decreases-loop : tie.decreases-loop
 decreases-loop script n out₀ run₀ counter₀ out run counter = n - counter
 
-pub skip-readings-spec : {M : Type 1} → statement M
-skip-readings-spec =
+pub skip_readings_spec : {M : Type 1} → statement M
+skip_readings_spec =
     tie.close
     (tie.spec
     invariant-loop decreases-loop (λ c. search rules) (λ c κs. search rules) (λ c κs. search rules) (λ c. search rules)

@@ -5,10 +5,10 @@ use borrow.Author.Rules.{rules}
 use Rattle.vrf_script.proofs.items.copy_in.Statement.{statement}
 use Rattle.vrf_script.proofs.items.copy_in.Tie as tie
 
-abbrev invariant-loop : tie.invariant-loop
+abbrev invariant-loop : tie.invariant-loop-k
 invariant-loop dst₀ src k₀ k-end dst k = (k ≤ k-end) × (length dst ≡ length dst₀)
 
-abbrev decreases-loop : tie.decreases-loop
+abbrev decreases-loop : tie.decreases-loop-k
 decreases-loop dst₀ src k₀ k-end dst k = k-end - k
 
 pub copy_in_spec : {M : Type 1} → statement M

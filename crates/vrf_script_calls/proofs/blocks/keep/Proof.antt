@@ -3,18 +3,18 @@ use Rattle.vrf_script_calls.specs.Inner.Blocks.{WroteIn}
 use Rattle.vrf_script_calls.proofs.blocks.keep.Statement.{statement}
 use Rattle.vrf_script_calls.proofs.blocks.keep.Tie as tie
 
-move-part-requires : tie.Need-move-part-requires
+move-part-requires : tie.Need-move_part-requires
 move-part-requires c κs =
-    let at-answer = c.before.before in
-    let start = at-answer.before.before.before in
-    omega (arith, subst (WroteIn start.args.n) at-answer.answer.given.1 start.requires.1)
+    let at-answer = c.before in
+    let start = at-answer.before.before in
+    omega (arith, subst (WroteIn start.args.n) at-answer.in-Length.is start.requires.1)
 
-returns-2 : tie.Need-returns-2
+returns-2 : tie.Need-returns-in-Length
 returns-2 c =
     let back = c.before.before.before.before in
-    let at-answer = back.before in
-    let start = at-answer.before.before.before in
-    omega (arith, subst (WroteIn start.args.n) at-answer.answer.given.1 start.requires.1)
+    let at-answer = back in
+    let start = at-answer.before.before in
+    omega (arith, subst (WroteIn start.args.n) at-answer.in-Length.is start.requires.1)
 
 pub keep_spec : {M : Type 1} → statement M
 keep_spec =

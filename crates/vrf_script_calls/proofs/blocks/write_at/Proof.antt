@@ -4,10 +4,10 @@ use Rattle.vrf_script_calls.proofs.blocks.write_at.Statement.{statement}
 use Rattle.vrf_script_calls.proofs.blocks.write_at.Tie as tie
 
 returns : tie.Need-returns
-returns c = wrote-within _ _ c.before.before.write-into.result (search rules) c.before.before.write-into.ensures
+returns c = wrote-within _ _ c.write_into.result (search rules) c.write_into.ensures
 
-pub write-at-spec : {M : Type 1} → statement M
-write-at-spec =
+pub write_at_spec : {M : Type 1} → statement M
+write_at_spec =
     tie.close
     (tie.spec
     (λ c. search rules) (λ c. search rules) (λ c. search rules) (λ c. search rules) (λ c κs. search rules)

@@ -5,7 +5,7 @@ use Rattle.vrf_script_calls.proofs.blocks.write_into.Statement.{statement}
 use Rattle.vrf_script_calls.proofs.blocks.write_into.Tie as tie
 
 returns : tie.Need-returns
-returns c = wrote-within _ _ c.before.before.write-checkpoint-tables.result (search rules) (wrote-in _ c.before.before.write-checkpoint-tables.ensures)
+returns c = wrote-within _ _ c.write_checkpoint_tables.result (search rules) (wrote-in _ c.write_checkpoint_tables.ensures)
 
 pub write_into_spec : {M : Type 1} → statement M
 write_into_spec =

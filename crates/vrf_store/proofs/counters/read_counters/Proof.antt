@@ -8,8 +8,8 @@ returns : tie.Need-returns
 unfolding counters_of long
 returns c = cc
 
-pub read-counters-spec : {M : Type 1} → statement M
-read-counters-spec =
+pub read_counters_spec : {M : Type 1} → statement M
+read_counters_spec =
     tie.close
     (tie.spec
     (λ c κs. search rules) (λ c κs. search rules) (λ c κs. search rules) (λ c κs. search rules) (λ c κs. search rules)

@@ -7,7 +7,7 @@ use Rattle.vrf_store.proofs.counters.step_guid.Tie as tie
 returns : tie.Need-returns
 returns c =
     let known = c.before.before.before.before in
-    counted-guid known.before.args.m.now (λ i. (known.slice-known.given i).fits) known.before.requires c.before.before.step.ensures
+    counted-guid known.args.m.now (λ i. (known.slice_known-1.given i).fits) known.requires c.step.ensures
 
-pub step-guid-spec : {M : Type 1} → statement M
-step-guid-spec = tie.close (tie.spec (λ c κs. search rules) (λ c. search rules) returns)
+pub step_guid_spec : {M : Type 1} → statement M
+step_guid_spec = tie.close (tie.spec (λ c κs. search rules) (λ c. search rules) returns)

@@ -7,7 +7,7 @@ use Rattle.vrf_store.proofs.counters.step_renamed.Tie as tie
 returns : tie.Need-returns
 returns c =
     let known = c.before.before.before.before in
-    counted-renamed known.before.args.m.now (λ i. (known.slice-known.given i).fits) known.before.requires c.before.before.step.ensures
+    counted-renamed known.args.m.now (λ i. (known.slice_known-1.given i).fits) known.requires c.step.ensures
 
-pub step-renamed-spec : {M : Type 1} → statement M
-step-renamed-spec = tie.close (tie.spec (λ c κs. search rules) (λ c. search rules) returns)
+pub step_renamed_spec : {M : Type 1} → statement M
+step_renamed_spec = tie.close (tie.spec (λ c κs. search rules) (λ c. search rules) returns)

@@ -7,19 +7,19 @@ use Rattle.vrf_store.proofs.fields.drop_fields.Statement.{statement}
 use Rattle.vrf_store.proofs.fields.drop_fields.Tie as tie
 
 -- the places where the numbers were read, seen from the pass over the rows
-abbrev held : tie.After-pass-rows → tie.After-held
+abbrev held : tie.After-pass_rows-kept → tie.After-held-total
 held c = c.before.before.before.before
 
-abbrev cap : tie.After-pass-rows → tie.After-fields-allowed
+abbrev cap : tie.After-pass_rows-kept → tie.After-fields_allowed-cap
 cap c = (held c).before.before.before.before
 
-sub-put32 : tie.Need-overflow-sub-put32
+sub-put32 : tie.Need-overflow_sub-total
 sub-put32 c =
     let back = c.before.before.before.before in
     let passed = back.before.before.before.before in
-    let start = (cap passed).before.before.before in
-    let within = dropped-held start.pre.0 _ start.pre.1 (cap passed).fields-allowed.ensures.0 passed.before.before.fields_at.ensures (held passed).before.before.fields.ensures passed.pass-rows.auto.0 passed.pass-rows.ensures in
-    omega (arith, within, (held passed).held.ensures)
+    let start = (cap passed).before.before in
+    let within = dropped-held start.requires.0 _ start.requires.1 (cap passed).fields_allowed-cap.ensures.0 passed.fields_at-from.ensures (held passed).fields-n.ensures passed.pass_rows-kept.auto.t passed.pass_rows-kept.ensures in
+    omega (arith, within, (held passed).held-total.ensures)
 
 returns : tie.Need-returns
 returns c =
@@ -27,12 +27,12 @@ returns c =
     let back = total.before.before.before.before in
     let counted = back.before in
     let passed = counted.before.before.before.before in
-    let start = (cap passed).before.before.before in
-    drop-fields start.pre.0 _ start.pre.1 (cap passed).fields-allowed.ensures.0 passed.before.before.fields_at.ensures (held passed).before.before.fields.ensures passed.pass-rows.auto.0 passed.pass-rows.ensures
-    (held passed).held.ensures counted.put32.ensures total.put322.ensures
+    let start = (cap passed).before.before in
+    drop-fields start.requires.0 _ start.requires.1 (cap passed).fields_allowed-cap.ensures.0 passed.fields_at-from.ensures (held passed).fields-n.ensures passed.pass_rows-kept.auto.t passed.pass_rows-kept.ensures
+    (held passed).held-total.ensures counted.put32.ensures total.put32-2.ensures
 
-pub drop-fields-spec : {M : Type 1} → statement M
-drop-fields-spec =
+pub drop_fields_spec : {M : Type 1} → statement M
+drop_fields_spec =
     tie.close
     (tie.spec
     (λ c κs. search rules) (λ c κs. search rules) (λ c κs. search rules) (λ c. search rules) (λ c κs. search rules)

@@ -6,18 +6,18 @@ use Rattle.vrf_store.proofs.Laws.Fields.Drop.{dropped-row, kept_row}
 use Rattle.vrf_store.proofs.fields.pass_row.Statement.{statement}
 use Rattle.vrf_store.proofs.fields.pass_row.Tie as tie
 
-returns : tie.Need-returns
+returns : tie.Need-returns-then-k-place
 unfolding key len
 returns c =
     let after-text-len = c.before in
     let after-get64 = after-text-len.before.before in
-    let at-slice-known = after-get64.before.before in
+    let at-slice-known = after-get64.before in
     let start = at-slice-known.before in
     let args = start.args in
     let small = word_bound args.t.now (6 * args.e + 4) (λ i. (at-slice-known.slice-known.given i).fits) in
-    (dropped-row args.t.now args.cap args.place args.e args.kept.rows args.kept.gone after-get64.get64.ensures after-text-len.text-len.ensures c.if1.true, omega arith, omega (arith, small, after-text-len.text-len.ensures, start.requires))
+    (dropped-row args.t.now args.cap args.place args.e args.kept.rows args.kept.gone after-get64.get64-k.ensures after-text-len.text_len-len.ensures c.if-k-place.true, omega arith, omega (arith, small, after-text-len.text_len-len.ensures, start.requires))
 
-returns-2 : tie.Need-returns-2
+returns-2 : tie.Need-returns
 unfolding key at len info
 returns-2 c =
     let after-push-row = c.before.before in
@@ -25,12 +25,12 @@ returns-2 c =
     let after-get32 = after-get322.before.before in
     let at-if1 = after-get32.before.before in
     let after-text-len = at-if1.before in
-    let after-get64 = after-text-len.before.before in
-    let args = after-get64.before.before.before.args in
-    (kept_row args.t.now args.cap args.place args.e args.kept.rows args.kept.gone after-get64.get64.ensures after-text-len.text-len.ensures at-if1.if1.false after-get32.get32.ensures after-get322.get322.ensures after-push-row.push-row.ensures, omega arith, omega arith)
+    let after-get64 = after-text-len.before in
+    let args = after-get64.args in
+    (kept_row args.t.now args.cap args.place args.e args.kept.rows args.kept.gone after-get64.get64.ensures after-text-len.text_len-len.ensures at-if1.if-k-place.false after-get32.get32-at.ensures after-get322.get32-info.ensures after-push-row.push_row.ensures, omega arith, omega arith)
 
-pub pass-row-spec : {M : Type 1} → statement M
-pass-row-spec =
+pub pass_row_spec : {M : Type 1} → statement M
+pass_row_spec =
     tie.close
     (tie.spec
     (λ c. search rules) (λ c κs. search rules) (λ c κs. search rules) (λ c. search rules) (λ c. search rules)

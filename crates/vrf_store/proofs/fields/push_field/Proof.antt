@@ -12,16 +12,16 @@ returns c =
     let after-fields-at = after-push-row.before.before in
     let after-held = after-fields-at.before.before in
     let after-fields = after-held.before.before in
-    let after-fields-allowed = after-fields.before.before in
+    let after-fields-allowed = after-fields.before in
     let at-slice-known = after-fields-allowed.before.before in
     let start = at-slice-known.before in
-    let row = after-push-row.push-row in
+    let row = after-push-row.push_row in
     push-field start.requires.0 (λ i. (at-slice-known.slice-known.given i).fits) _ _ _ _ _ start.requires.1 start.ranges.checksum.fits
-    after-fields-allowed.fields-allowed.ensures.0 after-fields-at.fields_at.ensures after-fields.fields.ensures after-held.held.ensures
-    (record { long = row.auto.0; made = row.ensures }) after-put32.put32.ensures after-put322.put322.ensures
+    after-fields-allowed.fields-allowed.ensures.0 after-fields-at.fields_at-from.ensures after-fields.fields-n.ensures after-held.held.ensures
+    (record { long = row.auto.0; made = row.ensures }) after-put32.put32.ensures after-put322.put32-2.ensures
 
-pub push-field-spec : {M : Type 1} → statement M
-push-field-spec =
+pub push_field_spec : {M : Type 1} → statement M
+push_field_spec =
     tie.close
     (tie.spec
     (λ c κs. search rules) (λ c κs. search rules) (λ c κs. search rules) (λ c. search rules) (λ c κs. search rules)

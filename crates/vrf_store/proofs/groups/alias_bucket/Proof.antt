@@ -6,14 +6,14 @@ use Rattle.vrf_store.specs.Inner.Groups.{bucket_of}
 use Rattle.vrf_store.proofs.groups.alias_bucket.Statement.{statement}
 use Rattle.vrf_store.proofs.groups.alias_bucket.Tie as tie
 
-returns : tie.Need-returns
+returns : tie.Need-returns-then-is_absent
 unfolding bucket_of
-returns c = let x = c.before.before.before.args in rw (spelled-absent x.path.now x.key (cc))
+returns c = let x = c.args in rw (spelled-absent x.path.now x.key (cc))
 
-returns-2 : tie.Need-returns-2
+returns-2 : tie.Need-returns
 unfolding bucket_of
-returns-2 c = let x = c.before.before.before.before.args in rw (spelled-bytes x.path.now x.key (cc)) (ap some c.spelled-bucket.ensures)
+returns-2 c = let x = c.args in rw (spelled-bytes x.path.now x.key (cc)) (ap some c.spelled_bucket.ensures)
 
-pub alias-bucket-spec : {M : Type 1} → statement M
-alias-bucket-spec =
+pub alias_bucket_spec : {M : Type 1} → statement M
+alias_bucket_spec =
     tie.close (tie.spec (λ c κs. search rules) returns (λ c κs. search rules) returns-2)

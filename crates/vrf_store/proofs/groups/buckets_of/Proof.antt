@@ -7,30 +7,30 @@ use Rattle.vrf_store.proofs.Laws.Groups.Memory.{row_inside, path_inside, path-sh
 use Rattle.vrf_store.proofs.groups.buckets_of.Statement.{statement}
 use Rattle.vrf_store.proofs.groups.buckets_of.Tie as tie
 
-row-text-requires : tie.Need-row-text-requires
+row-text-requires : tie.Need-row_text-path-requires
 row-text-requires c κs =
     let after-group-rows = c.before in
     let start = after-group-rows.before.before.before in
-    rw (after-group-rows.group-rows.ensures, c.texts.ensures) (row_inside start.requires, path_inside start.requires)
+    rw (after-group-rows.group_rows-rows.ensures, c.texts.ensures) (row_inside start.requires, path_inside start.requires)
 
 get64-requires : tie.Need-get64-requires
 get64-requires c κs =
     let after-group-rows = c.before.before in
-    omega (arith, ap length after-group-rows.group-rows.ensures, row_inside after-group-rows.before.before.before.requires)
+    omega (arith, ap length after-group-rows.group_rows-rows.ensures, row_inside after-group-rows.requires)
 
 -- the path is short
-short : (c : tie.After-row-text) → length c.row-text.result.now ≤ 4096
+short : (c : tie.After-row_text-path) → length c.row_text-path.result.now ≤ 4096
 short c =
     let texts = c.before in
     let rows = texts.before in
-    rw (c.row-text.ensures, rows.group-rows.ensures, texts.texts.ensures) (path-short rows.before.before.before.requires)
+    rw (c.row_text-path.ensures, rows.group_rows-rows.ensures, texts.texts.ensures) (path-short rows.requires)
 
 returns : tie.Need-returns
 unfolding key key_numbered bucket_of
-returns c = record { key = cc; own = cc; default = cc; core = cc; leaf = c.leaf-bucket-in.ensures }
+returns c = record { key = cc; own = cc; default = cc; core = cc; leaf = c.leaf_bucket_in.ensures }
 
-pub buckets-of-spec : {M : Type 1} → statement M
-buckets-of-spec =
+pub buckets_of_spec : {M : Type 1} → statement M
+buckets_of_spec =
     tie.close
     (tie.spec
     (λ c κs. search rules) (λ c. search rules) (λ c. search rules) (λ c. search rules) (λ c κs. search rules)

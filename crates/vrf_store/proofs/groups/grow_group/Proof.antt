@@ -4,30 +4,30 @@ use Rattle.vrf_store.proofs.Laws.Groups.Merged.{info-word, grow-stepped, grow-sk
 use Rattle.vrf_store.proofs.groups.grow_group.Statement.{statement}
 use Rattle.vrf_store.proofs.groups.grow_group.Tie as tie
 
-returns : tie.Need-returns
+returns : tie.Need-returns-then-get32-slots
 returns c =
     let after-put32 = c.before.before in
     let at-if1 = after-put32.before.before in
     let after-get32 = at-if1.before in
     let after-guids-allowed = after-get32.before.before in
-    let start = after-guids-allowed.before.before.before in
+    let start = after-guids-allowed.before in
     let x = start.args in
-    let guids = after-guids-allowed.guids-allowed.ensures.0 in
+    let guids = after-guids-allowed.guids_allowed.ensures.0 in
     let count = info-word start.requires.0 x.e x.slots start.requires.1 start.requires.2 guids in
-    grow-stepped start.requires.0 x.e x.slots start.requires.1 start.requires.2 guids (omega (arith, at-if1.if1.true, after-get32.get32.ensures, count)) after-put32.put32.ensures
+    grow-stepped start.requires.0 x.e x.slots start.requires.1 start.requires.2 guids (omega (arith, at-if1.if-get32-slots.true, after-get32.get32.ensures, count)) after-put32.put32.ensures
 
-returns-2 : tie.Need-returns-2
+returns-2 : tie.Need-returns-else-get32-slots
 returns-2 c =
     let after-get32 = c.before in
     let after-guids-allowed = after-get32.before.before in
-    let start = after-guids-allowed.before.before.before in
+    let start = after-guids-allowed.before in
     let x = start.args in
-    let guids = after-guids-allowed.guids-allowed.ensures.0 in
+    let guids = after-guids-allowed.guids_allowed.ensures.0 in
     let count = info-word start.requires.0 x.e x.slots start.requires.1 start.requires.2 guids in
-    grow-skipped start.requires.0 x.e x.slots start.requires.1 start.requires.2 guids (omega (arith, c.if1.false, after-get32.get32.ensures, count))
+    grow-skipped start.requires.0 x.e x.slots start.requires.1 start.requires.2 guids (omega (arith, c.if-get32-slots.false, after-get32.get32.ensures, count))
 
-pub grow-group-spec : {M : Type 1} → statement M
-grow-group-spec =
+pub grow_group_spec : {M : Type 1} → statement M
+grow_group_spec =
     tie.close
     (tie.spec
     (λ c κs. search rules) (λ c. search rules) (λ c. search rules) (λ c. search rules) (λ c. search rules)

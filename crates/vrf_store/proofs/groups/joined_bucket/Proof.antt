@@ -8,18 +8,18 @@ use Rattle.vrf_store.proofs.Laws.Groups.Buckets.{not-shared}
 use Rattle.vrf_store.proofs.groups.joined_bucket.Statement.{statement}
 use Rattle.vrf_store.proofs.groups.joined_bucket.Tie as tie
 
-returns : tie.Need-returns
+returns : tie.Need-returns-then-found-eq-AMBIGUOUS
 unfolding unless_shared
-returns c = rw (← c.before.before.leaf-claim.ensures.1, c.if1.true)
+returns c = rw (← c.leaf_claim-found.ensures.1, c.if-found-eq-AMBIGUOUS.true)
 
-returns-2 : tie.Need-returns-2
+returns-2 : tie.Need-returns
 returns-2 c =
     let after-leaf-claim = c.before.before in
     let back = after-leaf-claim.before.before.before.before in
-    let x = back.before.before.args in
-    let r = after-leaf-claim.leaf-claim in
-    ap some r.ensures.0 ∙ not-shared r.result.claim (leaf_bucket x.b x.l.now) c.if1.false ∙ ap (λ (v : Claim). unless_shared v (leaf_bucket x.b x.l.now)) r.ensures.1
+    let x = back.args in
+    let r = after-leaf-claim.leaf_claim-found in
+    ap some r.ensures.0 ∙ not-shared r.result.claim (leaf_bucket x.b x.l.now) c.if-found-eq-AMBIGUOUS.false ∙ ap (λ (v : Claim). unless_shared v (leaf_bucket x.b x.l.now)) r.ensures.1
 
-pub joined-bucket-spec : {M : Type 1} → statement M
-joined-bucket-spec =
+pub joined_bucket_spec : {M : Type 1} → statement M
+joined_bucket_spec =
     tie.close (tie.spec (λ c κs. search rules) returns returns-2)

@@ -4,40 +4,40 @@ use Rattle.vrf_store.proofs.Laws.Memory.Entries.{entry-written, entry_absent}
 use Rattle.vrf_store.proofs.groups.push_entry.Statement.{statement}
 use Rattle.vrf_store.proofs.groups.push_entry.Tie as tie
 
-get32-requires : tie.Need-get32-requires
+get32-requires : tie.Need-get32-link-requires
 get32-requires c κs =
-    let at_b = c.before.before in
-    let one = rw at_b.b.given.1 at at_b.before.before.before.requires.2 in
+    let at_b = c in
+    let one = rw at_b.in-Of.is at at_b.requires.2 in
     omega (arith, one)
 
-put32-requires-2 : tie.Need-put32-requires-2
+put32-requires-2 : tie.Need-put32-requires-in-Of
 put32-requires-2 c κs =
     let after-put32 = c.before.before.before in
-    let back = after-put32.before.before.before.before in
-    let at_b = back.before in
-    let start = at_b.before.before.before in
-    let one = rw at_b.b.given.1 at start.requires.2 in
-    omega (arith, one, start.requires.0, after-put32.put32.auto.0)
+    let back = after-put32.before.before.before in
+    let at_b = back in
+    let start = at_b.before.before in
+    let one = rw at_b.in-Of.is at start.requires.2 in
+    omega (arith, one, start.requires.0, after-put32.put32.auto.s)
 
-returns : tie.Need-returns
+returns : tie.Need-returns-in-Of
 returns c =
     let back = c.before.before.before.before in
     let back2 = back.before.before.before.before in
-    let at_b = back2.before.before.before in
-    let start = at_b.before.before.before in
+    let at_b = back2.before in
+    let start = at_b.before.before in
     let x = start.args in
-    let known = at_b.b.given in
+    let known = at_b.in-Of.given in
     let one = rw known.1 at start.requires.2 in
     rw known.1 (cc (entry-written x.m.now x.at x.n x.k start.requires.0 x.i start.requires.1 known.0.0 one x.p))
 
-returns-2 : tie.Need-returns-2
+returns-2 : tie.Need-returns-in_default
 returns-2 c =
-    let start = c.before.before.before in
+    let start = c.before.before in
     let x = start.args in
-    rw c.enum_told.given.1 (entry_absent x.m.now x.at x.n x.k start.requires.0 x.i x.p)
+    rw c.in_default.is (entry_absent x.m.now x.at x.n x.k start.requires.0 x.i x.p)
 
-pub push-entry-spec : {M : Type 1} → statement M
-push-entry-spec =
+pub push_entry_spec : {M : Type 1} → statement M
+push_entry_spec =
     tie.close
     (tie.spec
     (λ c. search rules) (λ c. search rules) (λ c. search rules) (λ c. search rules) get32-requires (λ c. search rules)

@@ -6,44 +6,44 @@ use Rattle.vrf_store.proofs.Laws.Groups.Changes.{with_group_row, push-written, p
 use Rattle.vrf_store.proofs.groups.push_group.Statement.{statement}
 use Rattle.vrf_store.proofs.groups.push_group.Tie as tie
 
-abbrev counted : tie.After-put-group → tie.After-held
+abbrev counted : tie.After-put_group → tie.After-held
 counted c = c.before.before
 
-abbrev start : tie.After-put-group → tie.Start
+abbrev start : tie.After-put_group → tie.Start
 start c =
     let groups = (counted c).before.before in
-    groups.before.before.before
+    groups.before
 
-abbrev row : tie.After-put322 → tie.After-put-group
+abbrev row : tie.After-put32-2 → tie.After-put_group
 row c =
     let one = c.before.before.before.before in
     one.before.before.before.before
 
 -- the store after the writes
-written : (c : tie.After-put322) →
+written : (c : tie.After-put32-2) →
     let x = (start (row c)).args in
     let m = x.m.now in
-    WrittenStore m c.put322.new.0 (with_group_row (store_of m) (header_of m).groups x.index x.at x.len x.slots (suc (header_of m).groups) ((header_of m).held + x.len))
+    WrittenStore m c.put32-2.new.s (with_group_row (store_of m) (header_of m).groups x.index x.at x.len x.slots (suc (header_of m).groups) ((header_of m).held + x.len))
 written c =
     let one = c.before.before.before.before in
     let s = start (row c) in
-    push-written _ _ _ _ _ s.pre s.fits.index.fits (counted (row c)).before.before.groups.ensures (counted (row c)).held.ensures (row c).put-group.ensures one.put32.ensures c.put322.ensures
+    push-written _ _ _ _ _ s.requires s.fits.index.fits (counted (row c)).groups-n.ensures (counted (row c)).held.ensures (row c).put_group.ensures one.put32.ensures c.put32-2.ensures
 
-index-group-requires : tie.Need-index-group-requires
+index-group-requires : tie.Need-index_group-requires
 index-group-requires c κs =
     let two = c.before.before.before in
     let s = start (row two) in
-    push-indexable _ _ _ _ _ s.pre s.fits.index.fits (counted (row two)).before.before.groups.ensures (written two)
+    push-indexable _ _ _ _ _ s.requires s.fits.index.fits (counted (row two)).groups-n.ensures (written two)
 
 returns : tie.Need-returns
 returns c =
     let indexed = c.before.before in
     let two = indexed.before.before.before.before in
     let s = start (row two) in
-    push-stepped _ _ _ _ _ s.pre s.fits.index.fits (counted (row two)).before.before.groups.ensures (written two) indexed.index-group.ensures
+    push-stepped _ _ _ _ _ s.requires s.fits.index.fits (counted (row two)).groups-n.ensures (written two) indexed.index_group.ensures
 
-pub push-group-spec : {M : Type 1} → statement M
-push-group-spec =
+pub push_group_spec : {M : Type 1} → statement M
+push_group_spec =
     tie.close
     (tie.spec
     (λ c κs. search rules) (λ c κs. search rules) (λ c. search rules) (λ c κs. search rules) (λ c. search rules)

@@ -4,20 +4,20 @@ use Rattle.vrf_store.proofs.Laws.Groups.Memory.{leaf-written}
 use Rattle.vrf_store.proofs.groups.push_leaf.Statement.{statement}
 use Rattle.vrf_store.proofs.groups.push_leaf.Tie as tie
 
-push-entry-requires : tie.Need-push-entry-requires
+push-entry-requires : tie.Need-push_entry-requires
 push-entry-requires c κs =
     let back = c.before.before.before.before in
-    (omega arith, omega arith, rw c.before.groups-allowed.ensures.0 back.before.before.requires.below)
+    (omega arith, omega arith, rw c.groups_allowed-r.ensures.0 back.requires.below)
 
 returns : tie.Need-returns
 returns c =
     let entered = c.before.before in
     let groups = entered.before.before in
     let guids = groups.before.before in
-    leaf-written _ _ _ _ _ _ guids.guids-allowed.ensures.0 groups.groups-allowed.ensures.0 guids.before.before.before.requires entered.push-entry.ensures
+    leaf-written _ _ _ _ _ _ guids.guids_allowed-g.ensures.0 groups.groups_allowed-r.ensures.0 guids.requires entered.push_entry.ensures
 
-pub push-leaf-spec : {M : Type 1} → statement M
-push-leaf-spec =
+pub push_leaf_spec : {M : Type 1} → statement M
+push_leaf_spec =
     tie.close
     (tie.spec
     (λ c κs. search rules) (λ c κs. search rules) (λ c. search rules) (λ c. search rules) (λ c. search rules)

@@ -9,13 +9,13 @@ returns c =
     let after-put-row = c.before.before in
     let after-guids-allowed = after-put-row.before.before in
     let after-groups-allowed = after-guids-allowed.before.before in
-    let start = after-groups-allowed.before.before.before in
+    let start = after-groups-allowed.before in
     let x = start.args in
-    let row = after-put-row.put-row in
-    row_written x.e x.index x.at x.len x.slots after-guids-allowed.guids-allowed.ensures.0 after-groups-allowed.groups-allowed.ensures.0 start.requires.0 start.requires.1 (record { long = row.auto.0; made = row.ensures })
+    let row = after-put-row.put_row in
+    row_written x.e x.index x.at x.len x.slots after-guids-allowed.guids_allowed.ensures.0 after-groups-allowed.groups_allowed-cap.ensures.0 start.requires.0 start.requires.1 (record { long = row.auto.0; made = row.ensures })
 
-pub put-group-spec : {M : Type 1} → statement M
-put-group-spec =
+pub put_group_spec : {M : Type 1} → statement M
+put_group_spec =
     tie.close
     (tie.spec
     (λ c κs. search rules) (λ c κs. search rules) (λ c. search rules) (λ c. search rules) (λ c. search rules)

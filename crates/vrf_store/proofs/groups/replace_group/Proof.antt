@@ -4,14 +4,14 @@ use Rattle.vrf_store.proofs.Laws.Groups.Replaced.{replace-handles, replace-conte
 use Rattle.vrf_store.proofs.groups.replace_group.Statement.{statement}
 use Rattle.vrf_store.proofs.groups.replace_group.Tie as tie
 
-set-row-requires : tie.Need-set-row-requires
-set-row-requires c κs = let pre = c.before.before.requires in (pre.0, replace-handles pre.0 pre.1)
+set-row-requires : tie.Need-set_row-requires
+set-row-requires c κs = let pre = c.requires in (pre.0, replace-handles pre.0 pre.1)
 
 returns : tie.Need-returns
 returns c =
     let after-set-row = c.before.before in
-    let pre = after-set-row.before.before.before.requires in
-    stepped-as after-set-row.set-row.ensures (replace-content pre.0 pre.1)
+    let pre = after-set-row.requires in
+    stepped-as after-set-row.set_row.ensures (replace-content pre.0 pre.1)
 
-pub replace-group-spec : {M : Type 1} → statement M
-replace-group-spec = tie.close (tie.spec set-row-requires (λ c. search rules) returns)
+pub replace_group_spec : {M : Type 1} → statement M
+replace_group_spec = tie.close (tie.spec set-row-requires (λ c. search rules) returns)

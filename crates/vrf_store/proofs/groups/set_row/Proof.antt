@@ -8,42 +8,42 @@ use Rattle.vrf_store.proofs.Laws.Groups.Replaced.{row_in, path-held, set-written
 use Rattle.vrf_store.proofs.groups.set_row.Statement.{statement}
 use Rattle.vrf_store.proofs.groups.set_row.Tie as tie
 
-abbrev start : tie.After-group-rows → tie.Start
+abbrev start : tie.After-group_rows → tie.Start
 start c =
-    let back = c.before.before.before.before in
+    let back = c.before.before.before in
     back.before
 
-text-len-requires : tie.Need-text-len-requires
-text-len-requires c κs = let s = start c in rw c.group-rows.ensures (row_in s.pre.0.good.valid s.args.e s.pre.0.known)
+text-len-requires : tie.Need-text_len-requires
+text-len-requires c κs = let s = start c in rw c.group_rows.ensures (row_in s.requires.0.good.valid s.args.e s.requires.0.known)
 
-sub-total : tie.Need-overflow-sub-total
+sub-total : tie.Need-overflow_sub-total
 sub-total c =
     let rows = c.before in
     let s = start rows in
-    rw (c.text-len.ensures, rows.group-rows.ensures, rows.before.before.held.ensures) (path-held s.pre.0.good.valid s.args.e s.pre.0.known)
+    rw (c.text_len.ensures, rows.group_rows.ensures, rows.held.ensures) (path-held s.requires.0.good.valid s.args.e s.requires.0.known)
 
 -- the store that the memory is to hold, and that it holds it after the writes
 abbrev new : tie.Start → Store
 new c = let x = c.args in let m = x.m.now in with_group_row (store_of m) x.e x.index x.at x.len x.slots (header_of m).groups ((header_of m).held - len (store_of m).group_rows x.e + x.len)
 
-abbrev rows : tie.After-put32 → tie.After-group-rows
+abbrev rows : tie.After-put32 → tie.After-group_rows
 rows c =
     let put = c.before.before.before.before in
     put.before.before.before
 
-written : (c : tie.After-put32) → WrittenStore (start (rows c)).args.m.now c.put32.new.0 (new (start (rows c)))
+written : (c : tie.After-put32) → WrittenStore (start (rows c)).args.m.now c.put32.new.s (new (start (rows c)))
 written c =
     let put = c.before.before.before.before in
     let s = start (rows c) in
     let x = s.args in
-    set-written x.m.now x.e x.index x.at x.len x.slots s.pre.0 s.fits.index.fits s.pre.1 (rows c).before.before.held.ensures (put.before.before.text-len.ensures ∙ ap (λ (r : List ℕ). len r x.e) (rows c).group-rows.ensures) put.put-group.ensures c.put32.ensures
+    set-written x.m.now x.e x.index x.at x.len x.slots s.requires.0 s.fits.index.fits s.requires.1 (rows c).held.ensures (put.text_len.ensures ∙ ap (λ (r : List ℕ). len r x.e) (rows c).group_rows.ensures) put.put_group.ensures c.put32.ensures
 
-rebuild-group-indexes-requires : tie.Need-rebuild-group-indexes-requires
+rebuild-group-indexes-requires : tie.Need-rebuild_group_indexes-requires
 rebuild-group-indexes-requires c κs =
     let put = c.before.before.before in
     let s = start (rows put) in
     let x = s.args in
-    set-ready x.m.now x.e x.index x.at x.len x.slots s.pre.0 s.fits.index.fits s.pre.1 (written put)
+    set-ready x.m.now x.e x.index x.at x.len x.slots s.requires.0 s.fits.index.fits s.requires.1 (written put)
 
 returns : tie.Need-returns
 returns c =
@@ -51,10 +51,10 @@ returns c =
     let put = rebuilt.before.before.before.before in
     let s = start (rows put) in
     let x = s.args in
-    set-stepped x.m.now x.e x.index x.at x.len x.slots s.pre.0 s.fits.index.fits s.pre.1 (written put) rebuilt.rebuild-group-indexes.ensures
+    set-stepped x.m.now x.e x.index x.at x.len x.slots s.requires.0 s.fits.index.fits s.requires.1 (written put) rebuilt.rebuild_group_indexes.ensures
 
-pub set-row-spec : {M : Type 1} → statement M
-set-row-spec =
+pub set_row_spec : {M : Type 1} → statement M
+set_row_spec =
     tie.close
     (tie.spec
     (λ c κs. search rules) (λ c κs. search rules) text-len-requires sub-total (λ c. search rules) (λ c κs. search rules)

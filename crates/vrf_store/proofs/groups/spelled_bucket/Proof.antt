@@ -5,23 +5,23 @@ use Rattle.vrf_table.proofs.Laws.Spelled.{key-short, written-part, written-withi
 use Rattle.vrf_store.proofs.groups.spelled_bucket.Statement.{statement}
 use Rattle.vrf_store.proofs.groups.spelled_bucket.Tie as tie
 
-spell-requires : tie.Need-spell-requires
+spell-requires : tie.Need-spell-n-requires
 spell-requires c κs =
     let start = c.before.before in
     omega (arith, key-short start.args.path.now start.args.key, start.requires)
 
-text-bucket-requires : tie.Need-text-bucket-requires
+text-bucket-requires : tie.Need-text_bucket-requires
 text-bucket-requires c κs =
     let after-spell = c.before.before in
     let start = after-spell.before.before.before in
-    rw after-spell.spell.ensures.bytes (omega (arith, key-short start.args.path.now start.args.key, start.requires))
+    rw after-spell.spell-n.ensures.bytes (omega (arith, key-short start.args.path.now start.args.key, start.requires))
 
 returns : tie.Need-returns
-returns c = c.text-bucket.ensures ∙ ap (text_bucket _) c.before.before.before.spell.ensures.bytes
+returns c = c.text_bucket.ensures ∙ ap (text_bucket _) c.spell-n.ensures.bytes
 
-pub spelled-bucket-spec : {M : Type 1} → statement M
-spelled-bucket-spec =
+pub spelled_bucket_spec : {M : Type 1} → statement M
+spelled_bucket_spec =
     tie.close
     (tie.spec
-    (λ c. search rules) spell-requires (λ c. written-within c.before.spell.ensures)
-    (λ c. written-part c.before.before.spell.ensures) text-bucket-requires returns)
+    (λ c. search rules) spell-requires (λ c. written-within c.spell-n.ensures)
+    (λ c. written-part c.spell-n.ensures) text-bucket-requires returns)

@@ -12,16 +12,16 @@ returns c =
     let after-held = after-push-row.before.before in
     let after-guids = after-held.before.before in
     let after-guids-allowed = after-guids.before.before in
-    let at-slice-known = after-guids-allowed.before.before in
+    let at-slice-known = after-guids-allowed in
     let start = at-slice-known.before in
     let args = start.args in
-    let row = after-push-row.push-row in
+    let row = after-push-row.push_row in
     push-guid args.m.now args.guid args.at args.len args.outer start.requires (λ i. (at-slice-known.slice-known.given i).fits) start.ranges.guid.fits start.ranges.outer.fits
-    after-guids-allowed.guids-allowed.ensures.0 after-guids.guids.ensures after-held.held.ensures
-    (record { long = row.auto.0; made = row.ensures }) after-put32.put32.ensures after-put322.put322.ensures
+    after-guids-allowed.guids_allowed-cap.ensures.0 after-guids.guids-n.ensures after-held.held.ensures
+    (record { long = row.auto.0; made = row.ensures }) after-put32.put32.ensures after-put322.put32-2.ensures
 
-pub push-guid-spec : {M : Type 1} → statement M
-push-guid-spec =
+pub push_guid_spec : {M : Type 1} → statement M
+push_guid_spec =
     tie.close
     (tie.spec
     (λ c κs. search rules) (λ c κs. search rules) (λ c κs. search rules) (λ c. search rules) (λ c. search rules)

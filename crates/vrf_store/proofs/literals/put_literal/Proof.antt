@@ -8,9 +8,9 @@ returns : tie.Need-returns
 returns c =
     let after-put32 = c.before.before in
     let after-literals-at = after-put32.before.before in
-    let start = after-literals-at.before.before.before in
-    literal-put start.requires.0 start.args.i start.args.position start.requires.1 after-literals-at.literals-at.ensures after-put32.put32.ensures
+    let start = after-literals-at.before.before in
+    literal-put start.requires.0 start.args.i start.args.position start.requires.1 after-literals-at.literals_at-at.ensures after-put32.put32.ensures
 
-pub put-literal-spec : {M : Type 1} → statement M
-put-literal-spec =
+pub put_literal_spec : {M : Type 1} → statement M
+put_literal_spec =
     tie.close (tie.spec (λ c κs. search rules) (λ c. search rules) (λ c κs. search rules) (λ c. search rules) returns)

@@ -7,28 +7,28 @@ use Rattle.vrf_store.proofs.Laws.Fields.Row.{slot-filled, slot-empty, slot-row-b
 use Rattle.vrf_store.proofs.look.field_checksum.Statement.{statement}
 use Rattle.vrf_store.proofs.look.field_checksum.Tie as tie
 
-row-info-requires : tie.Need-row-info-requires
+row-info-requires : tie.Need-row_info-requires
 row-info-requires c κs =
-    let at-e = c.before.before in
-    let found = at-e.before.before in
-    let valid = found.before.before.requires.valid in
-    field_row valid c.field-rows.ensures (slot-row-below valid _ _ found.slot_row.ensures at-e.e.given.1)
+    let at-e = c.before in
+    let found = at-e.before in
+    let valid = found.requires.valid in
+    field_row valid c.field_rows.ensures (slot-row-below valid _ _ found.slot_row.ensures at-e.in-At.is)
 
-returns : tie.Need-returns
+returns : tie.Need-returns-in-At
 unfolding slot_checksum field_at
 returns c =
-    let at-e = c.before.before.before in
-    let found = at-e.before.before in
-    rw (slot-filled found.before.before.requires.valid _ _ found.slot_row.ensures at-e.e.given.1) cc
+    let at-e = c.before.before in
+    let found = at-e.before in
+    rw (slot-filled found.requires.valid _ _ found.slot_row.ensures at-e.in-At.is) cc
 
-returns-2 : tie.Need-returns-2
+returns-2 : tie.Need-returns-in-Nowhere
 unfolding slot_checksum
 returns-2 c =
-    let found = c.before.before in
-    rw (slot-empty found.before.before.requires.valid _ _ found.slot_row.ensures c.enum_told.given.1)
+    let found = c.before in
+    rw (slot-empty found.requires.valid _ _ found.slot_row.ensures c.in-Nowhere.is)
 
-pub field-checksum-spec : {M : Type 1} → statement M
-field-checksum-spec =
+pub field_checksum_spec : {M : Type 1} → statement M
+field_checksum_spec =
     tie.close
     (tie.spec
     (λ c κs. search rules) (λ c. search rules) (λ c κs. search rules) row-info-requires (λ c. search rules) returns

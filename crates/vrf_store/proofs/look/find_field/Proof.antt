@@ -4,17 +4,17 @@ use Rattle.vrf_store.specs.Store.{slot_key}
 use Rattle.vrf_store.proofs.look.find_field.Statement.{statement}
 use Rattle.vrf_store.proofs.look.find_field.Tie as tie
 
-find-key-requires : tie.Need-find-key-requires
+find-key-requires : tie.Need-find_key-requires
 find-key-requires c κs =
     let heads = c.before.before in
-    omega (arith, ap length heads.before.field-rows.ensures, ap length heads.field-heads.ensures)
+    omega (arith, ap length heads.field_rows.ensures, ap length heads.field_heads.ensures)
 
 returns : tie.Need-returns
 unfolding slot_key
 returns c = cc
 
-pub find-field-spec : {M : Type 1} → statement M
-find-field-spec =
+pub find_field_spec : {M : Type 1} → statement M
+find_field_spec =
     tie.close
     (tie.spec
     (λ c. search rules) (λ c. search rules) (λ c κs. search rules) (λ c κs. search rules) (λ c κs. search rules)

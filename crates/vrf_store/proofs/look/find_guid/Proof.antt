@@ -4,10 +4,10 @@ use Rattle.vrf_store.proofs.Laws.Lookups.{guid-found}
 use Rattle.vrf_store.proofs.look.find_guid.Statement.{statement}
 use Rattle.vrf_store.proofs.look.find_guid.Tie as tie
 
-find-key-requires : tie.Need-find-key-requires
+find-key-requires : tie.Need-find_key-requires
 find-key-requires c κs =
     let heads = c.before.before in
-    omega (arith, ap length heads.before.guid-rows.ensures, ap length heads.guid-heads.ensures)
+    omega (arith, ap length heads.guid_rows.ensures, ap length heads.guid_heads.ensures)
 
 returns : tie.Need-returns
 returns c =
@@ -15,8 +15,8 @@ returns c =
     let start = back.before.before in
     cc (guid-found start.requires.valid start.args.guid)
 
-pub find-guid-spec : {M : Type 1} → statement M
-find-guid-spec =
+pub find_guid_spec : {M : Type 1} → statement M
+find_guid_spec =
     tie.close
     (tie.spec
     (λ c κs. search rules) (λ c κs. search rules) (λ c κs. search rules) (λ c κs. search rules) find-key-requires

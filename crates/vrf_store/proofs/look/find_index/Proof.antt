@@ -4,10 +4,10 @@ use Rattle.vrf_store.proofs.Laws.Lookups.{index-found}
 use Rattle.vrf_store.proofs.look.find_index.Statement.{statement}
 use Rattle.vrf_store.proofs.look.find_index.Tie as tie
 
-find-key-requires : tie.Need-find-key-requires
+find-key-requires : tie.Need-find_key-requires
 find-key-requires c κs =
     let heads = c.before.before in
-    omega (arith, ap length heads.before.group-rows.ensures, ap length heads.group-heads.ensures)
+    omega (arith, ap length heads.group_rows.ensures, ap length heads.group_heads.ensures)
 
 returns : tie.Need-returns
 returns c =
@@ -15,8 +15,8 @@ returns c =
     let start = back.before.before in
     cc (index-found start.requires.valid start.args.index)
 
-pub find-index-spec : {M : Type 1} → statement M
-find-index-spec =
+pub find_index_spec : {M : Type 1} → statement M
+find_index_spec =
     tie.close
     (tie.spec
     (λ c κs. search rules) (λ c κs. search rules) (λ c κs. search rules) (λ c κs. search rules) find-key-requires

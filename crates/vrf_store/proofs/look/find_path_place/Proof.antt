@@ -6,7 +6,7 @@ use Rattle.vrf_store.proofs.Laws.Lookups.{third, path-found}
 use Rattle.vrf_store.proofs.look.find_path_place.Statement.{statement}
 use Rattle.vrf_store.proofs.look.find_path_place.Tie as tie
 
-find-path-requires : tie.Need-find-path-requires
+find-path-requires : tie.Need-find_path-requires
 find-path-requires c κs =
     let after-path-links = c.before in
     let after-texts = after-path-links.before in
@@ -14,31 +14,31 @@ find-path-requires c κs =
     let after-groups = after-group-rows.before in
     let after-path-buckets = after-groups.before in
     let start = after-path-buckets.before.before.before in
-    path-walk start.requires.0.valid after-group-rows.group-rows.ensures after-texts.texts.ensures after-groups.groups.ensures after-path-buckets.path-buckets.ensures after-path-links.path-links.ensures c.path-heads.ensures start.requires.1
+    path-walk start.requires.0.valid after-group-rows.group_rows.ensures after-texts.texts.ensures after-groups.groups-n.ensures after-path-buckets.path_buckets-b.ensures after-path-links.path_links.ensures c.path_heads.ensures start.requires.1
 
-returns : tie.Need-returns
+returns : tie.Need-returns-in-At
 unfolding third
 returns c =
-    let at-e = c.before in
-    let back = at-e.before.before.before.before in
+    let at-e = c in
+    let back = at-e.before.before.before in
     let back2 = back.before.before.before.before in
     let start = back2.before.before.before in
-    let outcome = ap entry at-e.e.given.1 in
+    let outcome = ap entry at-e.in-At.is in
     let place = path-found start.requires.0.valid start.args.k.now in
     cc
 
-returns-2 : tie.Need-returns-2
+returns-2 : tie.Need-returns-in-Nowhere
 unfolding third
 returns-2 c =
-    let back = c.before.before.before.before in
+    let back = c.before.before.before in
     let back2 = back.before.before.before.before in
     let start = back2.before.before.before in
-    let outcome = ap entry c.enum_told.given.1 in
+    let outcome = ap entry c.in-Nowhere.is in
     let place = path-found start.requires.0.valid start.args.k.now in
     cc
 
-pub find-path-place-spec : {M : Type 1} → statement M
-find-path-place-spec =
+pub find_path_place_spec : {M : Type 1} → statement M
+find_path_place_spec =
     tie.close
     (tie.spec
     (λ c κs. search rules) (λ c κs. search rules) (λ c κs. search rules) (λ c κs. search rules) (λ c κs. search rules)

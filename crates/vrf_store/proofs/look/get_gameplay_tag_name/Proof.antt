@@ -5,22 +5,21 @@ use Rattle.vrf_table.specs.Inner.Answers.{entry}
 use Rattle.vrf_store.proofs.look.get_gameplay_tag_name.Statement.{statement}
 use Rattle.vrf_store.proofs.look.get_gameplay_tag_name.Tie as tie
 
-returns : tie.Need-returns
+returns : tie.Need-returns-in-At
 unfolding gameplay_tag then_lookup tag_group_path
 returns c =
-    let at_place = c.before.before in
-    let there = sym at_place.before.before.find-path-place.ensures ∙ ap entry at_place.place.given.1 in
-    rw there c.if-filled.ensures
+    let at_place = c.before in
+    let there = sym at_place.find_path_place.ensures ∙ ap entry at_place.in-At.is in
+    rw there c.if_filled.ensures
 
-returns-2 : tie.Need-returns-2
+returns-2 : tie.Need-returns-in-Nowhere
 unfolding gameplay_tag then_lookup tag_group_path
 returns-2 c =
-    let there = sym c.before.before.find-path-place.ensures ∙ ap entry c.enum_told.given.1 in
+    let there = sym c.find_path_place.ensures ∙ ap entry c.in-Nowhere.is in
     rw there
 
-pub get-gameplay-tag-name-spec : {M : Type 1} → statement M
-get-gameplay-tag-name-spec =
+pub get_gameplay_tag_name_spec : {M : Type 1} → statement M
+get_gameplay_tag_name_spec =
     tie.close
     (tie.spec
-    (λ c. search rules) (λ c κs. search rules) (λ c. search rules) (λ c κs. search rules) (λ c. search rules) returns
-    returns-2)
+    (λ c κs. search rules) (λ c. search rules) (λ c κs. search rules) (λ c. search rules) returns returns-2)

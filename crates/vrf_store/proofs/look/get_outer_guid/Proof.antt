@@ -6,22 +6,22 @@ use Rattle.vrf_store.proofs.Laws.Fields.Row.{outer-place}
 use Rattle.vrf_store.proofs.look.get_outer_guid.Statement.{statement}
 use Rattle.vrf_store.proofs.look.get_outer_guid.Tie as tie
 
-returns : tie.Need-returns
+returns : tie.Need-returns-in-At
 unfolding outer_guid then_lookup
 returns c =
     let after-guid-outer = c.before in
-    let at_i = after-guid-outer.before.before in
-    let there = sym at_i.before.before.find-guid.ensures ∙ ap entry at_i.i.given.1 in
-    rw (there, outer-place, ← after-guid-outer.guid-outer.ensures) c.unless-zero.ensures
+    let at_i = after-guid-outer.before in
+    let there = sym at_i.find_guid.ensures ∙ ap entry at_i.in-At.is in
+    rw (there, outer-place, ← after-guid-outer.guid_outer.ensures) c.unless_zero.ensures
 
-returns-2 : tie.Need-returns-2
+returns-2 : tie.Need-returns-in-Nowhere
 unfolding outer_guid then_lookup
 returns-2 c =
-    let there = sym c.before.before.find-guid.ensures ∙ ap entry c.enum_told.given.1 in
+    let there = sym c.find_guid.ensures ∙ ap entry c.in-Nowhere.is in
     rw there
 
-pub get-outer-guid-spec : {M : Type 1} → statement M
-get-outer-guid-spec =
+pub get_outer_guid_spec : {M : Type 1} → statement M
+get_outer_guid_spec =
     tie.close
     (tie.spec
     (λ c κs. search rules) (λ c. search rules) (λ c κs. search rules) (λ c κs. search rules) (λ c. search rules) returns

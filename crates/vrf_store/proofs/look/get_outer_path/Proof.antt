@@ -5,20 +5,20 @@ use Rattle.vrf_store.specs.Inner.Lookups.{number_found}
 use Rattle.vrf_store.proofs.look.get_outer_path.Statement.{statement}
 use Rattle.vrf_store.proofs.look.get_outer_path.Tie as tie
 
-returns : tie.Need-returns
+returns : tie.Need-returns-in-Is
 unfolding outer_path then_lookup
 returns c =
-    let at-outer = c.before.before in
-    let there = sym at-outer.before.before.get_outer_guid.ensures ∙ ap number_found at-outer.outer.given.1 in
-    rw there c.find-guid.ensures
+    let at-outer = c.before in
+    let there = sym at-outer.get_outer_guid.ensures ∙ ap number_found at-outer.in-Is.is in
+    rw there c.find_guid.ensures
 
-returns-2 : tie.Need-returns-2
+returns-2 : tie.Need-returns-in-Nothing
 unfolding outer_path then_lookup
 returns-2 c =
-    let there = sym c.before.before.get_outer_guid.ensures ∙ ap number_found c.enum_told.given.1 in
+    let there = sym c.get_outer_guid.ensures ∙ ap number_found c.in-Nothing.is in
     rw there
 
-pub get-outer-path-spec : {M : Type 1} → statement M
-get-outer-path-spec =
+pub get_outer_path_spec : {M : Type 1} → statement M
+get_outer_path_spec =
     tie.close
     (tie.spec (λ c κs. search rules) (λ c. search rules) (λ c κs. search rules) (λ c. search rules) returns returns-2)

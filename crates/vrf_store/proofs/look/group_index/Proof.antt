@@ -8,18 +8,18 @@ use Rattle.vrf_store.proofs.Laws.Lookups.{group-at, group-past}
 use Rattle.vrf_store.proofs.look.group_index.Statement.{statement}
 use Rattle.vrf_store.proofs.look.group_index.Tie as tie
 
-row-key-requires : tie.Need-row-key-requires
-row-key-requires c κs = group-row c.before.before.before.before.requires.valid c.group-rows.ensures (omega arith)
+row-key-requires : tie.Need-row_key-requires
+row-key-requires c κs = group-row c.requires.valid c.group_rows.ensures (omega arith)
 
-cast-result : tie.Need-overflow-cast-result
+cast-result : tie.Need-overflow_cast-result
 cast-result c =
     let after-group-rows = c.before in
     let start = after-group-rows.before.before.before.before in
     let i = start.args.i in
-    let same = c.row-key.ensures ∙ ap (λ (r : List ℕ). key r i) after-group-rows.group-rows.ensures in
+    let same = c.row_key.ensures ∙ ap (λ (r : List ℕ). key r i) after-group-rows.group_rows.ensures in
     omega (arith, (start.requires.valid.groups i (omega arith)).0)
 
-returns : tie.Need-returns
+returns : tie.Need-returns-then-i-groups
 unfolding group_by
 returns c =
     let back = c.before.before.before.before in
@@ -27,12 +27,12 @@ returns c =
     let there = group-at (store_of start.args.m.now) 0 start.args.i (λ (g : Group). g.index) (omega arith) in
     cc
 
-returns-2 : tie.Need-returns-2
+returns-2 : tie.Need-returns
 returns-2 c =
     let start = c.before.before.before in
     sym (group-past (store_of start.args.m.now) 0 start.args.i (λ (g : Group). g.index) (omega arith))
 
-pub group-index-spec : {M : Type 1} → statement M
-group-index-spec =
+pub group_index_spec : {M : Type 1} → statement M
+group_index_spec =
     tie.close
     (tie.spec (λ c κs. search rules) (λ c κs. search rules) row-key-requires cast-result returns returns-2)

@@ -7,13 +7,13 @@ use Rattle.vrf_store.proofs.Laws.Lookups.{group-at, group-past}
 use Rattle.vrf_store.proofs.look.group_path.Statement.{statement}
 use Rattle.vrf_store.proofs.look.group_path.Tie as tie
 
-row-text-requires : tie.Need-row-text-requires
+row-text-requires : tie.Need-row_text-requires
 row-text-requires c κs =
     let after-group-rows = c.before in
     let start = after-group-rows.before.before.before.before in
-    (group-row start.requires.valid after-group-rows.group-rows.ensures (omega arith), group-text start.requires.valid after-group-rows.group-rows.ensures c.texts.ensures (omega arith))
+    (group-row start.requires.valid after-group-rows.group_rows.ensures (omega arith), group-text start.requires.valid after-group-rows.group_rows.ensures c.texts.ensures (omega arith))
 
-returns : tie.Need-returns
+returns : tie.Need-returns-then-i-groups
 unfolding group_by
 returns c =
     let back = c.before.before.before.before in
@@ -21,13 +21,13 @@ returns c =
     let there = group-at (store_of start.args.m.now) [] start.args.i (λ (g : Group). g.path) (omega arith) in
     cc
 
-returns-2 : tie.Need-returns-2
+returns-2 : tie.Need-returns
 returns-2 c =
     let start = c.before.before.before.before in
     sym (group-past (store_of start.args.m.now) [] start.args.i (λ (g : Group). g.path) (omega arith))
 
-pub group-path-spec : {M : Type 1} → statement M
-group-path-spec =
+pub group_path_spec : {M : Type 1} → statement M
+group_path_spec =
     tie.close
     (tie.spec
     (λ c κs. search rules) (λ c κs. search rules) (λ c κs. search rules) row-text-requires returns (λ c. search rules)

@@ -9,10 +9,10 @@ use Rattle.vrf_store.proofs.Laws.Lookups.{group-at, group-past}
 use Rattle.vrf_store.proofs.look.group_slots.Statement.{statement}
 use Rattle.vrf_store.proofs.look.group_slots.Tie as tie
 
-row-info-requires : tie.Need-row-info-requires
-row-info-requires c κs = group-row c.before.before.before.before.requires.valid c.group-rows.ensures (omega arith)
+row-info-requires : tie.Need-row_info-requires
+row-info-requires c κs = group-row c.requires.valid c.group_rows.ensures (omega arith)
 
-returns : tie.Need-returns
+returns : tie.Need-returns-then-i-groups
 unfolding group_by
 returns c =
     let back = c.before.before.before.before in
@@ -23,11 +23,11 @@ returns c =
     let many = length-up_to (slot_by s s.header.fields i) (info s.group_rows i) in
     cc
 
-returns-2 : tie.Need-returns-2
+returns-2 : tie.Need-returns
 returns-2 c =
     let start = c.before.before.before in
     sym (group-past (store_of start.args.m.now) 0 start.args.i (λ (g : Group). length g.slots) (omega arith))
 
-pub group-slots-spec : {M : Type 1} → statement M
-group-slots-spec =
+pub group_slots_spec : {M : Type 1} → statement M
+group_slots_spec =
     tie.close (tie.spec (λ c κs. search rules) (λ c κs. search rules) row-info-requires returns returns-2)

@@ -7,10 +7,10 @@ use Rattle.vrf_store.proofs.Laws.Lookups.{guid-at, guid-past}
 use Rattle.vrf_store.proofs.look.guid_outer.Statement.{statement}
 use Rattle.vrf_store.proofs.look.guid_outer.Tie as tie
 
-row-info-requires : tie.Need-row-info-requires
-row-info-requires c κs = guid-row c.before.before.before.before.requires.valid c.guid-rows.ensures (omega arith)
+row-info-requires : tie.Need-row_info-requires
+row-info-requires c κs = guid-row c.requires.valid c.guid_rows.ensures (omega arith)
 
-returns : tie.Need-returns
+returns : tie.Need-returns-then-i-guids
 unfolding guid_at
 returns c =
     let back = c.before.before.before.before in
@@ -18,11 +18,11 @@ returns c =
     let there = guid-at (store_of start.args.m.now) 0 start.args.i (λ (g : Guid). g.outer) (omega arith) in
     cc
 
-returns-2 : tie.Need-returns-2
+returns-2 : tie.Need-returns
 returns-2 c =
     let start = c.before.before.before in
     sym (guid-past (store_of start.args.m.now) 0 start.args.i (λ (g : Guid). g.outer) (omega arith))
 
-pub guid-outer-spec : {M : Type 1} → statement M
-guid-outer-spec =
+pub guid_outer_spec : {M : Type 1} → statement M
+guid_outer_spec =
     tie.close (tie.spec (λ c κs. search rules) (λ c κs. search rules) row-info-requires returns returns-2)

@@ -7,13 +7,13 @@ use Rattle.vrf_store.proofs.Laws.Lookups.{guid-at, guid-past}
 use Rattle.vrf_store.proofs.look.guid_path.Statement.{statement}
 use Rattle.vrf_store.proofs.look.guid_path.Tie as tie
 
-row-text-requires : tie.Need-row-text-requires
+row-text-requires : tie.Need-row_text-requires
 row-text-requires c κs =
     let after-guid-rows = c.before in
     let start = after-guid-rows.before.before.before.before in
-    (guid-row start.requires.valid after-guid-rows.guid-rows.ensures (omega arith), guid-text start.requires.valid after-guid-rows.guid-rows.ensures c.texts.ensures (omega arith))
+    (guid-row start.requires.valid after-guid-rows.guid_rows.ensures (omega arith), guid-text start.requires.valid after-guid-rows.guid_rows.ensures c.texts.ensures (omega arith))
 
-returns : tie.Need-returns
+returns : tie.Need-returns-then-i-guids
 unfolding guid_at
 returns c =
     let back = c.before.before.before.before in
@@ -21,13 +21,13 @@ returns c =
     let there = guid-at (store_of start.args.m.now) [] start.args.i (λ (g : Guid). g.path) (omega arith) in
     cc
 
-returns-2 : tie.Need-returns-2
+returns-2 : tie.Need-returns
 returns-2 c =
     let start = c.before.before.before.before in
     sym (guid-past (store_of start.args.m.now) [] start.args.i (λ (g : Guid). g.path) (omega arith))
 
-pub guid-path-spec : {M : Type 1} → statement M
-guid-path-spec =
+pub guid_path_spec : {M : Type 1} → statement M
+guid_path_spec =
     tie.close
     (tie.spec
     (λ c κs. search rules) (λ c κs. search rules) (λ c κs. search rules) row-text-requires returns (λ c. search rules)

@@ -6,17 +6,17 @@ use Rattle.vrf_store.proofs.Laws.Fields.Row.{slot-filled, slot-empty}
 use Rattle.vrf_store.proofs.look.if_filled.Statement.{statement}
 use Rattle.vrf_store.proofs.look.if_filled.Tie as tie
 
-returns : tie.Need-returns
+returns : tie.Need-returns-in-At
 unfolding if_filled field_at
 returns c =
-    let found = c.before.before in
-    rw (slot-filled found.before.before.requires.valid _ _ found.slot_row.ensures c.enum_told.given.1)
+    let found = c.before in
+    rw (slot-filled found.requires.valid _ _ found.slot_row.ensures c.in-At.is)
 
-returns-2 : tie.Need-returns-2
+returns-2 : tie.Need-returns-in-Nowhere
 unfolding if_filled
 returns-2 c =
-    let found = c.before.before in
-    rw (slot-empty found.before.before.requires.valid _ _ found.slot_row.ensures c.enum-told2.given.1)
+    let found = c.before in
+    rw (slot-empty found.requires.valid _ _ found.slot_row.ensures c.in-Nowhere.is)
 
-pub if-filled-spec : {M : Type 1} → statement M
-if-filled-spec = tie.close (tie.spec (λ c κs. search rules) (λ c. search rules) (λ c. search rules) returns returns-2)
+pub if_filled_spec : {M : Type 1} → statement M
+if_filled_spec = tie.close (tie.spec (λ c κs. search rules) (λ c. search rules) (λ c. search rules) returns returns-2)

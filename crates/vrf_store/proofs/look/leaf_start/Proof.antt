@@ -10,18 +10,18 @@ get32-requires c κs =
     let after-leaf-heads = c.before in
     let after-leaf-buckets = after-leaf-heads.before in
     let s = after-leaf-buckets.before.before.before in
-    let b = after-leaf-buckets.leaf-buckets in
-    omega (arith, ap length after-leaf-heads.leaf-heads.ensures, s.requires.0.valid.shaped.leaf_heads, c.text-bucket.ensures, b.ensures, text_bucket-lt b.result s.args.base.now (omega (arith, b.ensures)))
+    let b = after-leaf-buckets.leaf_buckets-b in
+    omega (arith, ap length after-leaf-heads.leaf_heads.ensures, s.requires.0.valid.shaped.leaf_heads, c.text_bucket.ensures, b.ensures, text_bucket-lt b.result s.args.base.now (omega (arith, b.ensures)))
 
 returns : tie.Need-returns
 unfolding text_start
 returns c =
     let after-text-bucket = c.before in
     let after-leaf-heads = after-text-bucket.before in
-    cc (c.get32.ensures, after-text-bucket.text-bucket.ensures, after-leaf-heads.leaf-heads.ensures, after-leaf-heads.before.leaf-buckets.ensures)
+    cc (c.get32.ensures, after-text-bucket.text_bucket.ensures, after-leaf-heads.leaf_heads.ensures, after-leaf-heads.leaf_buckets-b.ensures)
 
-pub leaf-start-spec : {M : Type 1} → statement M
-leaf-start-spec =
+pub leaf_start_spec : {M : Type 1} → statement M
+leaf_start_spec =
     tie.close
     (tie.spec
     (λ c κs. search rules) (λ c κs. search rules) (λ c κs. search rules) (λ c. search rules) get32-requires returns)

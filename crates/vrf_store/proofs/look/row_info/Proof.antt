@@ -8,5 +8,5 @@ returns : tie.Need-returns
 unfolding info
 returns c = c.get32.ensures
 
-pub row-info-spec : {M : Type 1} → statement M
-row-info-spec = tie.close (tie.spec (λ c. search rules) (λ c. search rules) (λ c κs. search rules) returns)
+pub row_info_spec : {M : Type 1} → statement M
+row_info_spec = tie.close (tie.spec (λ c. search rules) (λ c. search rules) (λ c κs. search rules) returns)

@@ -8,5 +8,5 @@ returns : tie.Need-returns
 unfolding key
 returns c = c.get64.ensures
 
-pub row-key-spec : {M : Type 1} → statement M
-row-key-spec = tie.close (tie.spec (λ c. search rules) (λ c κs. search rules) returns)
+pub row_key_spec : {M : Type 1} → statement M
+row_key_spec = tie.close (tie.spec (λ c. search rules) (λ c κs. search rules) returns)

@@ -4,24 +4,24 @@ use Rattle.vrf_store.proofs.Laws.Opening.Opening.{within-tops, needed-above, nee
 use Rattle.vrf_store.proofs.open.memory_needed.Statement.{statement}
 use Rattle.vrf_store.proofs.open.memory_needed.Tie as tie
 
-returns : tie.Need-returns
+returns : tie.Need-returns-then-above_top-gt0
 returns c =
     let after-above-top = c.before in
     let start = after-above-top.before in
-    sym (needed-above (record { guids = start.args.guids; groups = start.args.groups; fields = start.args.fields; text = start.args.text; literals = start.args.literals }) after-above-top.above-top.ensures c.if1.true)
+    sym (needed-above (record { guids = start.args.guids; groups = start.args.groups; fields = start.args.fields; text = start.args.text; literals = start.args.literals }) after-above-top.above_top.ensures c.if-above_top-gt0.true)
 
 needed-requires : tie.Need-needed-requires
 needed-requires c κs =
     let after-above-top = c.before in
     let start = after-above-top.before in
-    within-tops (record { guids = start.args.guids; groups = start.args.groups; fields = start.args.fields; text = start.args.text; literals = start.args.literals }) after-above-top.above-top.ensures c.if1.false
+    within-tops (record { guids = start.args.guids; groups = start.args.groups; fields = start.args.fields; text = start.args.text; literals = start.args.literals }) after-above-top.above_top.ensures c.if-above_top-gt0.false
 
-returns-2 : tie.Need-returns-2
+returns-2 : tie.Need-returns
 returns-2 c =
     let at-if1 = c.before in
     let after-above-top = at-if1.before in
     let start = after-above-top.before in
-    c.needed.ensures ∙ sym (needed-within (record { guids = start.args.guids; groups = start.args.groups; fields = start.args.fields; text = start.args.text; literals = start.args.literals }) after-above-top.above-top.ensures at-if1.if1.false)
+    c.needed.ensures ∙ sym (needed-within (record { guids = start.args.guids; groups = start.args.groups; fields = start.args.fields; text = start.args.text; literals = start.args.literals }) after-above-top.above_top.ensures at-if1.if-above_top-gt0.false)
 
-pub memory-needed-spec : {M : Type 1} → statement M
-memory-needed-spec = tie.close (tie.spec (λ c κs. search rules) returns needed-requires returns-2)
+pub memory_needed_spec : {M : Type 1} → statement M
+memory_needed_spec = tie.close (tie.spec (λ c κs. search rules) returns needed-requires returns-2)

@@ -15,10 +15,10 @@ returns c =
     let start = after-put32.before.before.before in
     let x = start.args in
     written-header (record { guids = x.guids; groups = x.groups; fields = x.fields; text = x.text; literals = x.literals }) x.m.now start.requires start.ranges.guids.fits start.ranges.groups.fits start.ranges.fields.fits start.ranges.text.fits start.ranges.literals.fits
-    after-put32.put32.ensures after-put322.put322.ensures after-put323.put323.ensures after-put324.put324.ensures after-put325.put325.ensures after-zero-words.zero-words.ensures
+    after-put32.put32.ensures after-put322.put32-2.ensures after-put323.put32-3.ensures after-put324.put32-4.ensures after-put325.put32-5.ensures after-zero-words.zero_words.ensures
 
-pub write-header-spec : {M : Type 1} → statement M
-write-header-spec =
+pub write_header_spec : {M : Type 1} → statement M
+write_header_spec =
     tie.close
     (tie.spec
     (λ c κs. search rules) (λ c κs. search rules) (λ c κs. search rules) (λ c κs. search rules) (λ c κs. search rules)

@@ -14,14 +14,14 @@ returns c =
     let after-fields-allowed = after-zero-words.before.before in
     let after-groups-allowed = after-fields-allowed.before.before in
     let after-guids-allowed = after-groups-allowed.before.before in
-    let g = after-guids-allowed.guids-allowed in
-    let r = after-groups-allowed.groups-allowed in
-    let f = after-fields-allowed.fields-allowed in
-    kept-heads g.result r.result f.result after-guids-allowed.before.before.before.requires g.ensures.0 r.ensures.0 f.ensures.0
-    after-zero-words.zero-words.ensures after-zero-words2.zero-words2.ensures after-zero-words3.zero-words3.ensures after-zero-words4.zero-words4.ensures after-zero-words5.zero-words5.ensures
+    let g = after-guids-allowed.guids_allowed-g in
+    let r = after-groups-allowed.groups_allowed-r in
+    let f = after-fields-allowed.fields_allowed-f in
+    kept-heads g.result r.result f.result after-guids-allowed.requires g.ensures.0 r.ensures.0 f.ensures.0
+    after-zero-words.zero_words.ensures after-zero-words2.zero_words-2.ensures after-zero-words3.zero_words-3.ensures after-zero-words4.zero_words-4.ensures after-zero-words5.zero_words-5.ensures
 
-pub zero-heads-spec : {M : Type 1} → statement M
-zero-heads-spec =
+pub zero_heads_spec : {M : Type 1} → statement M
+zero_heads_spec =
     tie.close
     (tie.spec
     (λ c κs. search rules) (λ c κs. search rules) (λ c κs. search rules) (λ c. search rules) (λ c. search rules)

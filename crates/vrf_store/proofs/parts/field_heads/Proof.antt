@@ -3,8 +3,8 @@ use Rattle.std.proofs.Common.{rules}
 use Rattle.vrf_store.proofs.parts.field_heads.Statement.{statement}
 use Rattle.vrf_store.proofs.parts.field_heads.Tie as tie
 
-pub field-heads-spec : {M : Type 1} → statement M
-field-heads-spec =
+pub field_heads_spec : {M : Type 1} → statement M
+field_heads_spec =
     tie.close
     (tie.spec
     (λ c κs. search rules) (λ c κs. search rules) (λ c κs. search rules) (λ c. search rules) (λ c. search rules)

@@ -3,8 +3,8 @@ use Rattle.std.proofs.Common.{rules}
 use Rattle.vrf_store.proofs.parts.field_rows.Statement.{statement}
 use Rattle.vrf_store.proofs.parts.field_rows.Tie as tie
 
-pub field-rows-spec : {M : Type 1} → statement M
-field-rows-spec =
+pub field_rows_spec : {M : Type 1} → statement M
+field_rows_spec =
     tie.close
     (tie.spec
     (λ c κs. search rules) (λ c κs. search rules) (λ c κs. search rules) (λ c. search rules) (λ c. search rules)

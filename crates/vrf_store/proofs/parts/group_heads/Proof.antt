@@ -3,8 +3,8 @@ use Rattle.std.proofs.Common.{rules}
 use Rattle.vrf_store.proofs.parts.group_heads.Statement.{statement}
 use Rattle.vrf_store.proofs.parts.group_heads.Tie as tie
 
-pub group-heads-spec : {M : Type 1} → statement M
-group-heads-spec =
+pub group_heads_spec : {M : Type 1} → statement M
+group_heads_spec =
     tie.close
     (tie.spec
     (λ c κs. search rules) (λ c κs. search rules) (λ c. search rules) (λ c. search rules) (λ c. search rules)

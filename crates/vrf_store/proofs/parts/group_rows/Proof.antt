@@ -3,8 +3,8 @@ use Rattle.std.proofs.Common.{rules}
 use Rattle.vrf_store.proofs.parts.group_rows.Statement.{statement}
 use Rattle.vrf_store.proofs.parts.group_rows.Tie as tie
 
-pub group-rows-spec : {M : Type 1} → statement M
-group-rows-spec =
+pub group_rows_spec : {M : Type 1} → statement M
+group_rows_spec =
     tie.close
     (tie.spec
     (λ c κs. search rules) (λ c κs. search rules) (λ c. search rules) (λ c. search rules) (λ c. search rules)

@@ -3,8 +3,8 @@ use Rattle.std.proofs.Common.{rules}
 use Rattle.vrf_store.proofs.parts.guid_heads.Statement.{statement}
 use Rattle.vrf_store.proofs.parts.guid_heads.Tie as tie
 
-pub guid-heads-spec : {M : Type 1} → statement M
-guid-heads-spec =
+pub guid_heads_spec : {M : Type 1} → statement M
+guid_heads_spec =
     tie.close
     (tie.spec
     (λ c κs. search rules) (λ c. search rules) (λ c. search rules) (λ c. search rules) (λ c. search rules)

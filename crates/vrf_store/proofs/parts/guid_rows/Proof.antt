@@ -3,5 +3,5 @@ use Rattle.std.proofs.Common.{rules}
 use Rattle.vrf_store.proofs.parts.guid_rows.Statement.{statement}
 use Rattle.vrf_store.proofs.parts.guid_rows.Tie as tie
 
-pub guid-rows-spec : {M : Type 1} → statement M
-guid-rows-spec = tie.close (tie.spec (λ c κs. search rules) (λ c. search rules) (λ c κs. search rules) (λ c. cc))
+pub guid_rows_spec : {M : Type 1} → statement M
+guid_rows_spec = tie.close (tie.spec (λ c κs. search rules) (λ c. search rules) (λ c κs. search rules) (λ c. cc))

@@ -3,8 +3,8 @@ use Rattle.std.proofs.Common.{rules}
 use Rattle.vrf_store.proofs.parts.leaf_heads.Statement.{statement}
 use Rattle.vrf_store.proofs.parts.leaf_heads.Tie as tie
 
-pub leaf-heads-spec : {M : Type 1} → statement M
-leaf-heads-spec =
+pub leaf_heads_spec : {M : Type 1} → statement M
+leaf_heads_spec =
     tie.close
     (tie.spec
     (λ c κs. search rules) (λ c κs. search rules) (λ c. search rules) (λ c. search rules) (λ c. search rules)

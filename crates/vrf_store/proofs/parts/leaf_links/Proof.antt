@@ -3,8 +3,8 @@ use Rattle.std.proofs.Common.{rules}
 use Rattle.vrf_store.proofs.parts.leaf_links.Statement.{statement}
 use Rattle.vrf_store.proofs.parts.leaf_links.Tie as tie
 
-pub leaf-links-spec : {M : Type 1} → statement M
-leaf-links-spec =
+pub leaf_links_spec : {M : Type 1} → statement M
+leaf_links_spec =
     tie.close
     (tie.spec
     (λ c κs. search rules) (λ c κs. search rules) (λ c. search rules) (λ c. search rules) (λ c. search rules)

@@ -3,8 +3,8 @@ use Rattle.std.proofs.Common.{rules}
 use Rattle.vrf_store.proofs.parts.path_heads.Statement.{statement}
 use Rattle.vrf_store.proofs.parts.path_heads.Tie as tie
 
-pub path-heads-spec : {M : Type 1} → statement M
-path-heads-spec =
+pub path_heads_spec : {M : Type 1} → statement M
+path_heads_spec =
     tie.close
     (tie.spec
     (λ c κs. search rules) (λ c κs. search rules) (λ c. search rules) (λ c. search rules) (λ c. search rules)

@@ -3,8 +3,8 @@ use Rattle.std.proofs.Common.{rules}
 use Rattle.vrf_store.proofs.parts.path_links.Statement.{statement}
 use Rattle.vrf_store.proofs.parts.path_links.Tie as tie
 
-pub path-links-spec : {M : Type 1} → statement M
-path-links-spec =
+pub path_links_spec : {M : Type 1} → statement M
+path_links_spec =
     tie.close
     (tie.spec
     (λ c κs. search rules) (λ c κs. search rules) (λ c. search rules) (λ c. search rules) (λ c. search rules)

@@ -8,7 +8,7 @@ use Rattle.vrf_store.proofs.parts.texts.Statement.{statement}
 use Rattle.vrf_store.proofs.parts.texts.Tie as tie
 
 -- the half ends inside the memory
-within : (c : tie.After-text-allowed) →
+within : (c : tie.After-text_allowed) →
     let start = c.before.before.before in
     half_at (allowances_of start.args.m.now) (header_of start.args.m.now).half + (allowances_of start.args.m.now).text ≤ Layout.need (allowances_of start.args.m.now)
 within c =
@@ -18,14 +18,14 @@ within c =
 returns : tie.Need-returns
 unfolding part
 returns c =
-    let m = c.before.before.before.before.args.m.now in
-    let at = c.before.before.half_at.result in
-    let n = c.before.text-allowed.result in
+    let m = c.args.m.now in
+    let at = c.half_at-from.result in
+    let n = c.text_allowed.result in
     let size : at + n - at ≡ n = omega arith in
-    rw (size, c.before.before.half_at.ensures, c.before.text-allowed.ensures.0)
+    rw (size, c.half_at-from.ensures, c.text_allowed.ensures.0)
 
-pub texts-spec : {M : Type 1} → statement M
-texts-spec =
+pub texts_spec : {M : Type 1} → statement M
+texts_spec =
     tie.close
     (tie.spec
     (λ c κs. search rules) (λ c κs. search rules) (λ c. omega (arith, within c)) (λ c. search rules) (λ c. search rules)

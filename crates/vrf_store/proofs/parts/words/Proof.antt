@@ -11,7 +11,7 @@ returns c =
     let start = c.before in
     ap (λ (k : ℕ). take k (drop (4 * start.args.i) start.args.m.now)) (let e : 4 * start.args.i + 4 * start.args.n - 4 * start.args.i ≡ 4 * start.args.n = omega arith in e)
 
-pub words-spec : {M : Type 1} → statement M
-words-spec =
+pub words_spec : {M : Type 1} → statement M
+words_spec =
     tie.close
     (tie.spec (λ c. search rules) (λ c. search rules) (λ c. search rules) (λ c. search rules) (λ c. search rules) (λ c. search rules) returns)

@@ -8,5 +8,5 @@ returns : tie.Need-returns
 unfolding at
 returns c = c.get32.ensures
 
-pub text-at-spec : {M : Type 1} → statement M
-text-at-spec = tie.close (tie.spec (λ c. search rules) (λ c. search rules) (λ c κs. search rules) returns)
+pub text_at_spec : {M : Type 1} → statement M
+text_at_spec = tie.close (tie.spec (λ c. search rules) (λ c. search rules) (λ c κs. search rules) returns)

@@ -8,5 +8,5 @@ returns : tie.Need-returns
 unfolding len
 returns c = c.get32.ensures
 
-pub text-len-spec : {M : Type 1} → statement M
-text-len-spec = tie.close (tie.spec (λ c. search rules) (λ c. search rules) (λ c κs. search rules) returns)
+pub text_len_spec : {M : Type 1} → statement M
+text_len_spec = tie.close (tie.spec (λ c. search rules) (λ c. search rules) (λ c κs. search rules) returns)

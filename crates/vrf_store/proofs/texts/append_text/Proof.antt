@@ -6,16 +6,16 @@ use Rattle.vrf_store.proofs.Laws.Texts.Appended.{append-written}
 use Rattle.vrf_store.proofs.texts.append_text.Statement.{statement}
 use Rattle.vrf_store.proofs.texts.append_text.Tie as tie
 
-add_at : tie.Need-overflow-add-at
+add_at : tie.Need-overflow_add-at
 add_at c =
     let back = c.before.before.before.before in
-    let m = back.before.before.args.m.now in
+    let m = back.args.m.now in
     omega (arith, half-within (allowances_of m) (header_of m).half)
 
-put-part-requires : tie.Need-put-part-requires
+put-part-requires : tie.Need-put_part-requires
 put-part-requires c κs =
     let back = c.before.before.before.before in
-    let m = back.before.before.before.args.m.now in
+    let m = back.args.m.now in
     omega (arith, half-within (allowances_of m) (header_of m).half)
 
 returns : tie.Need-returns
@@ -24,10 +24,10 @@ returns c =
     let put = after-put32.before.before.before.before in
     let found = put.before.before in
     let after-used = found.before.before in
-    append-written _ _ _ _ _ _ after-used.before.before.before.before.requires after-used.used.ensures found.half_at.ensures put.put-part.ensures after-put32.put32.ensures
+    append-written _ _ _ _ _ _ after-used.requires after-used.used-a.ensures found.half_at.ensures put.put_part.ensures after-put32.put32.ensures
 
-pub append-text-spec : {M : Type 1} → statement M
-append-text-spec =
+pub append_text_spec : {M : Type 1} → statement M
+append_text_spec =
     tie.close
     (tie.spec
     (λ c κs. search rules) (λ c κs. search rules) (λ c. search rules) add_at put-part-requires (λ c. search rules)

@@ -5,59 +5,59 @@ use Rattle.vrf_store.proofs.texts.compact.Statement.{statement}
 use Rattle.vrf_store.proofs.texts.compact.Tie as tie
 
 -- the places after the two halves and the counts were read, and the start
-abbrev counted : tie.After-groups-allowed → tie.After-fields
+abbrev counted : tie.After-groups_allowed → tie.After-fields-field_count
 counted c = c.before.before.before.before
 
-abbrev halves : tie.After-groups-allowed → tie.After-other-half-at
+abbrev halves : tie.After-groups_allowed → tie.After-other_half_at-to
 halves c =
     let back = (counted c).before.before.before.before in
-    back.before.before.before.before
-
-abbrev start : tie.After-groups-allowed → tie.Start
-start c =
-    let back = (halves c).before.before in
     back.before.before.before
 
+abbrev start : tie.After-groups_allowed → tie.Start
+start c =
+    let back = (halves c).before.before in
+    back.before
+
 -- what the code has read
-found : (c : tie.After-groups-allowed) →
+found : (c : tie.After-groups_allowed) →
     let groups = (counted c).before.before in
-    let groups-at = 33 + 10 * c.before.before.guids-allowed.result in
-    CompactionStart (start c).args.m.now (halves c).before.before.half_at.result (halves c).other-half-at.result groups.before.before.guids.result groups.groups.result (counted c).fields.result
-    groups-at (groups-at + 3 + 16 * c.groups-allowed.result)
+    let groups-at = 33 + 10 * c.guids_allowed.result in
+    CompactionStart (start c).args.m.now (halves c).half_at-from.result (halves c).other_half_at-to.result groups.guids-guid_count.result groups.groups-group_count.result (counted c).fields-field_count.result
+    groups-at (groups-at + 3 + 16 * c.groups_allowed.result)
 found c =
     let groups = (counted c).before.before in
     record {
-      old-half = (halves c).before.before.half_at.ensures;
-      new-half = (halves c).other-half-at.ensures;
-      guid-count = groups.before.before.guids.ensures;
-      group-count = groups.groups.ensures;
-      field-count = (counted c).fields.ensures;
+      old-half = (halves c).half_at-from.ensures;
+      new-half = (halves c).other_half_at-to.ensures;
+      guid-count = groups.guids-guid_count.ensures;
+      group-count = groups.groups-group_count.ensures;
+      field-count = (counted c).fields-field_count.ensures;
       group-rows = omega arith;
       field-rows = omega arith;
     }
 
-move-texts-requires : tie.Need-move-texts-requires
+move-texts-requires : tie.Need-move_texts-first-requires
 move-texts-requires c κs = first-movable (start c.before).requires (found c.before)
 
-move-texts-requires-2 : tie.Need-move-texts-requires-2
+move-texts-requires-2 : tie.Need-move_texts-second-requires
 move-texts-requires-2 c κs =
     let one = c.before.before.before in
     let read = one.before.before in
-    second-movable (start read).requires (found read) one.move-texts.ensures
+    second-movable (start read).requires (found read) one.move_texts-first.ensures
 
-move-texts-requires-3 : tie.Need-move-texts-requires-3
+move-texts-requires-3 : tie.Need-move_texts-end-requires
 move-texts-requires-3 c κs =
     let two = c.before.before.before in
     let one = two.before.before.before.before in
     let read = one.before.before in
-    third-movable (start read).requires (found read) one.move-texts.ensures two.move-texts2.ensures
+    third-movable (start read).requires (found read) one.move_texts-first.ensures two.move_texts-second.ensures
 
 -- no call changes the length
-long : (c : tie.After-move-texts3) → 128 ≤ length c.move-texts3.new.0
+long : (c : tie.After-move_texts-end) → 128 ≤ length c.move_texts-end.new.m
 long c =
     let two = c.before.before.before.before in
     let one = two.before.before.before.before in
-    omega (arith, one.move-texts.ensures.long, two.move-texts2.ensures.long, c.move-texts3.ensures.long, (start one.before.before).requires.enough)
+    omega (arith, one.move_texts-first.ensures.long, two.move_texts-second.ensures.long, c.move_texts-end.ensures.long, (start one.before.before).requires.enough)
 
 put32-requires : tie.Need-put32-requires
 put32-requires c κs = omega (arith, long c.before.before.before)
@@ -65,7 +65,7 @@ put32-requires c κs = omega (arith, long c.before.before.before)
 put32-requires-2 : tie.Need-put32-requires-2
 put32-requires-2 c κs =
     let four = c.before.before.before in
-    omega (arith, long four.before.before.before.before, four.put32.auto.0)
+    omega (arith, long four.before.before.before.before, four.put32.auto.s)
 
 returns : tie.Need-returns
 returns c =
@@ -76,10 +76,10 @@ returns c =
     let one = two.before.before.before.before in
     let read = one.before.before in
     let guids = (counted read).before.before.before.before in
-    compact-written (start read).requires (found read) one.move-texts.ensures two.move-texts2.ensures three.move-texts3.ensures _ _ _ guids.before.before.half.ensures four.put32.ensures five.put322.ensures
+    compact-written (start read).requires (found read) one.move_texts-first.ensures two.move_texts-second.ensures three.move_texts-end.ensures _ _ _ guids.half-other.ensures four.put32.ensures five.put32-2.ensures
 
-pub compact-spec : {M : Type 1} → statement M
-compact-spec =
+pub compact_spec : {M : Type 1} → statement M
+compact_spec =
     tie.close
     (tie.spec
     (λ c κs. search rules) (λ c κs. search rules) (λ c κs. search rules) (λ c. search rules) (λ c κs. search rules)

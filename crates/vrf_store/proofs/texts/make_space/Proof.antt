@@ -4,17 +4,17 @@ use Rattle.vrf_store.proofs.Laws.Texts.Space.{space-made}
 use Rattle.vrf_store.proofs.texts.make_space.Statement.{statement}
 use Rattle.vrf_store.proofs.texts.make_space.Tie as tie
 
-returns : tie.Need-returns
+returns : tie.Need-returns-then-n-space
 returns c = search rules
 
-returns-2 : tie.Need-returns-2
+returns-2 : tie.Need-returns
 returns-2 c =
     let after-compact = c.before.before in
     let back = after-compact.before.before.before.before in
-    space-made after-compact.compact.ensures back.before.before.before.before.requires.1
+    space-made after-compact.compact.ensures back.requires.1
 
-pub make-space-spec : {M : Type 1} → statement M
-make-space-spec =
+pub make_space_spec : {M : Type 1} → statement M
+make_space_spec =
     tie.close
     (tie.spec
     (λ c κs. search rules) (λ c. search rules) (λ c κs. search rules) (λ c. search rules) (λ c. search rules)

@@ -5,18 +5,18 @@ use Rattle.vrf_store.specs.Inner.Texts.{move_text}
 use Rattle.vrf_store.proofs.texts.move_text.Statement.{statement}
 use Rattle.vrf_store.proofs.texts.move_text.Tie as tie
 
-move-part-requires : tie.Need-move-part-requires
+move-part-requires : tie.Need-move_part-requires
 move-part-requires c κs =
     let after-get322 = c.before in
     let after-get32 = after-get322.before.before in
-    (search rules, search rules, rw (after-get32.get32.ensures, after-get322.get322.ensures) after-get32.before.before.before.requires.apart)
+    (search rules, search rules, rw (after-get32.get32-at.ensures, after-get322.get32-len.ensures) after-get32.requires.apart)
 
 returns : tie.Need-returns
 unfolding move_text
 returns c = (cc, cc)
 
-pub move-text-spec : {M : Type 1} → statement M
-move-text-spec =
+pub move_text_spec : {M : Type 1} → statement M
+move_text_spec =
     tie.close
     (tie.spec
     (λ c. search rules) (λ c κs. search rules) (λ c. search rules) (λ c. search rules) (λ c κs. search rules)

@@ -6,36 +6,36 @@ use Rattle.vrf_store.proofs.Laws.Texts.Moved.{moved_none, next-fitting, moved-ne
 use Rattle.vrf_store.proofs.texts.move_texts.Statement.{statement}
 use Rattle.vrf_store.proofs.texts.move_texts.Tie as tie
 
-abbrev invariant-loop : tie.invariant-loop
+abbrev invariant-loop : tie.invariant-loop-e
 invariant-loop m₀ rows n from to used end₀ e₀ m end e = (e ≤ n) × TextsMoved m₀ m rows e from to used end
 
-abbrev decreases-loop : tie.decreases-loop
+abbrev decreases-loop : tie.decreases-loop-e
 decreases-loop m₀ rows n from to used end₀ e₀ m end e = n - e
 
-move-text-requires : tie.Need-move-text-requires invariant-loop decreases-loop
+move-text-requires : tie.Need-move_text-end-requires invariant-loop decreases-loop
 move-text-requires c κs =
     let at-loop-test = c.before in
     let at-loop = at-loop-test.before in
-    next-fitting _ _ _ _ _ _ _ _ at-loop.before.before.requires _ _ at-loop-test.loop-test.true at-loop.loop.invariant.1
+    next-fitting _ _ _ _ _ _ _ _ at-loop.requires _ _ at-loop-test.loop-e-test.true at-loop.loop-e.invariant.1
 
-loop-again : tie.Need-loop-preserved invariant-loop decreases-loop
+loop-again : tie.Need-loop-e-preserved invariant-loop decreases-loop
 loop-again c =
     let after-move-text = c.before.before in
     let at-loop-test = after-move-text.before.before in
     let at-loop = at-loop-test.before in
-    (search rules, moved-next _ _ _ _ _ _ _ _ at-loop.before.before.requires _ _ at-loop-test.loop-test.true at-loop.loop.invariant.1 _ _ after-move-text.move-text.ensures.0 after-move-text.move-text.ensures.1)
+    (search rules, moved-next _ _ _ _ _ _ _ _ at-loop.requires _ _ at-loop-test.loop-e-test.true at-loop.loop-e.invariant.1 _ _ after-move-text.move_text-end.ensures.0 after-move-text.move_text-end.ensures.1)
 
-same_length : tie.Need-same-length invariant-loop decreases-loop
-same_length c = c.before.loop.invariant.1.long
+same_length : tie.Need-shape_of-m invariant-loop decreases-loop
+same_length c = c.loop-e.invariant.1.long
 
 returns : tie.Need-returns invariant-loop decreases-loop
 returns c =
-    let loop = c.before.loop in
-    let all : loop.e ≡ c.before.before.before.args.n = omega arith in
+    let loop = c.loop-e in
+    let all : loop.e ≡ c.args.n = omega arith in
     rw all at loop.invariant.1
 
-pub move-texts-spec : {M : Type 1} → statement M
-move-texts-spec =
+pub move_texts_spec : {M : Type 1} → statement M
+move_texts_spec =
     tie.close
     (tie.spec
     invariant-loop decreases-loop (λ c. (search rules, moved_none _ _ _ _ _)) (λ c. search rules) (λ c. search rules)

@@ -8,8 +8,8 @@ returns : tie.Need-returns
 returns c =
     let after_lower = c.before in
     let start = after_lower.before.before in
-    part-following start.args.t.now start.args.k after_lower.lower.result after_lower.lower.ensures
+    part-following start.args.t.now start.args.k after_lower.lower-from.result after_lower.lower-from.ensures
 
-pub following-spec : {M : Type 1} → statement M
-following-spec =
+pub following_spec : {M : Type 1} → statement M
+following_spec =
     tie.close (tie.spec (λ c κs. search rules) (λ c. search rules) (λ c. search rules) (λ c. search rules) returns)

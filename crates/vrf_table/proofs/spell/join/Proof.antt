@@ -9,9 +9,9 @@ returns c =
     let after-put-part2 = c.before.before in
     let after-put-part = after-put-part2.before.before.before.before in
     let back = after-put-part.before.before.before.before in
-    let x = back.before.args in
-    joined x.a.now x.b.now after-put-part.put-part.ensures after-put-part2.put-part2.ensures (omega arith) (omega arith)
+    let x = back.args in
+    joined x.a.now x.b.now after-put-part.put_part.ensures after-put-part2.put_part-2.ensures (omega arith) (omega arith)
 
-pub join-spec : {M : Type 1} → statement M
-join-spec =
+pub join_spec : {M : Type 1} → statement M
+join_spec =
     tie.close (tie.spec (λ c κs. search rules) (λ c κs. search rules) (λ c. search rules) (λ c. search rules) returns)

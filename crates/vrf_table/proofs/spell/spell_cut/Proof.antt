@@ -4,42 +4,42 @@ use Rattle.vrf_table.proofs.Laws.Spelled.{cut-front, cut-following, cut-written}
 use Rattle.vrf_table.proofs.spell.spell_cut.Statement.{statement}
 use Rattle.vrf_table.proofs.spell.spell_cut.Tie as tie
 
-slice-aggregate-put-part : tie.Need-slice-aggregate-put-part
-slice-aggregate-put-part c = rw length-take (omega (arith, c.before.before.lower.ensures))
+slice-aggregate-put-part : tie.Need-slice_bounds-put_part-end
+slice-aggregate-put-part c = rw length-take (omega (arith, c.lower-n.ensures))
 
-put-part-requires : tie.Need-put-part-requires
+put-part-requires : tie.Need-put_part-requires
 put-part-requires c κs =
     let after_lower = c.before.before in
-    let start = after_lower.before.before.before in
+    let start = after_lower.before.before in
     let fits = simp length-append at start.requires in
-    omega (arith, ap length (cut-front start.args.path.now start.args.at _ after_lower.lower.ensures), fits)
+    omega (arith, ap length (cut-front start.args.path.now start.args.at _ after_lower.lower-n.ensures), fits)
 
-slice-write-scratch : tie.Need-slice-write-scratch
+slice-write-scratch : tie.Need-bounds-scratch-n
 slice-write-scratch c =
     let after-put-part = c.before.before in
     let after_lower = after-put-part.before.before.before in
-    let start = after_lower.before.before.before in
+    let start = after_lower.before.before in
     let fits = simp length-append at start.requires in
-    omega (arith, ap length (cut-front start.args.path.now start.args.at _ after_lower.lower.ensures), length-take after_lower.lower.result start.args.path.now, after_lower.lower.ensures, fits, after-put-part.put-part.auto.0)
+    omega (arith, ap length (cut-front start.args.path.now start.args.at _ after_lower.lower-n.ensures), length-take after_lower.lower-n.result start.args.path.now, after_lower.lower-n.ensures, fits, after-put-part.put_part.auto.m)
 
-put-part-requires-2 : tie.Need-put-part-requires-2
+put-part-requires-2 : tie.Need-put_part-requires-2
 put-part-requires-2 c κs =
     let after-following = c.before in
     let after-put-part = after-following.before.before.before.before in
     let after_lower = after-put-part.before.before.before in
-    let x = after_lower.before.before.before in
+    let x = after_lower.before.before in
     let t = x.args.path.now in
     let fits = simp length-append at x.requires in
-    let front = ap length (cut-front t x.args.at _ after_lower.lower.ensures) in
-    let rest = ap length (after-following.following.ensures ∙ cut-following t x.args.at _ after_lower.lower.ensures) in
-    rw length-set (omega (arith, front, length-take after_lower.lower.result t, after_lower.lower.ensures, rest, fits, after-put-part.put-part.auto.0))
+    let front = ap length (cut-front t x.args.at _ after_lower.lower-n.ensures) in
+    let rest = ap length (after-following.following-rest.ensures ∙ cut-following t x.args.at _ after_lower.lower-n.ensures) in
+    rw length-set (omega (arith, front, length-take after_lower.lower-n.result t, after_lower.lower-n.ensures, rest, fits, after-put-part.put_part.auto.m))
 
-same_length : tie.Need-same-length
+same_length : tie.Need-shape_of-scratch
 same_length c =
     let after-put-part2 = c.before.before in
     let back = after-put-part2.before.before.before.before in
     let after-put-part = back.before.before in
-    after-put-part2.put-part2.auto.0 ∙ length-set {A = ℕ} after-put-part.put-part.new.0 after-put-part.before.before.before.lower.result 47 ∙ after-put-part.put-part.auto.0
+    after-put-part2.put_part-2.auto.m ∙ length-set {A = ℕ} after-put-part.put_part.new.m after-put-part.lower-n.result 47 ∙ after-put-part.put_part.auto.m
 
 returns : tie.Need-returns
 returns c =
@@ -47,11 +47,11 @@ returns c =
     let after-following = after-put-part2.before.before in
     let after-put-part = after-following.before.before.before.before in
     let after_lower = after-put-part.before.before.before in
-    let x = after_lower.before.before.before in
-    cut-written x.args.path.now x.args.at _ after_lower.lower.ensures after-put-part.put-part.ensures after-following.following.ensures after-put-part2.put-part2.ensures x.requires
+    let x = after_lower.before.before in
+    cut-written x.args.path.now x.args.at _ after_lower.lower-n.ensures after-put-part.put_part.ensures after-following.following-rest.ensures after-put-part2.put_part-2.ensures x.requires
 
-pub spell-cut-spec : {M : Type 1} → statement M
-spell-cut-spec =
+pub spell_cut_spec : {M : Type 1} → statement M
+spell_cut_spec =
     tie.close
     (tie.spec
     (λ c κs. search rules) slice-aggregate-put-part put-part-requires slice-write-scratch (λ c. search rules)

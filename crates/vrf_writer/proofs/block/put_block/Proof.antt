@@ -12,40 +12,40 @@ abbrev its : tie.Start → Content
 its c = held c.args.m.now
 
 -- the places after the two calls, and the function's entry state
-abbrev start : tie.After-put-tables → tie.Start
+abbrev start : tie.After-put_tables-n → tie.Start
 start c = c.before.before.before.before
 
-abbrev tables : tie.After-put-word → tie.After-put-tables
+abbrev tables : tie.After-put_word → tie.After-put_tables-n
 tables c = c.before.before.before.before
 
-counted : (c : tie.After-put-tables) → (20 ≤ c.put-tables.result) × (c.put-tables.result + 4 ≡ length (encode_book (its (start c))))
-counted c = let s = start c in tables-count (its s) s.args.out.now s.pre.1 c.put-tables.ensures
+counted : (c : tie.After-put_tables-n) → (20 ≤ c.put_tables-n.result) × (c.put_tables-n.result + 4 ≡ length (encode_book (its (start c))))
+counted c = let s = start c in tables-count (its s) s.args.out.now s.requires.1 c.put_tables-n.ensures
 
-long : (c : tie.After-put-tables) → length (back_from (start c).args.out.now 4 c.put-tables.new.0) ≡ length (start c).args.out.now
-long c = let s = start c in tables-long (its s) s.args.out.now s.pre.1 c.put-tables.ensures
+long : (c : tie.After-put_tables-n) → length (back_from (start c).args.out.now 4 c.put_tables-n.new.out) ≡ length (start c).args.out.now
+long c = let s = start c in tables-long (its s) s.args.out.now s.requires.1 c.put_tables-n.ensures
 
-put-word-requires : tie.Need-put-word-requires
+put-word-requires : tie.Need-put_word-requires
 put-word-requires c κs =
     let after-put-tables = c.before.before.before in
     let s = start after-put-tables in
-    omega (arith, long after-put-tables, block-length (its s), s.pre.1)
+    omega (arith, long after-put-tables, block-length (its s), s.requires.1)
 
 returns : tie.Need-returns
 returns c =
     let after-put-word = c.before.before in
     let after-put-tables = tables after-put-word in
     let s = start after-put-tables in
-    word-last (its s) s.args.out.now s.pre.1 after-put-tables.put-tables.ensures after-put-word.put_word.ensures
+    word-last (its s) s.args.out.now s.requires.1 after-put-tables.put_tables-n.ensures after-put-word.put_word.ensures
 
-pub put-block-spec : {M : Type 1} → statement M
-put-block-spec =
+pub put_block_spec : {M : Type 1} → statement M
+put_block_spec =
     tie.close
     (tie.spec
-    (λ c. omega (arith, block-length (its c.before.before), c.before.before.requires.1))
-    (λ c. omega (arith, block-length (its c.before.before), c.before.before.requires.1)) (λ c. search rules)
+    (λ c. omega (arith, block-length (its c.before.before), c.requires.1))
+    (λ c. omega (arith, block-length (its c.before.before), c.requires.1)) (λ c. search rules)
     (λ c κs. let s = c.before.before.before in (s.requires.0, tables-lent (its s) s.args.out.now s.requires.1))
     (λ c. omega (arith, counted c.before.before.before))
     (λ c. let t = c.before.before.before in record { fits = omega (arith, counted t, (start t).requires.2) })
     put-word-requires
-    (λ c. let t = tables c.before.before in record { fits = omega (arith, counted t, (start t).pre.2) })
-    (λ c. c.before.before.put_word.auto.0 ∙ long (tables c.before.before)) returns)
+    (λ c. let t = tables c.before.before in record { fits = omega (arith, counted t, (start t).requires.2) })
+    (λ c. c.put_word.auto.out ∙ long (tables c.before.before)) returns)

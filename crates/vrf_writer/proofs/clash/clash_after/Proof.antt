@@ -8,31 +8,31 @@ use Rattle.vrf_writer.proofs.clash.clash_after.Statement.{statement}
 use Rattle.vrf_writer.proofs.clash.clash_after.Tie as tie
 
 -- the function's entry state
-abbrev start : tie.After-group-path → tie.Start
+abbrev start : tie.After-group_path-path → tie.Start
 start c = c.before.before.before
 
-path-is : (c : tie.After-group-path) → c.group_path.result.now ≡ path_at (store_of (start c).args.m.now) (start c).args.h
-path-is c = let s = start c in c.group_path.ensures ∙ group-at (store_of s.args.m.now) [] s.args.h (λ g. g.path) s.pre.1
+path-is : (c : tie.After-group_path-path) → c.group_path-path.result.now ≡ path_at (store_of (start c).args.m.now) (start c).args.h
+path-is c = let s = start c in c.group_path-path.ensures ∙ group-at (store_of s.args.m.now) [] s.args.h (λ g. g.path) s.requires.1
 
-short : (c : tie.After-group-path) → length c.group_path.result.now ≤ 4096
+short : (c : tie.After-group_path-path) → length c.group_path-path.result.now ≤ 4096
 unfolding group_by
-short c = let s = start c in rw (path-is c) (s.pre.0.valid.group_table.texts s.args.h s.pre.1).is_text.short
+short c = let s = start c in rw (path-is c) (s.requires.0.valid.group_table.texts s.args.h s.requires.1).is_text.short
 
-first-with-key-requires : tie.Need-first-with-key-requires
+first-with-key-requires : tie.Need-first_with_key-first-requires
 first-with-key-requires c κs = let p = (start c).requires in (p.0, p.1, p.2, omega (arith, short c))
 
-clash-alias-requires : tie.Need-clash-alias-requires
+clash-alias-requires : tie.Need-clash_alias-second-requires
 clash-alias-requires c κs =
     let first = c.before.before in
     let p = (start first.before).requires in
-    (p.0, p.1, omega (arith, first.first-with-key.ensures.within, p.2), short first.before, omega arith)
+    (p.0, p.1, omega (arith, first.first_with_key-first.ensures.within, p.2), short first.before, omega arith)
 
-clash-alias-requires-2 : tie.Need-clash-alias-requires-2
+clash-alias-requires-2 : tie.Need-clash_alias-requires
 clash-alias-requires-2 c κs =
     let second = c.before.before.before.before in
     let first = second.before.before.before in
     let p = (start first.before).requires in
-    (p.0, p.1, omega (arith, second.clash-alias.ensures.within, first.first-with-key.ensures.within, p.2), short first.before, omega arith)
+    (p.0, p.1, omega (arith, second.clash_alias-second.ensures.within, first.first_with_key-first.ensures.within, p.2), short first.before, omega arith)
 
 returns : tie.Need-returns
 returns c =
@@ -41,10 +41,10 @@ returns c =
     let second = after-core-alias.before.before.before.before in
     let first = second.before.before.before in
     let s = start first.before in
-    narrowed-keys (store_of s.args.m.now) s.args.h (path-is first.before) second.before.default-object-alias.ensures.text after-core-alias.core-alias.ensures.text first.first-with-key.ensures second.clash-alias.ensures third.clash-alias2.ensures
+    narrowed-keys (store_of s.args.m.now) s.args.h (path-is first.before) second.default_object_alias.ensures.text after-core-alias.core_alias.ensures.text first.first_with_key-first.ensures second.clash_alias-second.ensures third.clash_alias.ensures
 
-pub clash-after-spec : {M : Type 1} → statement M
-clash-after-spec =
+pub clash_after_spec : {M : Type 1} → statement M
+clash_after_spec =
     tie.close
     (tie.spec
     (λ c κs. search rules) first-with-key-requires (λ c κs. search rules) clash-alias-requires (λ c κs. search rules)

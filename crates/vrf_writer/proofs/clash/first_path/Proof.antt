@@ -8,36 +8,36 @@ use Rattle.vrf_writer.proofs.Laws.Clash.{path-test, scanned-start, scanned-step,
 use Rattle.vrf_writer.proofs.clash.first_path.Statement.{statement}
 use Rattle.vrf_writer.proofs.clash.first_path.Tie as tie
 
-abbrev invariant-loop : tie.invariant-loop
+abbrev invariant-loop : tie.invariant-loop-j
 invariant-loop m k h to j₀ j = Scanned (is_at (store_of m) (some k)) h j
 
-abbrev decreases-loop : tie.decreases-loop
+abbrev decreases-loop : tie.decreases-loop-j
 decreases-loop m k h to j₀ j = to - j
 
 -- the function's entry state, seen from the loop
-abbrev start : tie.At-loop invariant-loop decreases-loop → tie.Start invariant-loop decreases-loop
+abbrev start : tie.At-loop-j invariant-loop decreases-loop → tie.Start invariant-loop decreases-loop
 start c = c.before.before.before
 
-abbrev at-loop : tie.After-same invariant-loop decreases-loop → tie.At-loop invariant-loop decreases-loop
+abbrev at-loop : tie.After-same invariant-loop decreases-loop → tie.At-loop-j invariant-loop decreases-loop
 at-loop c = c.before.before.before
 
 test-is : (c : tie.After-same invariant-loop decreases-loop) →
     let s = start (at-loop c) in
-    is_at (store_of s.args.m.now) (some s.args.k.now) (at-loop c).loop.j ≡ c.same.result
+    is_at (store_of s.args.m.now) (some s.args.k.now) (at-loop c).loop-j.j ≡ c.same.result
 test-is c =
     let s = start (at-loop c) in
-    let j = (at-loop c).loop.j in
-    path-test (store_of s.args.m.now) s.args.k.now j c.same.ensures (c.before.group_path.ensures ∙ group-at (store_of s.args.m.now) [] j (λ g. g.path) (omega arith))
+    let j = (at-loop c).loop-j.j in
+    path-test (store_of s.args.m.now) s.args.k.now j c.same.ensures (c.group_path.ensures ∙ group-at (store_of s.args.m.now) [] j (λ g. g.path) (omega arith))
 
-pub first-path-spec : {M : Type 1} → statement M
-first-path-spec =
+pub first_path_spec : {M : Type 1} → statement M
+first_path_spec =
     tie.close
     (tie.spec
     invariant-loop decreases-loop
-    (λ c. let p = c.before.before.requires in omega (arith, p.1, p.0.valid.header.groups, p.0.valid.header.tops.groups))
-    (λ c. let x = c.before.before.args in scanned-start (is_at (store_of x.m.now) (some x.k.now)) x.h)
+    (λ c. let p = c.requires in omega (arith, p.1, p.0.valid.header.groups, p.0.valid.header.tops.groups))
+    (λ c. let x = c.args in scanned-start (is_at (store_of x.m.now) (some x.k.now)) x.h)
     (λ c κs. search rules) (λ c κs. search rules)
-    (λ c. scanned-hit (at-loop c.before).loop.inv (omega arith) (test-is c.before ∙ c.if1.true))
+    (λ c. scanned-hit (at-loop c.before).loop-j.inv (omega arith) (test-is c.before ∙ c.if-same.true))
     (λ c. omega arith) (λ c. omega arith)
-    (λ c. scanned-step (at-loop c.before).loop.inv (test-is c.before ∙ c.if1.false))
-    (λ c. scanned-end c.before.loop.invariant (omega arith)))
+    (λ c. scanned-step (at-loop c.before).loop-j.inv (test-is c.before ∙ c.if-same.false))
+    (λ c. scanned-end c.loop-j.invariant (omega arith)))

@@ -4,19 +4,19 @@ use Rattle.vrf_writer.proofs.Laws.Clash.{narrowed-less, narrowed-not}
 use Rattle.vrf_writer.proofs.clash.first_with_key.Statement.{statement}
 use Rattle.vrf_writer.proofs.clash.first_with_key.Tie as tie
 
-returns : tie.Need-returns
+returns : tie.Need-returns-then-r-to
 returns c =
     let p = c.before in
     let l = p.before in
-    narrowed-less l.before.keyed-end.ensures l.lower.ensures p.first-path.ensures (omega arith)
+    narrowed-less l.keyed_end.ensures l.lower-to.ensures p.first_path-r.ensures (omega arith)
 
-returns-2 : tie.Need-returns-2
+returns-2 : tie.Need-returns
 returns-2 c =
     let p = c.before in
     let l = p.before in
     let k = l.before in
-    narrowed-not k.keyed-end.ensures l.lower.ensures p.first-path.ensures k.before.before.before.requires.2 (omega arith)
+    narrowed-not k.keyed_end.ensures l.lower-to.ensures p.first_path-r.ensures k.requires.2 (omega arith)
 
-pub first-with-key-spec : {M : Type 1} → statement M
-first-with-key-spec =
+pub first_with_key_spec : {M : Type 1} → statement M
+first_with_key_spec =
     tie.close (tie.spec (λ c κs. search rules) (λ c κs. search rules) (λ c κs. search rules) returns returns-2)

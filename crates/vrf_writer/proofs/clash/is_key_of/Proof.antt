@@ -4,11 +4,11 @@ use Rattle.vrf_writer.proofs.Laws.Clash.{far-key}
 use Rattle.vrf_writer.proofs.clash.is_key_of.Statement.{statement}
 use Rattle.vrf_writer.proofs.clash.is_key_of.Tie as tie
 
-returns : tie.Need-returns
+returns : tie.Need-returns-then-d-ne9
 returns c =
     let d = c.before.before.before in
     let s = d.before.before.before in
-    sym (far-key s.args.path.now s.args.k.now d.apart.ensures c.before.before.if1.true c.before.if2.true c.if3.true)
+    sym (far-key s.args.path.now s.args.k.now d.apart-d.ensures c.if-d-ne0.true c.if-d-ne6.true c.if-d-ne9.true)
 
-pub is-key-of-spec : {M : Type 1} → statement M
-is-key-of-spec = tie.close (tie.spec (λ c κs. search rules) returns (λ c κs. search rules) (λ c. search rules))
+pub is_key_of_spec : {M : Type 1} → statement M
+is_key_of_spec = tie.close (tie.spec (λ c κs. search rules) returns (λ c κs. search rules) (λ c. search rules))

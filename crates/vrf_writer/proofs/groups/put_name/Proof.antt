@@ -13,23 +13,23 @@ use Rattle.vrf_writer.proofs.groups.put_name.Tie as tie
 blank : (c : tie.Start) → PartlyWritten (name_code c.args.t.now) c.args.out.now c.args.out.now 0 (0 ∷ (encode_text c.args.t.now ++ encode_word32 0))
 blank c = name-start c.args.t.now c.args.out.now c.requires.0
 
-first : (c : tie.After-put-text) →
+first : (c : tie.After-put_text-at) →
     let start = c.before.before.before.before in
-    PartlyWritten (name_code start.args.t.now) start.args.out.now (back_from (set start.args.out.now 0 0) 1 c.put-text.new.0) (1 + c.put-text.result) (encode_word32 0)
+    PartlyWritten (name_code start.args.t.now) start.args.out.now (back_from (set start.args.out.now 0 0) 1 c.put_text-at.new.out) (1 + c.put_text-at.result) (encode_word32 0)
 first c =
     let start = c.before.before.before.before in
-    under_next (encode_text start.args.t.now) (encode_word32 0) (under-byte 0 (blank start)) refl c.put-text.ensures
+    under_next (encode_text start.args.t.now) (encode_word32 0) (under-byte 0 (blank start)) refl c.put_text-at.ensures
 
-abbrev text : tie.After-put-word → tie.After-put-text
+abbrev text : tie.After-put_word → tie.After-put_text-at
 text c = c.before.before.before.before
 
-put-text-requires : tie.Need-put-text-requires
+put-text-requires : tie.Need-put_text-at-requires
 put-text-requires c κs =
     let start = c.before.before.before in
     (under-lent (encode_text start.args.t.now) (encode_word32 0) (under-byte 0 (blank start)) refl, start.requires.1)
 
-pub put-name-spec : {M : Type 1} → statement M
-put-name-spec =
+pub put_name_spec : {M : Type 1} → statement M
+put_name_spec =
     tie.close
     (tie.spec
     (λ c. omega (arith, under-space (blank c.before.before))) (λ c. omega (arith, under-space (under-byte 0 (blank c.before.before))))

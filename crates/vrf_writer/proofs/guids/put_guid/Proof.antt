@@ -15,64 +15,64 @@ abbrev its : tie.Start → Guid
 its c = guid_in c.args.rows.now c.args.x.now c.args.i
 
 -- the place after the call before, and the function's entry state
-abbrev start : tie.After-put-packed-arg → tie.Start
+abbrev start : tie.After-put_packed-arg-1 → tie.Start
 start c = c.before.before.before.before
 
-abbrev start1 : tie.After-put-packed → tie.Start
+abbrev start1 : tie.After-put_packed-at → tie.Start
 start1 c = start c.before.before
 
-abbrev guid : tie.After-row-info → tie.After-put-packed
+abbrev guid : tie.After-row_info → tie.After-put_packed-at
 guid c = c.before.before.before.before
 
-abbrev start2 : tie.After-row-info → tie.Start
+abbrev start2 : tie.After-row_info → tie.Start
 start2 c = start1 (guid c)
 
-abbrev outer : tie.After-row-text → tie.After-put-packed2
+abbrev outer : tie.After-row_text → tie.After-put_packed-at-2
 outer c = c.before.before.before.before
 
-abbrev start3 : tie.After-row-text → tie.Start
+abbrev start3 : tie.After-row_text → tie.Start
 start3 c = start2 (outer c).before
 
 -- what is written after each call
-first : (c : tie.After-put-packed) →
+first : (c : tie.After-put_packed-at) →
     let s = start1 c in
-    PartlyWritten (encode_guid (its s)) s.args.out.now c.put-packed.new.0 c.put-packed.result (outer_on (its s))
-first c = let s = start1 c in first-put s.args.out.now (encode_packed (its s).guid) (outer_on (its s)) (guid-code (its s)) s.pre.1 (ap encode_packed c.before.guid-of.ensures) c.put-packed.ensures
+    PartlyWritten (encode_guid (its s)) s.args.out.now c.put_packed-at.new.out c.put_packed-at.result (outer_on (its s))
+first c = let s = start1 c in first-put s.args.out.now (encode_packed (its s).guid) (outer_on (its s)) (guid-code (its s)) s.requires.1 (ap encode_packed c.guid_of.ensures) c.put_packed-at.ensures
 
-abbrev out2 : tie.After-put-packed2 → List ℕ
-out2 c = back_from (guid c.before).put-packed.new.0 (guid c.before).put-packed.result c.put-packed2.new.0
+abbrev out2 : tie.After-put_packed-at-2 → List ℕ
+out2 c = back_from (guid c.before).put_packed-at.new.out (guid c.before).put_packed-at.result c.put_packed-at-2.new.out
 
-abbrev at2 : tie.After-put-packed2 → ℕ
-at2 c = (guid c.before).put-packed.result + c.put-packed2.result
+abbrev at2 : tie.After-put_packed-at-2 → ℕ
+at2 c = (guid c.before).put_packed-at.result + c.put_packed-at-2.result
 
-second : (c : tie.After-put-packed2) →
+second : (c : tie.After-put_packed-at-2) →
     let s = start2 c.before in
     PartlyWritten (encode_guid (its s)) s.args.out.now (out2 c) (at2 c) (1 ∷ path_on (its s))
 second c =
     let it = its (start2 c.before) in
-    under_next (encode_packed it.outer) (1 ∷ path_on it) (first (guid c.before)) (ap encode_packed c.before.row-info.ensures) c.put-packed2.ensures
+    under_next (encode_packed it.outer) (1 ∷ path_on it) (first (guid c.before)) (ap encode_packed c.row_info.ensures) c.put_packed-at-2.ensures
 
-third : (c : tie.After-put-text) →
+third : (c : tie.After-put_text-at) →
     let s = start3 c.before in
     let b = outer c.before in
-    PartlyWritten (encode_guid (its s)) s.args.out.now (back_from (set (out2 b) (at2 b) 1) (at2 b + 1) c.put-text.new.0) (at2 b + 1 + c.put-text.result) (0 ∷ [])
-third c = under_next (encode_text (its (start3 c.before)).path) (0 ∷ []) (under-byte 1 (second (outer c.before))) (ap encode_text c.before.row-text.ensures) c.put-text.ensures
+    PartlyWritten (encode_guid (its s)) s.args.out.now (back_from (set (out2 b) (at2 b) 1) (at2 b + 1) c.put_text-at.new.out) (at2 b + 1 + c.put_text-at.result) (0 ∷ [])
+third c = under_next (encode_text (its (start3 c.before)).path) (0 ∷ []) (under-byte 1 (second (outer c.before))) (ap encode_text c.row_text.ensures) c.put_text-at.ensures
 
-put-packed-requires : tie.Need-put-packed-requires
-put-packed-requires c κs = let s = start c.before in first-lent s.args.out.now (encode_packed (its s).guid) (outer_on (its s)) (guid-code (its s)) s.pre.1 (ap encode_packed c.guid-of.ensures)
+put-packed-requires : tie.Need-put_packed-at-requires
+put-packed-requires c κs = let s = start c.before in first-lent s.args.out.now (encode_packed (its s).guid) (outer_on (its s)) (guid-code (its s)) s.requires.1 (ap encode_packed c.guid_of.ensures)
 
-put-packed-requires-2 : tie.Need-put-packed-requires-2
+put-packed-requires-2 : tie.Need-put_packed-at-requires-2
 put-packed-requires-2 c κs =
     let it = its (start2 c) in
-    under-lent (encode_packed it.outer) (1 ∷ path_on it) (first (guid c)) (ap encode_packed c.row-info.ensures)
+    under-lent (encode_packed it.outer) (1 ∷ path_on it) (first (guid c)) (ap encode_packed c.row_info.ensures)
 
-put-text-requires : tie.Need-put-text-requires
+put-text-requires : tie.Need-put_text-at-requires
 put-text-requires c κs =
     let s = start3 c in
-    (under-lent (encode_text (its s).path) (0 ∷ []) (under-byte 1 (second (outer c))) (ap encode_text c.row-text.ensures), rw c.row-text.ensures s.pre.0.texts.short)
+    (under-lent (encode_text (its s).path) (0 ∷ []) (under-byte 1 (second (outer c))) (ap encode_text c.row_text.ensures), rw c.row_text.ensures s.requires.0.texts.short)
 
-pub put-guid-spec : {M : Type 1} → statement M
-put-guid-spec =
+pub put_guid_spec : {M : Type 1} → statement M
+put_guid_spec =
     tie.close
     (tie.spec
     (λ c κs. let p = (start c).requires.0 in (p.texts.row, p.small)) put-packed-requires

@@ -6,29 +6,29 @@ use Rattle.vrf_writer.proofs.Laws.Size.{Summed, summed-start, summed-step, summe
 use Rattle.vrf_writer.proofs.size.fields_len.Statement.{statement}
 use Rattle.vrf_writer.proofs.size.fields_len.Tie as tie
 
-abbrev invariant-loop : tie.invariant-loop
+abbrev invariant-loop : tie.invariant-loop-e
 invariant-loop m n sum₀ e₀ sum e = Summed (field_bytes (store_of m)) n sum e
 
-abbrev decreases-loop : tie.decreases-loop
+abbrev decreases-loop : tie.decreases-loop-e
 decreases-loop m n sum₀ e₀ sum e = n - e
 
 -- the sum is below 4115 for each of them
-small : (c : tie.At-loop invariant-loop decreases-loop) → c.loop.sum ≤ 4115 * c.loop.e
-small c = summed-short c.loop.invariant 4115 (λ e k. field-short c.before.before.before.requires.valid e (omega (arith, k, c.before.fields.ensures)))
+small : (c : tie.At-loop-e invariant-loop decreases-loop) → c.loop-e.sum ≤ 4115 * c.loop-e.e
+small c = summed-short c.loop-e.invariant 4115 (λ e k. field-short c.requires.valid e (omega (arith, k, c.fields-n.ensures)))
 
-field-len-requires : tie.Need-field-len-requires invariant-loop decreases-loop
-field-len-requires c κs = let after-fields = c.before.before in (after-fields.before.before.requires, omega (arith, after-fields.fields.ensures))
+field-len-requires : tie.Need-field_len-sum-requires invariant-loop decreases-loop
+field-len-requires c κs = let after-fields = c.before.before in (after-fields.requires, omega (arith, after-fields.fields-n.ensures))
 
-add-sum : tie.Need-overflow-add-sum invariant-loop decreases-loop
+add-sum : tie.Need-overflow_add-sum invariant-loop decreases-loop
 add-sum c =
     let at-loop = c.before.before in
     let after-fields = at-loop.before in
-    omega (arith, small at-loop, field-short after-fields.before.before.requires.valid at-loop.loop.e (omega (arith, after-fields.fields.ensures)), c.field-len.ensures)
+    omega (arith, small at-loop, field-short after-fields.requires.valid at-loop.loop-e.e (omega (arith, after-fields.fields-n.ensures)), c.field_len-sum.ensures)
 
-pub fields-len-spec : {M : Type 1} → statement M
-fields-len-spec =
+pub fields_len_spec : {M : Type 1} → statement M
+fields_len_spec =
     tie.close
     (tie.spec
     invariant-loop decreases-loop (λ c κs. search rules) (λ c. summed-start) field-len-requires add-sum (λ c. omega arith)
-    (λ c. omega arith) (λ c. summed-step c.before.before.loop.invariant (omega arith) (ap (λ (k : ℕ). c.before.before.loop.sum + k) c.field-len.ensures))
-    (λ c. summed-end c.before.loop.invariant (omega arith) c.before.before.fields.ensures))
+    (λ c. omega arith) (λ c. summed-step c.loop-e.invariant (omega arith) (ap (λ (k : ℕ). c.loop-e.sum + k) c.field_len-sum.ensures))
+    (λ c. summed-end c.loop-e.invariant (omega arith) c.fields-n.ensures))

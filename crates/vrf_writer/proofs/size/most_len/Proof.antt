@@ -4,15 +4,15 @@ use Rattle.vrf_writer.proofs.Laws.Size.{block-most, most-short}
 use Rattle.vrf_writer.proofs.size.most_len.Statement.{statement}
 use Rattle.vrf_writer.proofs.size.most_len.Tie as tie
 
-abbrev guids : tie.After-groups-len → tie.After-guids
+abbrev guids : tie.After-groups_len → tie.After-guids
 guids c = c.before.before.before
 
-pub most-len-spec : {M : Type 1} → statement M
-most-len-spec =
+pub most_len_spec : {M : Type 1} → statement M
+most_len_spec =
     tie.close
     (tie.spec
     (λ c κs. search rules) (λ c. search rules) (λ c. search rules) (λ c κs. search rules) (λ c. search rules)
     (λ c. search rules) (λ c. search rules) (λ c. search rules) (λ c κs. search rules) (λ c. search rules)
     (λ c. search rules) (λ c κs. search rules)
-    (λ c. record { fits = omega (arith, most-short (guids c).before.before.requires.valid) })
-    (λ c. omega (arith, block-most (guids c).before.before.requires.valid)))
+    (λ c. record { fits = omega (arith, most-short (guids c).requires.valid) })
+    (λ c. omega (arith, block-most (guids c).requires.valid)))

@@ -4,9 +4,9 @@ use Rattle.vrf_writer.proofs.Laws.Lengths.{below, from}
 use Rattle.vrf_writer.proofs.size.one_from.Statement.{statement}
 use Rattle.vrf_writer.proofs.size.one_from.Tie as tie
 
-pub one-from-spec : {M : Type 1} → statement M
-one-from-spec =
+pub one_from_spec : {M : Type 1} → statement M
+one_from_spec =
     tie.close
     (tie.spec
-    (λ c. let x = c.before.args in (sym (below x.least x.n (omega arith)), omega arith))
-    (λ c. let x = c.before.args in (sym (from x.least x.n (omega arith)), omega arith)))
+    (λ c. let x = c.args in (sym (below x.least x.n (omega arith)), omega arith))
+    (λ c. let x = c.args in (sym (from x.least x.n (omega arith)), omega arith)))

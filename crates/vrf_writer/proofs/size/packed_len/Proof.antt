@@ -4,10 +4,10 @@ use Rattle.vrf_writer.proofs.Laws.Lengths.{packed-sum}
 use Rattle.vrf_writer.proofs.size.packed_len.Statement.{statement}
 use Rattle.vrf_writer.proofs.size.packed_len.Tie as tie
 
-pub packed-len-spec : {M : Type 1} → statement M
-packed-len-spec =
+pub packed_len_spec : {M : Type 1} → statement M
+packed_len_spec =
     tie.close
     (tie.spec
     (λ c κs. search rules) (λ c. omega arith) (λ c κs. search rules) (λ c. omega arith) (λ c κs. search rules)
     (λ c. omega arith) (λ c κs. search rules) (λ c. omega arith)
-    (λ c. omega (arith, packed-sum c.before.before.before.before.args.n)))
+    (λ c. omega (arith, packed-sum c.args.n)))

@@ -4,9 +4,9 @@ use Rattle.vrf_writer.proofs.Laws.Lengths.{text-none, text-some}
 use Rattle.vrf_writer.proofs.size.text_len.Statement.{statement}
 use Rattle.vrf_writer.proofs.size.text_len.Tie as tie
 
-pub text-len-spec : {M : Type 1} → statement M
-text-len-spec =
+pub text_len_spec : {M : Type 1} → statement M
+text_len_spec =
     tie.close
     (tie.spec
-    (λ c. sym (text-none c.before.args.t.now (omega arith))) (λ c. search rules)
-    (λ c. sym (text-some c.before.args.t.now (λ z. omega (arith, z)))))
+    (λ c. sym (text-none c.args.t.now (omega arith))) (λ c. search rules)
+    (λ c. sym (text-some c.args.t.now (λ z. omega (arith, z)))))
