@@ -25,7 +25,7 @@ def turned(text, names, is_code):
     def new(found):
         old = found[0]
         name = names.get(old, old)
-        is_path = text[found.start() - 1 : found.start()] == "." or text[found.end() : found.end() + 1] == "."
+        is_path = text[found.start() - 1 : found.start()] == "." or text[found.end() : found.end() + 2].strip(".").isalpha() and text[found.end()] == "."
         return old if "-" in name and "-" not in old and (is_path or is_code) else name
 
     return NAME.sub(new, text)

@@ -31,7 +31,7 @@ use Rattle.vrf_text.specs.declared.Length.{Length}
 
 -- the answer of `length_of` for the signed number v that was passed to it
 pub outcome : (v : ℤ) {r r' : Length} → mag v < 2147483648 → r ≡ r' → LengthOf (to_z w32 (of_z w32 v)) r → LengthOf v r'
-outcome v {r} {r'} h e l = subst (LengthOf v) e (subst (λ (z : ℤ). LengthOf z r) (to_z-of_z (record { sfits = h })) l)
+outcome v {r} {r'} h e l = subst (LengthOf v) e (subst (λ (z : ℤ). LengthOf z r) (to_z-of_z {w = w32} (record { sfits = h })) l)
 
 -- the word of a signed number that was read
 pub record Worded (s : List ℕ) (c : Cursor) (v : ℤ) (at : Cursor) : Type 0 where
@@ -107,7 +107,7 @@ module _ (s : List ℕ) (c : Cursor) {v : ℤ} {at : Cursor} (d : Worded s c v a
         let z : d.w ≡ 0 → ⊥ = λ q. omega (arith, units-of) in
         let m : d.w ≡ 4294967296 - n = omega (arith, units-of, d.small) in
         let k : 4294967296 - (4294967296 - n) ≡ n = omega (arith, units-few) in
-        then ∙ rw (ne_eqb d.w 0 z, le-ltb d.w (2 ^ 31) units_of.0, m, k)
+        then ∙ rw (ne_eqb d.w 0 z, le-ltb d.w (2 ^ 31) units-of.0, m, k)
 
   lift : {x y : Read (List ℕ)} {t : List ℕ} {next : Cursor} → x ≡ y → Gave s at y t next → Gave s c x t next
   lift e g = record { read = e ∙ g.read; first = g.first ∙ d.word.first; count = g.count ∙ d.word.count }

@@ -17,24 +17,18 @@ loop-holds c = copy_start _ _ _ _ _ c.load_u64-carry.ensures
 
 loop-again : tie.Need-loop-k-preserved invariant-loop decreases-loop
 loop-again c =
-    let put = c.before.before in
-    let load = put.before.before.before in
-    copy_step _ _ _ _ _ _ _ _ load.loop-k.invariant _ _ load.load_u64-next.ensures put.joined.ensures _ put.put_bytes.ensures put.put_bytes.auto.dst (omega arith) (omega arith)
+    copy_step _ _ _ _ _ _ _ _ c.loop-k.invariant _ _ c.load_u64-next.ensures c.joined.ensures _ c.put_bytes.ensures c.put_bytes.auto.dst (omega arith) (omega arith)
 
 same_length : tie.Need-shape_of-dst-then-left-gt0 invariant-loop decreases-loop
 same_length c =
-    let put = c.before.before in
-    let back = put.before.before.before.before in
-    let l = back.loop-k in
-    put.put_bytes-then-left-gt0.auto.dst ∙ l.invariant.long
+    let l = c.loop-k in
+    c.put_bytes-then-left-gt0.auto.dst ∙ l.invariant.long
 
 returns : tie.Need-returns-then-left-gt0 invariant-loop decreases-loop
 returns c =
-    let put = c.before.before in
-    let after-joined2 = put.before.before.before in
-    let l = after-joined2.loop-k in
-    put.put_bytes-then-left-gt0.ensures ∙ copy-end _ _ _ _ _ _ _ _ l.invariant _ _ (omega arith) (omega arith)
-    (last_word _ _ _ _ _ _ _ _ l.invariant _ _ after-joined2.load_u64.ensures after-joined2.joined-last.ensures _ _ put.low_bits.ensures)
+    let l = c.loop-k in
+    c.put_bytes-then-left-gt0.ensures ∙ copy-end _ _ _ _ _ _ _ _ l.invariant _ _ (omega arith) (omega arith)
+    (last_word _ _ _ _ _ _ _ _ l.invariant _ _ c.load_u64.ensures c.joined-last.ensures _ _ c.low_bits.ensures)
 
 same-length-2 : tie.Need-shape_of-dst-else-left-gt0 invariant-loop decreases-loop
 same-length-2 c = c.loop-k.invariant.long

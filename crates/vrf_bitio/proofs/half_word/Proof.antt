@@ -6,8 +6,7 @@ use Rattle.vrf_bitio.proofs.half_word.Tie as tie
 
 returns : tie.Need-returns
 returns c =
-    let after-byte-or-zero2 = c.before.before in
-    half _ _ _ _ _ _ after-byte-or-zero2.byte_or_zero.ensures after-byte-or-zero2.byte_or_zero-2.ensures c.byte_or_zero-3.ensures c.byte_or_zero-4.ensures
+    half _ _ _ _ _ _ c.byte_or_zero.ensures c.byte_or_zero-2.ensures c.byte_or_zero-3.ensures c.byte_or_zero-4.ensures
 
 pub half_word_spec : {M : Type 1} → statement M
 half_word_spec =

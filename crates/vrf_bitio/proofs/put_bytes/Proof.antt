@@ -13,8 +13,7 @@ decreases-loop dst₀ at v t k₀ left₀ dst k left = t - k
 
 loop-again : tie.Need-loop-k-preserved invariant-loop decreases-loop
 loop-again c =
-    let at-loop = c.before in
-    put_step _ at-loop.loop-k.dst _ _ _ at-loop.loop-k.k at-loop.loop-k.left at-loop.loop-k.invariant c.loop-k-test.true at-loop.requires
+    put_step _ c.loop-k.dst _ _ _ c.loop-k.k c.loop-k.left c.loop-k.invariant c.loop-k-test.true c.requires
 
 returns : tie.Need-returns invariant-loop decreases-loop
 returns c = put-end _ c.loop-k.dst _ _ _ c.loop-k.k c.loop-k.left c.loop-k.invariant c.loop-k-test.false

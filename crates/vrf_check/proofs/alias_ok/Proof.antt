@@ -10,8 +10,7 @@ use Rattle.vrf_check.proofs.alias_ok.Tie as tie
 
 abbrev start : tie.After-is_absent → tie.Start
 start c =
-    let back = c.before.before.before.before in
-    back.before.before
+    c.before.before.before.before.before.before
 
 abbrev find : tie.After-is_absent → List ℕ → Option ℕ
 find c = let x = (start c).args in find_path x.rows.now x.x.now x.links.now x.heads.now x.b x.n

@@ -9,17 +9,12 @@ use Rattle.vrf_check.proofs.alias_reaches.Tie as tie
 
 spell-requires : tie.Need-spell-k-requires
 spell-requires c κs =
-    let back = c.before.before.before.before in
-    let x = back.before.before in
-    omega (arith, key-short x.args.path.now x.args.key, x.requires.1)
+    omega (arith, key-short c.args.path.now c.args.key, c.requires.1)
 
 reaches-requires : tie.Need-reaches-requires
 reaches-requires c κs =
-    let after-spell = c.before.before in
-    let back = after-spell.before.before.before.before in
-    let start = back.before.before.before in
-    let x = start.args in
-    (start.requires.0, omega (arith, ap length after-spell.spell-k.ensures.bytes, key-short x.path.now x.key, start.requires.1))
+    let x = c.args in
+    (c.requires.0, omega (arith, ap length c.spell-k.ensures.bytes, key-short x.path.now x.key, c.requires.1))
 
 pub alias_reaches_spec : {M : Type 1} → statement M
 alias_reaches_spec =

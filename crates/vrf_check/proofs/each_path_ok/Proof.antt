@@ -18,8 +18,7 @@ decreases-loop rows x links heads b leaves starts k n g₀ g = n - g
 
 abbrev start : tie.At-loop-g invariant-loop decreases-loop → tie.Start invariant-loop decreases-loop
 start c =
-    let back = c.before.before.before.before in
-    back.before.before.before
+    c.before.before.before.before.before.before.before
 
 abbrev ok : tie.At-loop-g invariant-loop decreases-loop → ℕ → Bool
 ok c = let x = (start c).args in path_ok x.rows.now x.x.now x.links.now x.heads.now x.b x.leaves.now x.starts.now x.c x.n
@@ -33,16 +32,14 @@ returns c =
 returns-2 : tie.Need-returns-then-not-leaf_ok invariant-loop decreases-loop
 unfolding path_ok
 returns-2 c =
-    let keys = c.before.before in
-    let l = keys.before.before.before in
-    all-stop (ok l) l.loop-g.g _ keys.loop-g-test.true (sym (goes_on keys.keys_ok.ensures keys.if-not-keys_ok.false (sym (fails c.leaf_ok.ensures c.if-not-leaf_ok.true))))
+    let l = c.before.before.before.before.before in
+    all-stop (ok l) l.loop-g.g _ c.loop-g-test.true (sym (goes_on c.keys_ok.ensures c.if-not-keys_ok.false (sym (fails c.leaf_ok.ensures c.if-not-leaf_ok.true))))
 
 loop-again : tie.Need-loop-g-preserved invariant-loop decreases-loop
 unfolding path_ok
 loop-again c =
-    let keys = c.before.before in
-    let l = keys.before.before.before in
-    (omega arith, all-next (ok l) l.loop-g.g (sym (goes_on keys.keys_ok.ensures keys.if-not-keys_ok.false (sym (holds c.leaf_ok.ensures c.if-not-leaf_ok.false)))) l.loop-g.invariant.1)
+    let l = c.before.before.before.before.before in
+    (omega arith, all-next (ok l) l.loop-g.g (sym (goes_on c.keys_ok.ensures c.if-not-keys_ok.false (sym (holds c.leaf_ok.ensures c.if-not-leaf_ok.false)))) l.loop-g.invariant.1)
 
 returns-3 : tie.Need-returns invariant-loop decreases-loop
 returns-3 c = let l = c.loop-g in all-last (ok c.before) l.g _ l.invariant.0 c.loop-g-test.false l.invariant.1

@@ -9,8 +9,7 @@ use Rattle.vrf_check.proofs.field_ok.Statement.{statement}
 use Rattle.vrf_check.proofs.field_ok.Tie as tie
 
 slot : (c : tie.After-slot_ok) →
-    let back = c.before.before.before.before in
-    let x = back.args in
+    let x = c.args in
     c.Slot-ok.result ≡ slot_in x.groups.now x.g (key x.rows.now x.e)
 slot c = cc
 
@@ -21,9 +20,8 @@ returns c = stops (slot c.before) _ c.if-not-slot_ok.true
 returns-2 : tie.Need-returns
 unfolding field_row_ok
 returns-2 c =
-    let row = c.before.before.before in
     goes_on (slot c.before.before) c.if-not-slot_ok.false
-    (and-on (info-32 _ _ (λ i. omega (arith, row.shared_slice_known-2-1.given i))) c.found_ok.ensures)
+    (and-on (info-32 _ _ (λ i. omega (arith, c.shared_slice_known-2-1.given i))) c.found_ok.ensures)
 
 pub field_ok_spec : {M : Type 1} → statement M
 field_ok_spec =

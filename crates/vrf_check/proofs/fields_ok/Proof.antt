@@ -9,8 +9,7 @@ use Rattle.vrf_check.proofs.fields_ok.Tie as tie
 
 each-field-ok-requires : tie.Need-each_field_ok-requires
 each-field-ok-requires c κs =
-    let heads = c.before.before in
-    omega (arith, ap length heads.group_rows.ensures, ap length heads.field_rows.ensures, ap length heads.field_heads.ensures)
+    omega (arith, ap length c.group_rows.ensures, ap length c.field_rows.ensures, ap length c.field_heads.ensures)
 
 returns : tie.Need-returns
 unfolding fields_ok

@@ -9,8 +9,7 @@ use Rattle.vrf_check.proofs.groups_ok.Tie as tie
 
 each-row-ok-requires : tie.Need-each_row_ok-requires
 each-row-ok-requires c κs =
-    let heads = c.before.before in
-    omega (arith, ap length heads.group_rows.ensures, ap length heads.group_heads.ensures)
+    omega (arith, ap length c.group_rows.ensures, ap length c.group_heads.ensures)
 
 returns : tie.Need-returns
 unfolding groups_ok

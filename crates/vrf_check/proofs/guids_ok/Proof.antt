@@ -9,8 +9,7 @@ use Rattle.vrf_check.proofs.guids_ok.Tie as tie
 
 each-row-ok-requires : tie.Need-each_row_ok-requires
 each-row-ok-requires c κs =
-    let heads = c.before.before in
-    omega (arith, ap length heads.guid_rows.ensures, ap length heads.guid_heads.ensures)
+    omega (arith, ap length c.guid_rows.ensures, ap length c.guid_heads.ensures)
 
 returns : tie.Need-returns
 unfolding guids_ok

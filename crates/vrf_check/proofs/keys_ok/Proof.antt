@@ -19,8 +19,7 @@ use Rattle.vrf_check.proofs.keys_ok.Tie as tie
 
 abbrev start : tie.After-row_text-path → tie.Start
 start c =
-    let back = c.before.before.before.before in
-    back.before
+    c.before.before.before.before.before
 
 -- the walk for a key, and whether key j is found
 abbrev find : tie.After-row_text-path → List ℕ → Option ℕ
@@ -39,8 +38,7 @@ aliasable c = ((start c).requires.0, short c)
 
 alias-ok-requires-2 : tie.Need-alias_ok-requires-2
 alias-ok-requires-2 c κs =
-    let aliased = c.before.before.before.before in
-    aliasable aliased.before.before
+    aliasable c.before.before.before.before.before.before
 
 itself : (c : tie.After-reaches) → c.reaches.result ≡ key c.before 0
 unfolding key_reach key_numbered reach_ok
@@ -54,8 +52,7 @@ default c =
 
 row-text-requires : tie.Need-row_text-path-requires
 row-text-requires c κs =
-    let start = c.before.before.before.before in
-    (omega arith, start.requires.0.texts start.args.g start.requires.1)
+    (omega arith, c.requires.0.texts c.args.g c.requires.1)
 
 returns : tie.Need-returns-then-not-reaches
 unfolding keys_reach
@@ -64,17 +61,14 @@ returns c = stops (itself c.before) _ c.if-not-reaches.true
 returns-2 : tie.Need-returns-then-not-alias_ok
 unfolding keys_reach
 returns-2 c =
-    let own = c.before.before.before in
-    goes_on (itself own.before) own.if-not-reaches.false (stops (default c.before) _ c.if-not-alias_ok.true)
+    goes_on (itself c.before.before.before.before) c.if-not-reaches.false (stops (default c.before) _ c.if-not-alias_ok.true)
 
 returns-3 : tie.Need-returns
 unfolding keys_reach key_reach key_numbered
 returns-3 c =
-    let aliased = c.before.before in
-    let own = aliased.before.before.before in
-    let path = own.before.before in
-    goes_on (itself own.before) own.if-not-reaches.false
-    (goes_on (default aliased.before) aliased.if-not-alias_ok.false
+    let path = c.before.before.before.before.before.before.before in
+    goes_on (itself c.before.before.before.before.before.before) c.if-not-reaches.false
+    (goes_on (default c.before.before.before) c.if-not-alias_ok.false
     (numbered (find path) path.row_text-path.ensures (start path).args.g 2 refl c.core_alias.ensures.text c.alias_ok-2.ensures))
 
 pub keys_ok_spec : {M : Type 1} → statement M

@@ -15,19 +15,17 @@ use Rattle.vrf_check.proofs.leaf_ok.Tie as tie
 
 abbrev start : tie.After-row_text-path → tie.Start
 start c =
-    let back = c.before.before.before.before in
-    back.before
+    c.before.before.before.before.before
 
 abbrev claims : tie.After-row_text-path → List ℕ → Claim
 claims c = let x = (start c).args in claim_of x.rows.now x.x.now x.links.now x.heads.now x.b x.n
 
 row-text-requires : tie.Need-row_text-path-requires
 row-text-requires c κs =
-    let start = c.before.before.before.before in
-    (omega arith, start.requires.0.texts start.args.g start.requires.1)
+    (omega arith, c.requires.0.texts c.args.g c.requires.1)
 
 -- the leaf that was found
-found : (c : tie.In-At-2) → LeafAnswer c.row_text-path.result.now (At c.in-At.i)
+found : (c : tie.In-At) → LeafAnswer c.row_text-path.result.now (At c.in-At.i)
 found c = rw c.in-At.is at c.leaf_at.ensures
 
 leaf-claim-requires : tie.Need-leaf_claim-requires

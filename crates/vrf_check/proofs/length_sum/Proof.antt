@@ -21,9 +21,7 @@ loop-holds c = (omega arith, refl, omega arith)
 
 loop-again : tie.Need-loop-e-preserved invariant-loop decreases-loop
 loop-again c =
-    let at-loop = c.before.before in
-    let start = at-loop.before.before in
-    (omega arith, omega (arith, sum-next (len start.args.rows.now) at-loop.loop-e.e), omega arith)
+    (omega arith, omega (arith, sum-next (len c.args.rows.now) c.loop-e.e), omega arith)
 
 returns : tie.Need-returns invariant-loop decreases-loop
 returns c =

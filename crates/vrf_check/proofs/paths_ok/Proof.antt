@@ -7,15 +7,8 @@ use Rattle.vrf_check.proofs.paths_ok.Tie as tie
 
 each-path-ok-requires : tie.Need-each_path_ok-requires
 each-path-ok-requires c κs =
-    let buckets = c.before in
-    let links = buckets.before.before in
-    let path-buckets = links.before in
-    let path-links = path-buckets.before.before in
-    let texts = path-links.before in
-    let rows = texts.before in
-    let start = rows.before.before in
-    rw (rows.group_rows.ensures, texts.texts.ensures, path-links.path_links.ensures, path-buckets.path_heads.ensures, path-buckets.path_buckets.ensures, links.leaf_links.ensures, buckets.leaf_heads.ensures, buckets.leaf_buckets.ensures, c.groups.ensures)
-    (paths-walked start.args.m.now start.requires.0 start.requires.1, leaves-walked start.args.m.now start.requires.0 start.requires.1)
+    rw (c.group_rows.ensures, c.texts.ensures, c.path_links.ensures, c.path_heads.ensures, c.path_buckets.ensures, c.leaf_links.ensures, c.leaf_heads.ensures, c.leaf_buckets.ensures, c.groups.ensures)
+    (paths-walked c.args.m.now c.requires.0 c.requires.1, leaves-walked c.args.m.now c.requires.0 c.requires.1)
 
 returns : tie.Need-returns
 unfolding paths_ok

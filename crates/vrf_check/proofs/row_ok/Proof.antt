@@ -11,8 +11,7 @@ use Rattle.vrf_check.proofs.row_ok.Tie as tie
 
 abbrev start : tie.After-row_info → tie.Start
 start c =
-    let key = c.before.before in
-    key.before.before.before
+    c.before.before.before.before.before
 
 -- the number of the row
 abbrev number : tie.After-row_info → ℕ

@@ -12,15 +12,12 @@ returns c = stops c.guids_ok.ensures _ c.if-not-guids_ok.true
 returns-2 : tie.Need-returns-then-not-groups_ok
 unfolding rows_ok
 returns-2 c =
-    let guids = c.before.before in
-    goes_on guids.guids_ok.ensures guids.if-not-guids_ok.false (stops c.groups_ok.ensures _ c.if-not-groups_ok.true)
+    goes_on c.guids_ok.ensures c.if-not-guids_ok.false (stops c.groups_ok.ensures _ c.if-not-groups_ok.true)
 
 returns-3 : tie.Need-returns
 unfolding rows_ok
 returns-3 c =
-    let groups = c.before in
-    let guids = groups.before.before in
-    goes_on guids.guids_ok.ensures guids.if-not-guids_ok.false (goes_on groups.groups_ok.ensures groups.if-not-groups_ok.false c.fields_ok.ensures)
+    goes_on c.guids_ok.ensures c.if-not-guids_ok.false (goes_on c.groups_ok.ensures c.if-not-groups_ok.false c.fields_ok.ensures)
 
 pub rows_ok_spec : {M : Type 1} → statement M
 rows_ok_spec = tie.close (tie.spec (λ c κs. search rules) returns (λ c κs. search rules) returns-2 (λ c κs. search rules) returns-3)

@@ -16,9 +16,7 @@ returns c = and-stop _ (le-ltb (c.args.k / 65536) c.args.n c.if-n-g.true)
 returns-2 : tie.Need-returns
 unfolding slot_in
 returns-2 c =
-    let at-if1 = c.before in
-    let start = at-if1.before.before in
-    and-on (lt-ltb (start.args.k / 65536) start.args.n at-if1.if-n-g.false) (ap (ltb (start.args.k % 65536)) c.row_info.ensures)
+    and-on (lt-ltb (c.args.k / 65536) c.args.n c.if-n-g.false) (ap (ltb (c.args.k % 65536)) c.row_info.ensures)
 
 pub slot_ok_spec : {M : Type 1} → statement M
 slot_ok_spec = tie.close (tie.spec returns (λ c. search rules) (λ c κs. search rules) (λ c. search rules) returns-2)

@@ -23,27 +23,22 @@ summed : (c : tie.After-texts_ok) {r : Bool} →
     let s = store c.before.before in
     r ≡ (texts_ok s && (rows_ok s && paths_ok s)) → r ≡ store_ok s
 unfolding steps_ok
-summed c e = let sum = c.before in goes_on sum.sum_ok.ensures sum.if1.false e ∙ sym (store-steps (store sum.before))
+summed c e = goes_on c.sum_ok.ensures c.if-not-sum_ok.false e ∙ sym (store-steps (store c.before.before))
 
 returns-2 : tie.Need-returns-then-not-texts_ok
 returns-2 c = summed c.before (stops c.texts_ok.ensures _ c.if-not-texts_ok.true)
 
 returns-3 : tie.Need-returns-then-not-rows_ok
 returns-3 c =
-    let texts = c.before.before in
-    summed texts.before (goes_on texts.texts_ok.ensures texts.if-not-texts_ok.false (stops c.rows_ok.ensures _ c.if-not-rows_ok.true))
+    summed c.before.before.before (goes_on c.texts_ok.ensures c.if-not-texts_ok.false (stops c.rows_ok.ensures _ c.if-not-rows_ok.true))
 
 paths-ok-requires : tie.Need-paths_ok-requires
 paths-ok-requires c κs =
-    let texts = c.before.before in
-    let sum = texts.before.before.before in
-    (sum.requires, holds texts.texts_ok.ensures texts.if-not-texts_ok.false)
+    (c.requires, holds c.texts_ok.ensures c.if-not-texts_ok.false)
 
 returns-4 : tie.Need-returns
 returns-4 c =
-    let rows = c.before in
-    let texts = rows.before.before in
-    summed texts.before (goes_on texts.texts_ok.ensures texts.if-not-texts_ok.false (goes_on rows.rows_ok.ensures rows.if-not-rows_ok.false c.paths_ok.ensures))
+    summed c.before.before.before.before (goes_on c.texts_ok.ensures c.if-not-texts_ok.false (goes_on c.rows_ok.ensures c.if-not-rows_ok.false c.paths_ok.ensures))
 
 pub store_ok_spec : {M : Type 1} → statement M
 store_ok_spec =

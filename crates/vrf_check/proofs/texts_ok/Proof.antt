@@ -18,8 +18,7 @@ guid c = cc
 -- the texts that were read first, at the second test
 abbrev texts : tie.After-each_text_ok-2 → tie.After-texts-x
 texts c =
-    let guids = c.before.before.before.before in
-    guids.before.before.before
+    c.before.before.before.before.before.before.before
 
 group : (c : tie.After-each_text_ok-2) → let s = store (texts c) in c.each_text_ok-2.result ≡ texts_in s s.group_rows s.header.groups
 group c = cc
@@ -33,14 +32,12 @@ returns c = stops (guid c.before) _ c.if-not-each_text_ok.true
 
 each-text-ok-requires-2 : tie.Need-each_text_ok-requires-2
 each-text-ok-requires-2 c κs =
-    let guids = c.before.before.before in
-    omega (arith, ap length c.group_rows.ensures, ap length guids.texts-x.ensures)
+    omega (arith, ap length c.group_rows.ensures, ap length c.texts-x.ensures)
 
 returns-2 : tie.Need-returns-then-not-each_text_ok-2
 unfolding texts_ok
 returns-2 c =
-    let guids = c.before.before.before.before in
-    goes_on (guid guids.before) guids.if-not-each_text_ok.false (stops (group c.before) _ c.if-not-each_text_ok-2.true)
+    goes_on (guid c.before.before.before.before.before) c.if-not-each_text_ok.false (stops (group c.before) _ c.if-not-each_text_ok-2.true)
 
 each-text-ok-requires-3 : tie.Need-each_text_ok-requires-3
 each-text-ok-requires-3 c κs = omega (arith, ap length c.field_rows.ensures, ap length (texts c.before.before.before).texts-x.ensures)
@@ -48,9 +45,7 @@ each-text-ok-requires-3 c κs = omega (arith, ap length c.field_rows.ensures, ap
 returns-3 : tie.Need-returns
 unfolding texts_ok
 returns-3 c =
-    let groups = c.before.before.before in
-    let guids = groups.before.before.before.before in
-    goes_on (guid guids.before) guids.if-not-each_text_ok.false (goes_on (group groups.before) groups.if-not-each_text_ok-2.false (cc))
+    goes_on (guid c.before.before.before.before.before.before.before.before) c.if-not-each_text_ok.false (goes_on (group c.before.before.before.before) c.if-not-each_text_ok-2.false (cc))
 
 pub texts_ok_spec : {M : Type 1} → statement M
 texts_ok_spec =

@@ -9,51 +9,40 @@ use Rattle.vrf_names.proofs.put_suffix.Tie as tie
 
 slice-write-out : tie.Need-bounds-out-at
 slice-write-out c =
-    let start = c.before.before in
-    omega (arith, plain-space start.args.out.now _ start.requires c.in-Plain.is)
+    omega (arith, plain-space c.args.out.now _ c.requires c.in-Plain.is)
 
 put-digits-requires : tie.Need-put_digits-requires
 put-digits-requires c κs =
-    let at-s = c.before in
-    let start = at-s.before.before in
-    rw length-set (omega (arith, plain-space start.args.out.now _ start.requires at-s.in-Plain.is))
+    rw length-set (omega (arith, plain-space c.args.out.now _ c.requires c.in-Plain.is))
 
 slice-write-out-2 : tie.Need-bounds-out-at-in-Minus
 slice-write-out-2 c =
-    let start = c.before.before in
-    omega (arith, minus-space start.args.out.now _ start.requires c.in-Minus.is)
+    omega (arith, minus-space c.args.out.now _ c.requires c.in-Minus.is)
 
 slice-write-out-3 : tie.Need-bounds-out-at-in-Minus-2
 slice-write-out-3 c =
-    let start = c.before.before in
-    rw length-set (omega (arith, minus-space start.args.out.now _ start.requires c.in-Minus.is))
+    rw length-set (omega (arith, minus-space c.args.out.now _ c.requires c.in-Minus.is))
 
 put-digits-requires-2 : tie.Need-put_digits-requires-in-Minus
 put-digits-requires-2 c κs =
-    let at-s2 = c.before in
-    let start = at-s2.before.before in
-    simp length-set (omega (arith, minus-space start.args.out.now _ start.requires at-s2.in-Minus.is))
+    simp length-set (omega (arith, minus-space c.args.out.now _ c.requires c.in-Minus.is))
 
 returns : tie.Need-returns-in-Empty
 returns c = put-empty _ _ c.in-Empty.is
 
 same_length : tie.Need-shape_of-out-in-Plain
-same_length c = c.put_digits.auto.1.0 ∙ simp length-set
+same_length c = c.put_digits.auto.out ∙ simp length-set
 
 returns-2 : tie.Need-returns-in-Plain
 returns-2 c =
-    let after-put-digits = c.before.before in
-    let at-s = after-put-digits.before.before in
-    put-plain _ _ at-s.requires at-s.in-Plain.is after-put-digits.put_digits.ensures
+    put-plain _ _ c.requires c.in-Plain.is c.put_digits.ensures
 
 same-length-2 : tie.Need-shape_of-out-in-Minus
-same-length-2 c = c.put_digits-in-Minus.auto.1.0 ∙ simp length-set
+same-length-2 c = c.put_digits-in-Minus.auto.out ∙ simp length-set
 
 returns-3 : tie.Need-returns-in-Minus
 returns-3 c =
-    let after-put-digits2 = c.before.before in
-    let at-s2 = after-put-digits2.before.before in
-    put-minus _ _ at-s2.requires at-s2.in-Minus.is after-put-digits2.put_digits-in-Minus.ensures
+    put-minus _ _ c.requires c.in-Minus.is c.put_digits-in-Minus.ensures
 
 pub put_suffix_spec : {M : Type 1} → statement M
 put_suffix_spec =

@@ -14,10 +14,8 @@ returns c =
 
 returns-2 : tie.Need-returns
 returns-2 c =
-    let after-put-digits = c.before.before in
-    let counted = after-put-digits.before.before.before in
-    let out = counted.args.out.now in
-    answer-fits (length out) (decimal _) out counted.decimal_len-len.ensures.0 (omega arith) (omega arith) after-put-digits.put_digits.ensures
+    let out = c.args.out.now in
+    answer-fits (length out) (decimal _) out c.decimal_len-len.ensures.0 (omega arith) (omega arith) c.put_digits.ensures
 
 pub render_index_spec : {M : Type 1} → statement M
 render_index_spec =

@@ -20,10 +20,9 @@ returns-2 : tie.Need-returns-then-number-eq0
 unfolding suffix
 returns-2 c = rw (is_zero _ c.ranges.number c.if-number-eq0.true)
 
-positive : (c : tie.After-magnitude-2) → let start = c.before.before.before in (0 < c.magnitude-2.result) × (start.args.number ≡ pos c.magnitude-2.result)
+positive : (c : tie.After-magnitude-2) → (0 < c.magnitude-2.result) × (c.args.number ≡ pos c.magnitude-2.result)
 positive c =
-    let start = c.before.before.before in
-    above_zero start.args.number start.ranges.number c.magnitude-2.ensures c.if-number-lt0.false c.if-number-eq0.false
+    above_zero c.args.number c.ranges.number c.magnitude-2.ensures c.if-number-lt0.false c.if-number-eq0.false
 
 returns-3 : tie.Need-returns
 unfolding suffix

@@ -15,16 +15,14 @@ returns-2 c = record { stems = capital-past _ _ c.if-name-n.true; within = omega
 
 returns-3 : tie.Need-returns-then-is_capital
 returns-3 c =
-    let back = c.before.before.before.before in
-    let a = back.args in
+    let a = c.args in
     let name = a.name.now in
     let capital = sym c.is_capital.ensures ∙ c.if-is_capital.true in
     record { stems = capital-at name (a.n - 1) (omega arith) (omega arith) ∙ rw capital; within = omega arith; rule = rule-capital name _ capital }
 
 returns-4 : tie.Need-returns
 returns-4 c =
-    let back = c.before.before.before.before in
-    let a = back.args in
+    let a = c.args in
     let other = sym c.is_capital.ensures ∙ c.if-is_capital.false in
     record { stems = capital-at _ (a.n - 1) (omega arith) (omega arith) ∙ rw other; within = omega arith; rule = tt }
 

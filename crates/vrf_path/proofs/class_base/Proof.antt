@@ -12,14 +12,12 @@ use Rattle.vrf_path.proofs.class_base.Tie as tie
 returns : tie.Need-returns-in-116
 unfolding component
 returns c =
-    let at-match = c.before.before in
-    (c.cut_at.ensures.0 ∙ class-by-t _ (sym at-match.last_byte.ensures ∙ at-match.in-116.is), c.cut_at.ensures.1)
+    (c.cut_at.ensures.0 ∙ class-by-t _ (sym c.last_byte.ensures ∙ c.in-116.is), c.cut_at.ensures.1)
 
 returns-2 : tie.Need-returns-in-67
 unfolding underscore_c
 returns-2 c =
-    let at-match = c.before.before in
-    (c.cut_at-in-67.ensures.0 ∙ class-by-C _ (sym at-match.last_byte.ensures ∙ at-match.in-67.is), c.cut_at-in-67.ensures.1)
+    (c.cut_at-in-67.ensures.0 ∙ class-by-C _ (sym c.last_byte.ensures ∙ c.in-67.is), c.cut_at-in-67.ensures.1)
 
 returns-3 : tie.Need-returns-in_default
 returns-3 c =

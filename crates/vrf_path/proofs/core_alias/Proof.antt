@@ -10,8 +10,7 @@ use Rattle.vrf_path.proofs.core_alias.Tie as tie
 returns : tie.Need-returns-then-starts_with
 unfolding core_segment characters_root
 returns c =
-    let at-enum-told = c.before.before.before in
-    core-inserted _ (sym at-enum-told.find.ensures ∙ ap place at-enum-told.in-Nowhere.is) (sym c.starts_with.ensures ∙ c.if-starts_with.true)
+    core-inserted _ (sym c.find.ensures ∙ ap place c.in-Nowhere.is) (sym c.starts_with.ensures ∙ c.if-starts_with.true)
 
 returns-2 : tie.Need-returns-in-At
 unfolding core_segment
@@ -20,8 +19,7 @@ returns-2 c = core-cut _ (sym c.find.ensures ∙ ap place c.in-At.is)
 returns-3 : tie.Need-returns-else-starts_with
 unfolding core_segment characters_root
 returns-3 c =
-    let at-enum-told = c.before.before.before in
-    core-none _ (sym at-enum-told.find.ensures ∙ ap place at-enum-told.in-Nowhere.is) (sym c.starts_with.ensures ∙ c.if-starts_with.false)
+    core-none _ (sym c.find.ensures ∙ ap place c.in-Nowhere.is) (sym c.starts_with.ensures ∙ c.if-starts_with.false)
 
 pub core_alias_spec : {M : Type 1} → statement M
 core_alias_spec =

@@ -18,8 +18,7 @@ returns-4 c = cut-slash _ _ _ c.if-n-at.false c.if-i-at-2.true
 
 returns-5 : tie.Need-returns
 returns-5 c =
-    let at-if3 = c.before.before in
-    cut-following _ _ _ at-if3.if-n-at.false at-if3.if-i-at.false c.if-i-at-2.false c.byte_after.ensures
+    cut-following _ _ _ c.if-n-at.false c.if-i-at.false c.if-i-at-2.false c.byte_after.ensures
 
 pub cut_byte_spec : {M : Type 1} → statement M
 cut_byte_spec =

@@ -8,16 +8,14 @@ use Rattle.vrf_path.proofs.cut_stem.Tie as tie
 
 returns : tie.Need-returns-then-i-gt0
 returns c =
-    let after-rfind = c.before.before in
-    cut _ _ (sym after-rfind.rfind.ensures ∙ ap place c.in-At.is) after-rfind.requires c.if-i-gt0.true
+    cut _ _ (sym c.rfind.ensures ∙ ap place c.in-At.is) c.requires c.if-i-gt0.true
 
 returns-2 : tie.Need-returns-in-Nowhere
 returns-2 c = renamed (cut-none _ _ (sym c.rfind.ensures ∙ ap place c.in-Nowhere.is)) c.digit_stem.ensures
 
 returns-3 : tie.Need-returns-else-i-gt0
 returns-3 c =
-    let at_i = c.before.before in
-    renamed (cut-first _ _ (sym at_i.rfind.ensures ∙ ap place at_i.in-At.is) c.if-i-gt0.false) c.digit_stem-in-At.ensures
+    renamed (cut-first _ _ (sym c.rfind.ensures ∙ ap place c.in-At.is) c.if-i-gt0.false) c.digit_stem-in-At.ensures
 
 pub cut_stem_spec : {M : Type 1} → statement M
 cut_stem_spec =

@@ -13,14 +13,12 @@ returns c = default-stripped _ (sym c.starts_with.ensures ∙ c.if-starts_with.t
 returns-2 : tie.Need-returns-then-has_path_separator
 unfolding default_prefix
 returns-2 c =
-    let at-if1 = c.before.before in
-    default_none _ (sym at-if1.starts_with.ensures ∙ at-if1.if-starts_with.false) (sym c.has_path_separator.ensures ∙ c.if-has_path_separator.true)
+    default_none _ (sym c.starts_with.ensures ∙ c.if-starts_with.false) (sym c.has_path_separator.ensures ∙ c.if-has_path_separator.true)
 
 returns-3 : tie.Need-returns
 unfolding default_prefix
 returns-3 c =
-    let at-if1 = c.before.before in
-    default-prefixed _ (sym at-if1.starts_with.ensures ∙ at-if1.if-starts_with.false) (sym c.has_path_separator.ensures ∙ c.if-has_path_separator.false)
+    default-prefixed _ (sym c.starts_with.ensures ∙ c.if-starts_with.false) (sym c.has_path_separator.ensures ∙ c.if-has_path_separator.false)
 
 pub default_object_alias_spec : {M : Type 1} → statement M
 default_object_alias_spec =

@@ -14,9 +14,8 @@ returns c =
 
 returns-2 : tie.Need-returns-then-n-name
 returns-2 c =
-    let counted = c.before.before in
-    let name = counted.args.name.now in
-    let n = counted.digits_from-n.ensures.0 in
+    let name = c.args.name.now in
+    let n = c.digits_from-n.ensures.0 in
     record {
       stems = ap (digit_stems name) (sym n) ∙ digit-some name _ (omega arith) c.if-n-name.true;
       within = omega arith;

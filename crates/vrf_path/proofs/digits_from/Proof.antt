@@ -18,12 +18,12 @@ decreases-loop name i₀ i = i
 returns : tie.Need-returns-then-not-is_digit invariant-loop decreases-loop
 returns c =
     let l = c.loop-i in
-    (sym (l.invariant.1 ∙ digits-end _ (l.i - 1) (omega arith) (sym c.is_digit.ensures ∙ not-true c.is_digit.result c.if-not-is_digit.true)), omega arith)
+    (sym (l.invariant.1 ∙ digits-end _ (l.i - 1) (omega arith) (sym c.is_digit.ensures ∙ c.if-not-is_digit.true)), omega arith)
 
 loop-again : tie.Need-loop-i-preserved invariant-loop decreases-loop
 loop-again c =
     let l = c.loop-i in
-    (omega arith, l.invariant.1 ∙ digits-earlier _ (l.i - 1) (omega arith) (sym c.is_digit.ensures ∙ not-false c.is_digit.result c.if-not-is_digit.false))
+    (omega arith, l.invariant.1 ∙ digits-earlier _ (l.i - 1) (omega arith) (sym c.is_digit.ensures ∙ c.if-not-is_digit.false))
 
 returns-2 : tie.Need-returns invariant-loop decreases-loop
 returns-2 c = (sym (c.loop-i.invariant.1 ∙ digits-all _ c.loop-i.i c.loop-i-test.false), omega arith)

@@ -16,13 +16,11 @@ decreases-loop text i₀ i = length text - i
 
 returns : tie.Need-returns-then-is_separator invariant-loop decreases-loop
 returns c =
-    let at-loop = c.before.before.before.before in
-    sym (at-loop.loop-i.invariant.1 ∙ rw (sym c.is_separator.ensures ∙ c.if-is_separator.true) at (separator-next at-loop.args.text.now at-loop.loop-i.i (omega arith)))
+    sym (c.loop-i.invariant.1 ∙ rw (sym c.is_separator.ensures ∙ c.if-is_separator.true) at (separator-next c.args.text.now c.loop-i.i (omega arith)))
 
 loop-again : tie.Need-loop-i-preserved invariant-loop decreases-loop
 loop-again c =
-    let at-loop = c.before.before.before.before in
-    (omega arith, at-loop.loop-i.invariant.1 ∙ rw (sym c.is_separator.ensures ∙ c.if-is_separator.false) at (separator-next at-loop.args.text.now at-loop.loop-i.i (omega arith)))
+    (omega arith, c.loop-i.invariant.1 ∙ rw (sym c.is_separator.ensures ∙ c.if-is_separator.false) at (separator-next c.args.text.now c.loop-i.i (omega arith)))
 
 returns-2 : tie.Need-returns invariant-loop decreases-loop
 returns-2 c = sym (c.loop-i.invariant.1 ∙ separator-nowhere _ c.loop-i.i c.loop-i-test.false)

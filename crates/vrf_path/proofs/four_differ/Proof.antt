@@ -8,12 +8,10 @@ use Rattle.vrf_path.proofs.four_differ.Tie as tie
 
 returns : tie.Need-returns
 returns c =
-    let after-eight-differ2 = c.before.before in
-    let at-shared-slice-known = after-eight-differ2.before.before.before in
-    let a = at-shared-slice-known.args.a.now in
-    let b = at-shared-slice-known.args.b.now in
-    differ-four a b after-eight-differ2.eight_differ.result after-eight-differ2.eight_differ-2.result c.eight_differ-3.result c.eight_differ-4.result after-eight-differ2.eight_differ.ensures after-eight-differ2.eight_differ-2.ensures c.eight_differ-3.ensures c.eight_differ-4.ensures
-    (agree-words a b (λ i. (at-shared-slice-known.shared_slice_known-1.given i).fits) (λ i. (after-eight-differ2.shared_slice_known-2-1.given i).fits) _ (omega arith) (omega arith))
+    let a = c.args.a.now in
+    let b = c.args.b.now in
+    differ-four a b c.eight_differ.result c.eight_differ-2.result c.eight_differ-3.result c.eight_differ-4.result c.eight_differ.ensures c.eight_differ-2.ensures c.eight_differ-3.ensures c.eight_differ-4.ensures
+    (agree-words a b (λ i. (c.shared_slice_known-1.given i).fits) (λ i. (c.shared_slice_known-2-1.given i).fits) _ (omega arith) (omega arith))
 
 pub four_differ_spec : {M : Type 1} → statement M
 four_differ_spec =

@@ -7,10 +7,8 @@ use Rattle.vrf_path.proofs.four_separators.Tie as tie
 
 returns : tie.Need-returns
 returns c =
-    let after-is-separator3 = c.before.before in
-    let after-is-separator = after-is-separator3.before.before.before.before in
-    let a = after-is-separator.args in
-    four-next _ a.i (omega arith) after-is-separator.is_separator.ensures after-is-separator3.is_separator-2.ensures after-is-separator3.is_separator-3.ensures c.is_separator-4.ensures
+    let a = c.args in
+    four-next _ a.i (omega arith) c.is_separator.ensures c.is_separator-2.ensures c.is_separator-3.ensures c.is_separator-4.ensures
 
 pub four_separators_spec : {M : Type 1} → statement M
 four_separators_spec =

@@ -16,25 +16,21 @@ returns c = is-path _ _ c.same.ensures c.if-same.true
 
 returns-2 : tie.Need-returns-then-is_key
 returns-2 c =
-    let after-default-object-alias = c.before.before in
-    is-default _ _ after-default-object-alias.same.ensures after-default-object-alias.if-same.false after-default-object-alias.default_object_alias.ensures.text c.is_key.ensures c.if-is_key.true
+    is-default _ _ c.same.ensures c.if-same.false c.default_object_alias.ensures.text c.is_key.ensures c.if-is_key.true
 
 -- the text is neither the path nor its default alias, so the core alias decides
 core : {k : Option (List ℕ)} {q : Bool} (c : tie.Else-is_key) →
-    let after_same = c.before.before.before.before in
-    let a = after_same.args in
+    let a = c.args in
     k ≡ core_alias a.path.now → q ≡ key_is k a.text.now → q ≡ has_key a.path.now a.text.now
 core c ek eq =
-    let at-if1 = c.before.before.before in
-    is-core _ _ at-if1.same.ensures at-if1.if1.false c.default_object_alias.ensures.text c.is_key.ensures c.if-is_key.false ek eq
+    is-core _ _ c.same.ensures c.if-same.false c.default_object_alias.ensures.text c.is_key.ensures c.if-is_key.false ek eq
 
 returns-3 : tie.Need-returns-then-text-path
 returns-3 c = core c.before.before.before c.core_alias.ensures.text c.is_key-then-text-path.ensures
 
 returns-4 : tie.Need-returns-then-path-text
 returns-4 c =
-    let after-core-alias2 = c.before in
-    core after-core-alias2.before.before.before after-core-alias2.core_alias-then-path-text.ensures.text c.is_key-then-path-text.ensures
+    core c.before.before.before.before c.core_alias-then-path-text.ensures.text c.is_key-then-path-text.ensures
 
 returns-5 : tie.Need-returns
 returns-5 c = core c.before.before refl (sym (core-other _ _ c.if-text-path.false c.if-path-text.false))

@@ -18,9 +18,8 @@ returns c =
 returns-2 : tie.Need-returns
 unfolding key_is
 returns-2 c =
-    let at-if1 = c.before in
-    let a = at-if1.args in
-    c.same_key.ensures ∙ sym (ap (λ (o : Option (List ℕ)). key_is o a.text.now) (spelled-bytes a.path.now a.key (sym at-if1.is_absent.ensures ∙ at-if1.if-is_absent.false)))
+    let a = c.args in
+    c.same_key.ensures ∙ sym (ap (λ (o : Option (List ℕ)). key_is o a.text.now) (spelled-bytes a.path.now a.key (sym c.is_absent.ensures ∙ c.if-is_absent.false)))
 
 pub is_key_spec : {M : Type 1} → statement M
 is_key_spec = tie.close (tie.spec (λ c κs. search rules) returns (λ c κs. search rules) returns-2)

@@ -8,14 +8,12 @@ use Rattle.vrf_path.proofs.key_byte.Tie as tie
 returns : tie.Need-returns-then-i-lt9
 unfolding default_prefix
 returns c =
-    let at-if1 = c.before.before in
-    byte-prefix _ _ at-if1.in-Prefixed.is at-if1.if-i-lt9.true c.byte_at-then-i-lt9.ensures
+    byte-prefix _ _ c.in-Prefixed.is c.if-i-lt9.true c.byte_at-then-i-lt9.ensures
 
 returns-2 : tie.Need-returns-then-i-lt23
 unfolding characters_core
 returns-2 c =
-    let at-if2 = c.before.before in
-    byte-root _ _ at-if2.in-Inserted.is at-if2.if-i-lt23.true c.byte_at-then-i-lt23.ensures
+    byte-root _ _ c.in-Inserted.is c.if-i-lt23.true c.byte_at-then-i-lt23.ensures
 
 returns-3 : tie.Need-returns-in-Itself
 returns-3 c = byte-itself _ _ c.in-Itself.is c.byte_at.ensures

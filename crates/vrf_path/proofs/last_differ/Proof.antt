@@ -13,15 +13,13 @@ use Rattle.vrf_path.proofs.last_differ.Tie as tie
 
 returns : tie.Need-returns
 returns c =
-    let after-left2 = c.before.before.before in
-    let after-eight-differ = after-left2.before.before.before in
-    let a = after-eight-differ.args.a.now in
-    let b = after-eight-differ.args.b.now in
-    let before = agree-before a b (λ i. (after-eight-differ.shared_slice_known-1.given i).fits) (λ i. (after-eight-differ.shared_slice_known-2-1.given i).fits) in
+    let a = c.args.a.now in
+    let b = c.args.b.now in
+    let before = agree-before a b (λ i. (c.shared_slice_known-1.given i).fits) (λ i. (c.shared_slice_known-2-1.given i).fits) in
     let end : same (drop (length a) a) (drop (length a) b) ≡ true = same_ended a b (length a) (omega arith) (omega arith) in
-    differ-four a b after-eight-differ.eight_differ.result after-left2.eight_differ-2.result c.eight_differ-3.result c.eight_differ-4.result
-    after-eight-differ.eight_differ.ensures (rw after-left2.left.ensures at after-left2.eight_differ-2.ensures)
-    (rw after-left2.left-2.ensures at c.eight_differ-3.ensures) (rw c.left-3.ensures at c.eight_differ-4.ensures)
+    differ-four a b c.eight_differ.result c.eight_differ-2.result c.eight_differ-3.result c.eight_differ-4.result
+    c.eight_differ.ensures (rw c.left.ensures at c.eight_differ-2.ensures)
+    (rw c.left-2.ensures at c.eight_differ-3.ensures) (rw c.left-3.ensures at c.eight_differ-4.ensures)
     (λ e8 e16 e24 e32.
     before (length a - 24) (length a - 32) (omega arith) (omega arith) (omega arith) e32
     (before (length a - 16) (length a - 24) (omega arith) (omega arith) (omega arith) e24

@@ -12,22 +12,19 @@ use Rattle.vrf_path.proofs.leaf_at.Tie as tie
 
 add-if1 : tie.Need-overflow_add-i
 add-if1 c =
-    let after-rfind = c.before in
-    let a = after-rfind.args in
-    omega (arith, last_within (code ".") a.path.now (length a.path.now) (sym after-rfind.rfind.ensures ∙ ap place c.in-At.is))
+    let a = c.args in
+    omega (arith, last_within (code ".") a.path.now (length a.path.now) (sym c.rfind.ensures ∙ ap place c.in-At.is))
 
 returns : tie.Need-returns-then-i-n
 returns c =
-    let at_i = c.before in
-    (leaf-following _ (sym at_i.rfind.ensures ∙ ap place at_i.in-At.is) c.if-i-n.true, c.if-i-n.true)
+    (leaf-following _ (sym c.rfind.ensures ∙ ap place c.in-At.is) c.if-i-n.true, c.if-i-n.true)
 
 returns-2 : tie.Need-returns-in-Nowhere
 returns-2 c = leaf-no-dot _ (sym c.rfind.ensures ∙ ap place c.in-Nowhere.is)
 
 returns-3 : tie.Need-returns-else-i-n
 returns-3 c =
-    let at_i = c.before in
-    leaf-empty _ (sym at_i.rfind.ensures ∙ ap place at_i.in-At.is) c.if-i-n.false
+    leaf-empty _ (sym c.rfind.ensures ∙ ap place c.in-At.is) c.if-i-n.false
 
 pub leaf_at_spec : {M : Type 1} → statement M
 leaf_at_spec =

@@ -17,11 +17,8 @@ slice-aggregate-class-base c = rw length-take (omega (arith, c.cut_at-n.ensures.
 returns : tie.Need-returns-then-last_byte-eq101
 unfolding class_net_cache
 returns c =
-    let after-cut-at = c.before.before in
-    let back = after-cut-at.before.before.before.before in
-    let start = back.before in
-    let l = start.args.l.now in
-    let n = after-cut-at.cut_at-n in
+    let l = c.args.l.now in
+    let n = c.cut_at-n in
     let r = c.class_base.result in
     let few : r ≤ n.result = omega (arith, c.class_base.ensures.1, length-take n.result l) in
     (sym (take-take r n.result l few) ∙ c.class_base.ensures.0 ∙ ap class_base n.ensures.0 ∙ leaf-by-e l, omega (arith, few, n.ensures.1))

@@ -16,14 +16,12 @@ decreases-loop text n i₀ i = n - i
 
 returns : tie.Need-returns-then-eight_separators invariant-loop decreases-loop
 returns c =
-    let after-eight-separators = c.before.before in
-    sym (after-eight-separators.loop-i.invariant.2 ∙ rw c.if-eight_separators.true at (or-joined after-eight-separators.eight_separators.result c.eight_separators-in-loop-i.result _ after-eight-separators.eight_separators.ensures c.eight_separators-in-loop-i.ensures))
+    sym (c.loop-i.invariant.2 ∙ rw c.if-eight_separators.true at (or-joined c.eight_separators.result c.eight_separators-in-loop-i.result _ c.eight_separators.ensures c.eight_separators-in-loop-i.ensures))
 
 loop-again : tie.Need-loop-i-preserved invariant-loop decreases-loop
 loop-again c =
-    let after-eight-separators = c.before.before in
-    let turn : after-eight-separators.loop-i.i + 8 + 8 ≡ after-eight-separators.loop-i.i + 16 = omega arith in
-    (omega arith, omega arith, after-eight-separators.loop-i.invariant.2 ∙ rw (c.if-eight_separators.false, turn) at (or-joined after-eight-separators.eight_separators.result c.eight_separators-in-loop-i.result _ after-eight-separators.eight_separators.ensures c.eight_separators-in-loop-i.ensures))
+    let turn : c.loop-i.i + 8 + 8 ≡ c.loop-i.i + 16 = omega arith in
+    (omega arith, omega arith, c.loop-i.invariant.2 ∙ rw (c.if-eight_separators.false, turn) at (or-joined c.eight_separators.result c.eight_separators-in-loop-i.result _ c.eight_separators.ensures c.eight_separators-in-loop-i.ensures))
 
 returns-2 : tie.Need-returns invariant-loop decreases-loop
 returns-2 c =

@@ -25,22 +25,17 @@ loop-holds c = (omega arith, sym c.key_len.ensures ∙ c.if-key_len-text.false, 
 
 returns-2 : tie.Need-returns-then-key_byte-text invariant-loop decreases-loop
 returns-2 c =
-    let at-loop = c.before.before.before.before in
-    let back = at-loop.before.before.before.before in
-    let a = back.args in
-    sym (at-loop.loop-i.invariant.2 ∙ same-differ (key_bytes _ a.key) _ at-loop.loop-i.i (omega arith) (omega arith) (λ e. c.if-key_byte-text.true (c.key_byte.ensures ∙ e)))
+    let a = c.args in
+    sym (c.loop-i.invariant.2 ∙ same-differ (key_bytes _ a.key) _ c.loop-i.i (omega arith) (omega arith) (λ e. c.if-key_byte-text.true (c.key_byte.ensures ∙ e)))
 
 loop-again : tie.Need-loop-i-preserved invariant-loop decreases-loop
 loop-again c =
-    let at-loop = c.before.before.before.before in
-    let back = at-loop.before.before.before.before in
-    let a = back.args in
-    (omega arith, at-loop.loop-i.invariant.1, at-loop.loop-i.invariant.2 ∙ same-agree (key_bytes _ a.key) _ at-loop.loop-i.i (omega arith) (omega arith) (sym c.key_byte.ensures ∙ c.if-key_byte-text.false))
+    let a = c.args in
+    (omega arith, c.loop-i.invariant.1, c.loop-i.invariant.2 ∙ same-agree (key_bytes _ a.key) _ c.loop-i.i (omega arith) (omega arith) (sym c.key_byte.ensures ∙ c.if-key_byte-text.false))
 
 returns-3 : tie.Need-returns invariant-loop decreases-loop
 returns-3 c =
-    let back = c.before.before.before.before in
-    let a = back.args in
+    let a = c.args in
     sym (c.loop-i.invariant.2 ∙ same_ended (key_bytes _ a.key) _ c.loop-i.i (omega arith) (omega arith))
 
 pub same_key_spec : {M : Type 1} → statement M

@@ -19,9 +19,8 @@ loop-again c = (omega arith, omega arith, omega arith, c.loop-i.invariant.3 ∙ 
 
 returns-3 : tie.Need-returns invariant-loop decreases-loop
 returns-3 c =
-    let at-loop = c.before.before.before in
-    let a = at-loop.args in
-    sym (end-decides a.a.now a.b.now (length a.a.now - 32) at-loop.loop-i.i (omega arith) at-loop.loop-i.invariant.3 (rw c.if-last_differ.false at c.last_differ.ensures))
+    let a = c.args in
+    sym (end-decides a.a.now a.b.now (length a.a.now - 32) c.loop-i.i (omega arith) c.loop-i.invariant.3 (rw c.if-last_differ.false at c.last_differ.ensures))
 
 pub same_words_spec : {M : Type 1} → statement M
 same_words_spec =

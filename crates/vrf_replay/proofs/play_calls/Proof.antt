@@ -16,11 +16,7 @@ decreases-loop script memory₀ scratch₀ out₀ turn₀ call₀ call-end memor
 
 add-call : tie.Need-overflow_step-call invariant-loop decreases-loop
 add-call c =
-    let after-scratch = c.before.before.before in
-    let after-play-call = after-scratch.before.before.before in
-    let at-else2 = after-play-call.before.before.before.before in
-    let in-loop = at-else2.before.before.before.before in
-    record { fits = omega (arith, in-loop.loop-call-test.true, in-loop.loop-call.invariant.1) }
+    record { fits = omega (arith, c.loop-call-test.true, c.loop-call.invariant.1) }
 
 pub play_calls_spec : {M : Type 1} → statement M
 play_calls_spec =

@@ -9,8 +9,7 @@ use Rattle.vrf_table.proofs.claim_from.Tie as tie
 
 abbrev start : tie.After-find_leaf → tie.Start
 start c =
-    let back = c.before.before.before.before in
-    back.before.before
+    c.before.before.before.before.before.before
 
 -- whether a group has the leaf, and the links
 abbrev hit : tie.After-find_leaf → ℕ → Bool
@@ -19,7 +18,7 @@ hit c = let x = (start c).args in leaf_hit x.rows.now x.x.now (x.name.now ++ x.s
 abbrev next : tie.After-find_leaf → ℕ → ℕ
 next c = word (start c).args.links.now
 
-below : (c : tie.In-At-2) → let found = c.before in c.in-At.e < (start found).args.n
+below : (c : tie.In-At) → let found = c.before in c.in-At.e < (start found).args.n
 below c = let found = c.before in found_below (hit found) (next found) (start found).args.n refl found.find_leaf.ensures c.in-At.is
 
 find-leaf-requires-2 : tie.Need-find_leaf-requires-in-At
@@ -31,23 +30,18 @@ find-leaf-requires-2 c κs =
 
 add-result : tie.Need-overflow_add-result
 add-result c =
-    let second = c.before in
-    let first = second.before.before in
+    let first = c.before.before.before in
     omega (arith, below first, (start first.before).requires.3)
 
 returns-2 : tie.Need-returns-in-Nowhere-find_leaf
 returns-2 c =
-    let second = c.before in
-    let first = second.before.before in
-    let found = first.before in
-    claim-entry _ ∙ claim-one (hit found) (next found) (start found).args.n refl found.find_leaf.ensures first.in-At.is second.get32.ensures second.find_leaf-in-At.ensures c.in-Nowhere-find_leaf.is
+    let found = c.before.before.before.before in
+    claim-entry _ ∙ claim-one (hit found) (next found) (start found).args.n refl found.find_leaf.ensures c.in-At.is c.get32.ensures c.find_leaf-in-At.ensures c.in-Nowhere-find_leaf.is
 
 returns-3 : tie.Need-returns-in-At-find_leaf
 returns-3 c =
-    let second = c.before in
-    let first = second.before.before in
-    let found = first.before in
-    claim-several (hit found) (next found) (start found).args.n refl found.find_leaf.ensures first.in-At.is second.get32.ensures second.find_leaf-in-At.ensures c.in-At-find_leaf.is
+    let found = c.before.before.before.before in
+    claim-several (hit found) (next found) (start found).args.n refl found.find_leaf.ensures c.in-At.is c.get32.ensures c.find_leaf-in-At.ensures c.in-At-find_leaf.is
 
 pub claim_from_spec : {M : Type 1} → statement M
 claim_from_spec =

@@ -6,18 +6,11 @@ use Rattle.vrf_table.proofs.ends_with_name.Tie as tie
 
 returns : tie.Need-returns-then-same
 returns c =
-    let at-if1 = c.before.before in
-    let after_same = at-if1.before in
-    let back = after_same.before.before.before.before in
-    let s = back.before in
-    end-by-name s.args.path.now s.args.name.now s.args.suffix.now s.args.from s.requires after_same.same.ensures at-if1.if-same.true c.same-then-same.ensures
+    end-by-name c.args.path.now c.args.name.now c.args.suffix.now c.args.from c.requires c.same.ensures c.if-same.true c.same-then-same.ensures
 
 returns-2 : tie.Need-returns
 returns-2 c =
-    let after_same = c.before in
-    let back = after_same.before.before.before.before in
-    let s = back.before in
-    end-not s.args.path.now s.args.name.now s.args.suffix.now s.args.from s.requires after_same.same.ensures c.if-same.false
+    end-not c.args.path.now c.args.name.now c.args.suffix.now c.args.from c.requires c.same.ensures c.if-same.false
 
 pub ends_with_name_spec : {M : Type 1} → statement M
 ends_with_name_spec =

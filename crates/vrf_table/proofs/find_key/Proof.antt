@@ -16,8 +16,7 @@ decreases-loop rows heads b n k p₀ limit₀ p limit = limit
 
 abbrev start : tie.At-loop-p invariant-loop decreases-loop → tie.Start invariant-loop decreases-loop
 start c =
-    let back = c.before.before.before.before in
-    back.before
+    c.before.before.before.before.before
 
 -- the key of the row that the pointer points to
 abbrev its : tie.At-loop-p invariant-loop decreases-loop → ℕ
@@ -37,18 +36,14 @@ loop-holds c =
 returns-2 : tie.Need-returns-then-get64-k invariant-loop decreases-loop
 unfolding key_hit key
 returns-2 c =
-    let row = c.before in
-    let turn = row.before.before in
-    walk-found _ _ _ _ turn.loop-p.invariant.1 turn.loop-p-test.true row.if-limit-e.false refl (eq-eqb (its turn.before) _ (sym row.get64.ensures ∙ c.if-get64-k.true))
+    walk-found _ _ _ _ c.loop-p.invariant.1 c.loop-p-test.true c.if-limit-e.false refl (eq-eqb (its c.before.before.before.before) _ (sym c.get64.ensures ∙ c.if-get64-k.true))
 
 loop-again : tie.Need-loop-p-preserved invariant-loop decreases-loop
 unfolding key_hit key link
 loop-again c =
-    let missed = c.before.before in
-    let turn = missed.before.before in
-    let x = (start turn.before).args in
-    let other = ne_eqb (its turn.before) x.k (λ e. c.if-get64-k.false (missed.get64.ensures ∙ e)) in
-    (omega arith, walk-on (key_hit x.rows.now x.k) (link x.rows.now) _ _ turn.loop-p.invariant.1 turn.loop-p-test.true missed.if-limit-e.false refl other c.get32-p-in-loop-p.ensures)
+    let x = (start c.before.before.before.before.before).args in
+    let other = ne_eqb (its c.before.before.before.before.before) x.k (λ e. c.if-get64-k.false (c.get64.ensures ∙ e)) in
+    (omega arith, walk-on (key_hit x.rows.now x.k) (link x.rows.now) _ _ c.loop-p.invariant.1 c.loop-p-test.true c.if-limit-e.false refl other c.get32-p-in-loop-p.ensures)
 
 pub find_key_spec : {M : Type 1} → statement M
 find_key_spec =

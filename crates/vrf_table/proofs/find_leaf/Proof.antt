@@ -18,21 +18,16 @@ loop-holds c = (omega arith, refl)
 
 leaf-hit-requires : tie.Need-leaf_hit-requires invariant-loop decreases-loop
 leaf-hit-requires c κs =
-    let at-loop = c.before.before in
-    let back = at-loop.before.before.before.before in
-    let needed = back.requires in
-    (needed.0, omega arith, needed.3 (at-loop.loop-p.p - 1) (omega arith))
+    let needed = c.requires in
+    (needed.0, omega arith, needed.3 (c.loop-p.p - 1) (omega arith))
 
 returns-2 : tie.Need-returns-then-leaf_hit invariant-loop decreases-loop
 returns-2 c =
-    let turn = c.before.before.before in
-    walk-found _ _ _ _ turn.loop-p.invariant.1 turn.loop-p-test.true c.if-limit-e.false c.leaf_hit.ensures c.if-leaf_hit.true
+    walk-found _ _ _ _ c.loop-p.invariant.1 c.loop-p-test.true c.if-limit-e.false c.leaf_hit.ensures c.if-leaf_hit.true
 
 loop-again : tie.Need-loop-p-preserved invariant-loop decreases-loop
 loop-again c =
-    let missed = c.before.before in
-    let turn = missed.before.before in
-    (omega arith, walk-on _ _ _ _ turn.loop-p.invariant.1 turn.loop-p-test.true missed.if-limit-e.false missed.leaf_hit.ensures c.if-leaf_hit.false c.get32-p.ensures)
+    (omega arith, walk-on _ _ _ _ c.loop-p.invariant.1 c.loop-p-test.true c.if-limit-e.false c.leaf_hit.ensures c.if-leaf_hit.false c.get32-p.ensures)
 
 pub find_leaf_spec : {M : Type 1} → statement M
 find_leaf_spec =

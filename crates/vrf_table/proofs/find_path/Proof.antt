@@ -16,8 +16,7 @@ decreases-loop rows x links heads b n k p₀ limit₀ p limit = limit
 
 abbrev start : tie.After-text_bucket invariant-loop decreases-loop → tie.Start invariant-loop decreases-loop
 start c =
-    let back = c.before.before.before.before in
-    back.before.before
+    c.before.before.before.before.before.before
 
 get32-requires : tie.Need-get32-p-requires invariant-loop decreases-loop
 get32-requires c κs = let x = (start c).args in omega (arith, c.text_bucket.ensures, text_bucket-lt x.b x.k.now (start c).requires.3)
@@ -30,19 +29,15 @@ loop-holds c =
 
 path-hit-requires : tie.Need-path_hit-requires invariant-loop decreases-loop
 path-hit-requires c κs =
-    let at-loop = c.before.before in
-    (omega arith, (start at-loop.before.before).requires.5 ((at-loop.loop-p.p - 1) / 3) (omega arith))
+    (omega arith, (start c.before.before.before.before).requires.5 ((c.loop-p.p - 1) / 3) (omega arith))
 
 returns-2 : tie.Need-returns-then-path_hit invariant-loop decreases-loop
 returns-2 c =
-    let turn = c.before.before.before in
-    walk-found _ _ _ _ turn.loop-p.invariant.1 turn.loop-p-test.true c.if-limit-e.false c.path_hit.ensures c.if-path_hit.true
+    walk-found _ _ _ _ c.loop-p.invariant.1 c.loop-p-test.true c.if-limit-e.false c.path_hit.ensures c.if-path_hit.true
 
 loop-again : tie.Need-loop-p-preserved invariant-loop decreases-loop
 loop-again c =
-    let missed = c.before.before in
-    let turn = missed.before.before in
-    (omega arith, walk-on _ _ _ _ turn.loop-p.invariant.1 turn.loop-p-test.true missed.if-limit-e.false missed.path_hit.ensures c.if-path_hit.false c.get32-p-in-loop-p.ensures)
+    (omega arith, walk-on _ _ _ _ c.loop-p.invariant.1 c.loop-p-test.true c.if-limit-e.false c.path_hit.ensures c.if-path_hit.false c.get32-p-in-loop-p.ensures)
 
 pub find_path_spec : {M : Type 1} → statement M
 find_path_spec =

@@ -7,13 +7,11 @@ use Rattle.vrf_table.proofs.first_claim.Tie as tie
 
 abbrev start : tie.After-claim_from-first → tie.Start
 start c =
-    let back = c.before.before.before.before in
-    back.before.before.before.before
+    c.before.before.before.before.before.before.before.before
 
 claim-from-requires : tie.Need-claim_from-first-requires
 claim-from-requires c κs =
-    let back = c.before.before.before.before in
-    let p = back.requires in
+    let p = c.requires in
     (p.0, p.3, p.4, p.5, p.6)
 
 returns : tie.Need-returns-then-first-ne-ABSENT
@@ -24,15 +22,13 @@ returns-2 : tie.Need-returns-then-second-ne-ABSENT
 unfolding first_at
 returns-2 c =
     let second = c.claim_from-second in
-    let passed = c.before.before in
-    later_first second.result _ second.ensures c.if-second-ne-ABSENT.true ∙ sym (later-next passed.claim_from-first.result _ passed.claim_from-first.ensures passed.if-first-ne-ABSENT.false)
+    later_first second.result _ second.ensures c.if-second-ne-ABSENT.true ∙ sym (later-next c.claim_from-first.result _ c.claim_from-first.ensures c.if-first-ne-ABSENT.false)
 
 returns-3 : tie.Need-returns
 unfolding first_at
 returns-3 c =
     let second = c.claim_from-second in
-    let passed = c.before.before.before in
-    c.claim_from.ensures ∙ sym (later-next second.result _ second.ensures c.if-second-ne-ABSENT.false) ∙ sym (later-next passed.claim_from-first.result _ passed.claim_from-first.ensures passed.if-first-ne-ABSENT.false)
+    c.claim_from.ensures ∙ sym (later-next second.result _ second.ensures c.if-second-ne-ABSENT.false) ∙ sym (later-next c.claim_from-first.result _ c.claim_from-first.ensures c.if-first-ne-ABSENT.false)
 
 pub first_claim_spec : {M : Type 1} → statement M
 first_claim_spec =

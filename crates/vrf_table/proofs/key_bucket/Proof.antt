@@ -14,8 +14,7 @@ returns c =
 
 add-result : tie.Need-overflow_add-result
 add-result c =
-    let after-key-hash2 = c.before in
-    omega (arith, c.bucket_of-2.ensures, bucket-lt (after-key-hash2.args.b - 63) after-key-hash2.key_hash-2.result (omega arith) after-key-hash2.key_hash-2.ensures.1)
+    omega (arith, c.bucket_of-2.ensures, bucket-lt (c.args.b - 63) c.key_hash-2.result (omega arith) c.key_hash-2.ensures.1)
 
 returns-2 : tie.Need-returns
 unfolding key_bucket

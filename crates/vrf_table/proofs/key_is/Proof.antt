@@ -16,7 +16,7 @@ unfolding key_numbered
 returns-2 c = rw (c.if-number-eq1.true, ← c.default_object_alias.ensures.text) c.is_key.ensures
 
 -- any other number is that of the core alias
-core : (c : tie.Else-number-eq1) → let start = c.before.before.before.before in key_numbered start.args.path.now start.args.number ≡ core_alias start.args.path.now
+core : (c : tie.Else-number-eq1) → key_numbered c.args.path.now c.args.number ≡ core_alias c.args.path.now
 core c = numbered-core _ _ c.if-number-eq0.false c.if-number-eq1.false
 
 returns-3 : tie.Need-returns-then-k-path
@@ -24,8 +24,7 @@ returns-3 c = rw (core c.before.before.before, ← c.core_alias.ensures.text) c.
 
 returns-4 : tie.Need-returns-then-path-k
 returns-4 c =
-    let aliased = c.before in
-    rw (core aliased.before.before.before, ← aliased.core_alias-then-path-k.ensures.text) c.is_key-then-path-k.ensures
+    rw (core c.before.before.before.before, ← c.core_alias-then-path-k.ensures.text) c.is_key-then-path-k.ensures
 
 returns-5 : tie.Need-returns
 returns-5 c = rw (core c.before.before) (sym (core-other _ _ c.if-k-path.false c.if-path-k.false))

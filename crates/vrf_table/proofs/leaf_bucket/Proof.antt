@@ -11,8 +11,7 @@ slice-aggregate-text-bucket c = rw length-take (omega (arith, c.leaf_base-n.ensu
 returns : tie.Need-returns
 unfolding leaf_bucket
 returns c =
-    let after-leaf-base = c.before.before in
-    c.text_bucket.ensures ∙ ap (text_bucket after-leaf-base.args.b) after-leaf-base.leaf_base-n.ensures.0
+    c.text_bucket.ensures ∙ ap (text_bucket c.args.b) c.leaf_base-n.ensures.0
 
 pub leaf_bucket_spec : {M : Type 1} → statement M
 leaf_bucket_spec =

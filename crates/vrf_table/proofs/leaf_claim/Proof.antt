@@ -11,26 +11,19 @@ use Rattle.vrf_table.proofs.leaf_claim.Tie as tie
 get32-requires : tie.Need-get32-p-requires
 unfolding leaf_bucket
 get32-requires c κs =
-    let back = c.before.before.before.before in
-    let s = back.before.before in
-    omega (arith, c.leaf_bucket-bucket.ensures, text_bucket-lt s.args.b (leaf_base s.args.l.now) s.requires.4)
+    omega (arith, c.leaf_bucket-bucket.ensures, text_bucket-lt c.args.b (leaf_base c.args.l.now) c.requires.4)
 
 claim-from-requires : tie.Need-claim_from-requires
 claim-from-requires c κs =
-    let back = c.before.before.before.before in
-    let s = back.before.before.before.before in
-    ((rw (append-nil s.args.l.now) s.requires.0, omega arith), s.requires.1, s.requires.2, s.requires.5, s.requires.6)
+    ((rw (append-nil c.args.l.now) c.requires.0, omega arith), c.requires.1, c.requires.2, c.requires.5, c.requires.6)
 
 returns : tie.Need-returns
 unfolding claim_of leaf_bucket leaf_start text_start
 returns c =
-    let after-get32 = c.before.before in
-    let after-leaf-bucket = after-get32.before in
-    let back = after-leaf-bucket.before.before.before.before in
-    let x = back.args in
-    let start = after-get32.get32-p.ensures ∙ ap (word x.heads.now) after-leaf-bucket.leaf_bucket-bucket.ensures in
+    let x = c.args in
+    let start = c.get32-p.ensures ∙ ap (word x.heads.now) c.leaf_bucket-bucket.ensures in
     let found = rw (append-nil x.l.now) at c.claim_from.ensures in
-    (after-leaf-bucket.leaf_bucket-bucket.ensures, found ∙ ap (λ (p : ℕ). claim_at x.rows.now x.x.now x.links.now x.n p x.l.now) start)
+    (c.leaf_bucket-bucket.ensures, found ∙ ap (λ (p : ℕ). claim_at x.rows.now x.x.now x.links.now x.n p x.l.now) start)
 
 leaf-bucket-requires : tie.Need-leaf_bucket-bucket-requires
 leaf-bucket-requires c κs = omega arith

@@ -12,26 +12,21 @@ returns c =
 
 returns-2 : tie.Need-returns-then-path-n
 returns-2 c =
-    let back = c.before.before.before.before in
-    let x = back.args in
+    let x = c.args in
     let size = length-append x.name.now x.suffix.now in
     sym (leaf-not x.path.now (x.name.now ++ x.suffix.now) (λ is. omega (arith, is.shorter, size, c.if-path-n.true)))
 
 returns-3 : tie.Need-returns-then-path-from-ne46
 returns-3 c =
-    let back = c.before.before.before.before in
-    let x = back.args in
+    let x = c.args in
     let size = length-append x.name.now x.suffix.now in
     sym (leaf-not x.path.now (x.name.now ++ x.suffix.now) (λ is. c.if-path-from-ne46.true (rw size at is.dot)))
 
 returns-4 : tie.Need-returns
 returns-4 c =
-    let at-if3 = c.before in
-    let back = at-if3.before.before.before.before in
-    let s = back.before.before.before in
-    let l = s.args.name.now ++ s.args.suffix.now in
-    let size = length-append s.args.name.now s.args.suffix.now in
-    leaf-end s.args.path.now l s.requires.0 (omega (arith, size)) (omega (arith, size)) (rw (← size) at at-if3.if-path-from-ne46.false) (rw (← size) at c.ends_with_name.ensures)
+    let l = c.args.name.now ++ c.args.suffix.now in
+    let size = length-append c.args.name.now c.args.suffix.now in
+    leaf-end c.args.path.now l c.requires.0 (omega (arith, size)) (omega (arith, size)) (rw (← size) at c.if-path-from-ne46.false) (rw (← size) at c.ends_with_name.ensures)
 
 pub leaf_is_spec : {M : Type 1} → statement M
 leaf_is_spec =

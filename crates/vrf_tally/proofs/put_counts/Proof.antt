@@ -7,10 +7,7 @@ use Rattle.vrf_tally.proofs.put_counts.Tie as tie
 
 returns : tie.Need-returns
 returns c =
-    let after-put-paths = c.before.before in
-    let after-put-held = after-put-paths.before.before.before.before in
-    let start = after-put-held.before.before.before in
-    counts-put (counts_of start.args.t) after-put-held.put_held-held.ensures.1 after-put-paths.put_paths.ensures
+    counts-put (counts_of c.args.t) c.put_held-held.ensures.1 c.put_paths.ensures
 
 pub put_counts_spec : {M : Type 1} → statement M
 put_counts_spec = tie.close (tie.spec (λ c κs. search rules) (λ c κs. search rules) (λ c. search rules) returns)

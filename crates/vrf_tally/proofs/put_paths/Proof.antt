@@ -9,14 +9,7 @@ use Rattle.vrf_tally.proofs.put_paths.Tie as tie
 returns : tie.Need-returns
 unfolding ascii
 returns c =
-    let after-put-line3 = c.before.before in
-    let back = after-put-line3.before.before.before.before in
-    let after-put-line2 = back.before.before in
-    let back2 = after-put-line2.before.before.before.before in
-    let after-put-line = back2.before.before in
-    let back3 = after-put-line.before.before.before.before in
-    let start = back3.before in
-    paths-put (counts_of start.args.t) after-put-line.put_line-indexed.ensures.1 after-put-line2.put_line-literals.ensures.1 after-put-line3.put_line.ensures.1
+    paths-put (counts_of c.args.t) c.put_line-indexed.ensures.1 c.put_line-literals.ensures.1 c.put_line.ensures.1
 
 pub put_paths_spec : {M : Type 1} → statement M
 put_paths_spec =

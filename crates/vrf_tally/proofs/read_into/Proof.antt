@@ -12,23 +12,16 @@ use Rattle.vrf_tally.proofs.read_into.Tie as tie
 returns : tie.Need-returns-in-Refused
 unfolding allowances
 returns c =
-    let at-r = c in
-    let after_open = at-r.before.before.before in
-    let start = after_open.before.before.before.before in
-    let lent = start.args.book.now in
-    let started = subst (λ (a : Acted). OpenContract allowances lent after_open.«open».new.0 a) at-r.in-Refused.is after_open.«open».ensures in
-    absurd (never-refused start.requires.0 at-r.in-Refused.r started)
+    let lent = c.args.book.now in
+    let started = subst (λ (a : Acted). OpenContract allowances lent after_open.«open».new.0 a) c.in-Refused.is after_open.«open».ensures in
+    absurd (never-refused c.requires.0 c.in-Refused.r started)
 
 returns-2 : tie.Need-returns-in-Done
 unfolding allowances whole
 returns-2 c =
-    let after-read-checkpoint-tables = c.before.before in
-    let at-enum-told = after-read-checkpoint-tables.before.before in
-    let after_open = at-enum-told.before.before.before in
-    let start = after_open.before.before.before.before in
-    let lent = start.args.book.now in
-    let started = subst (λ (a : Acted). OpenContract allowances lent after_open.«open».new.0 a) at-enum-told.in-Done.is after_open.«open».ensures in
-    answered-by started start.args.input.now after-read-checkpoint-tables.read_checkpoint_tables.ensures
+    let lent = c.args.book.now in
+    let started = subst (λ (a : Acted). OpenContract allowances lent after_open.«open».new.0 a) c.in-Done.is after_open.«open».ensures in
+    answered-by started c.args.input.now c.read_checkpoint_tables.ensures
 
 pub read_into_spec : {M : Type 1} → statement M
 read_into_spec =

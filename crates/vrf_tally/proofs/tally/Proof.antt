@@ -10,17 +10,12 @@ use Rattle.vrf_tally.proofs.tally.Tie as tie
 returns : tie.Need-returns-then-input-gt65536
 unfolding tally
 returns c =
-    let at-if1 = c.before.before in
-    let start = at-if1.before.before in
-    (omega (arith, c.put_refusal.ensures.fits), rw (lt-ltb 65536 (length start.args.input.now) at-if1.if-input-gt65536.true) c.put_refusal.ensures)
+    (omega (arith, c.put_refusal.ensures.fits), rw (lt-ltb 65536 (length c.args.input.now) c.if-input-gt65536.true) c.put_refusal.ensures)
 
 returns-2 : tie.Need-returns
 unfolding tally
 returns-2 c =
-    let after_read = c.before in
-    let at-if1 = after_read.before.before in
-    let start = at-if1.before.before in
-    (omega (arith, c.put_answer.ensures.fits), rw (le-ltb 65536 (length start.args.input.now) at-if1.if-input-gt65536.false, ← after_read.read.ensures) c.put_answer.ensures)
+    (omega (arith, c.put_answer.ensures.fits), rw (le-ltb 65536 (length c.args.input.now) c.if-input-gt65536.false, ← c.read.ensures) c.put_answer.ensures)
 
 pub tally_spec : {M : Type 1} → statement M
 tally_spec =

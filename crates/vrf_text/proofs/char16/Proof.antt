@@ -19,13 +19,11 @@ returns-4 c = no-low _ c.if-a-lt55296.false c.if-a-gt56319.false (λ e. omega (a
 
 returns-5 : tie.Need-returns-then-b-gt57343
 returns-5 c =
-    let at-if3 = c.before.before in
-    no-low _ at-if3.if-a-lt55296.false at-if3.if-a-gt56319.false (λ e. omega (arith, low-range (next _) e))
+    no-low _ c.if-a-lt55296.false c.if-a-gt56319.false (λ e. omega (arith, low-range (next _) e))
 
 returns-6 : tie.Need-returns
 returns-6 c =
-    let at-if3 = c.before.before in
-    pair_of _ at-if3.if-a-lt55296.false at-if3.if-a-gt56319.false c.if-b-lt56320.false c.if-b-gt57343.false
+    pair_of _ c.if-a-lt55296.false c.if-a-gt56319.false c.if-b-lt56320.false c.if-b-gt57343.false
 
 pub char16_spec : {M : Type 1} → statement M
 char16_spec =

@@ -14,53 +14,37 @@ returns-2 c = too-low _ c.if-a-lt128.false c.if-a-lt194.true
 
 returns-3 : tie.Need-returns-then-within
 returns-3 c =
-    let at-if3 = c.before.before in
-    two-pass _ at-if3.if-a-lt194.false at-if3.if-a-lt224.true (sym c.within.ensures ∙ c.if-within.true)
+    two-pass _ c.if-a-lt194.false c.if-a-lt224.true (sym c.within.ensures ∙ c.if-within.true)
 
 returns-4 : tie.Need-returns-else-within
 returns-4 c =
-    let at-if3 = c.before.before in
-    two-fail _ at-if3.if-a-lt194.false at-if3.if-a-lt224.true (sym c.within.ensures ∙ c.if-within.false)
+    two-fail _ c.if-a-lt194.false c.if-a-lt224.true (sym c.within.ensures ∙ c.if-within.false)
 
 returns-5 : tie.Need-returns-then-not-within
-returns-5 c = third-fail _ c.if-a-lt224.false (sym c.within-2.ensures ∙ not-true _ c.if-not-within.true)
+returns-5 c = third-fail _ c.if-a-lt224.false (sym c.within-2.ensures ∙ c.if-not-within.true)
 
 returns-6 : tie.Need-returns-then-within-2
 returns-6 c =
-    let after-pick2 = c.before.before in
-    let at-if6 = after-pick2.before.before in
-    let after-within2 = at-if6.before.before in
-    three-pass _ after-within2.if-a-lt224.false at-if6.if-a-lt240.true after-pick2.pick.ensures after-pick2.pick-then-a-lt240.ensures c.within-then-a-lt240.ensures (sym after-within2.within-2.ensures ∙ not-false _ at-if6.if-not-within.false) c.if-within-2.true
+    three-pass _ c.if-a-lt224.false c.if-a-lt240.true c.pick.ensures c.pick-then-a-lt240.ensures c.within-then-a-lt240.ensures (sym c.within-2.ensures ∙ c.if-not-within.false) c.if-within-2.true
 
 returns-7 : tie.Need-returns-else-within-2
 returns-7 c =
-    let after-pick = c.before.before.before in
-    let at-if3 = after-pick.before.before.before.before in
-    three-fail _ at-if3.if-a-lt224.false after-pick.if-a-lt240.true after-pick.pick.ensures c.pick-then-a-lt240.ensures c.within-then-a-lt240.ensures c.if-within-2.false
+    three-fail _ c.if-a-lt224.false c.if-a-lt240.true c.pick.ensures c.pick-then-a-lt240.ensures c.within-then-a-lt240.ensures c.if-within-2.false
 
 returns-8 : tie.Need-returns-then-a-gt244
 returns-8 c = too-high _ c.if-a-gt244.true
 
 returns-9 : tie.Need-returns-then-not-within-2
 returns-9 c =
-    let at-if8 = c.before.before in
-    let at-if5 = at-if8.before.before in
-    fourth-fail _ at-if8.if-a-lt240.false at-if8.if-a-gt244.false (sym at-if5.within-2.ensures ∙ not-false _ at-if5.if-not-within.false) (sym c.within-3.ensures ∙ not-true _ c.if-not-within-2.true)
+    fourth-fail _ c.if-a-lt240.false c.if-a-gt244.false (sym c.within-2.ensures ∙ c.if-not-within.false) (sym c.within-3.ensures ∙ c.if-not-within-2.true)
 
 returns-10 : tie.Need-returns-then-within-3
 returns-10 c =
-    let after-within5 = c.before in
-    let after-pick4 = after-within5.before in
-    let at-if9 = after-pick4.before.before in
-    let at-if8 = at-if9.before.before in
-    let at-if5 = at-if8.before.before in
-    four-pass _ at-if8.if-a-lt240.false at-if8.if-a-gt244.false after-pick4.pick-2.ensures after-pick4.pick-3.ensures after-within5.within-4.ensures (sym at-if5.within-2.ensures ∙ not-false _ at-if5.if-not-within.false) (sym at-if9.within-3.ensures ∙ not-false _ at-if9.if-not-within-2.false) c.if-within-3.true
+    four-pass _ c.if-a-lt240.false c.if-a-gt244.false c.pick-2.ensures c.pick-3.ensures c.within-4.ensures (sym c.within-2.ensures ∙ c.if-not-within.false) (sym c.within-3.ensures ∙ c.if-not-within-2.false) c.if-within-3.true
 
 returns-11 : tie.Need-returns-else-within-3
 returns-11 c =
-    let after-pick4 = c.before.before in
-    let at-if8 = after-pick4.before.before.before.before in
-    four-fail _ at-if8.if-a-lt240.false at-if8.if-a-gt244.false after-pick4.pick-2.ensures after-pick4.pick-3.ensures c.within-4.ensures c.if-within-3.false
+    four-fail _ c.if-a-lt240.false c.if-a-gt244.false c.pick-2.ensures c.pick-3.ensures c.within-4.ensures c.if-within-3.false
 
 pub char_len_spec : {M : Type 1} → statement M
 char_len_spec =

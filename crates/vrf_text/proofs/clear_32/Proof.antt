@@ -9,9 +9,7 @@ use Rattle.vrf_text.proofs.clear_32.Tie as tie
 
 returns-2 : tie.Need-returns
 returns-2 c =
-    let after-bits-at2 = c.before.before in
-    let at-if1 = after-bits-at2.before.before in
-    λ e. (at-if1.if-s-lt32.false, four _ (λ k. omega (arith, at-if1.shared_slice_known-1.given k)) _ (omega arith) after-bits-at2.bits_at.ensures after-bits-at2.bits_at-2.ensures c.bits_at-3.ensures c.bits_at-4.ensures (eqb-true _ _ e))
+    λ e. (c.if-s-lt32.false, four _ (λ k. omega (arith, c.shared_slice_known-1.given k)) _ (omega arith) c.bits_at.ensures c.bits_at-2.ensures c.bits_at-3.ensures c.bits_at-4.ensures (eqb-true _ _ e))
 
 returns : tie.Need-returns-then-s-lt32
 returns c = λ e. absurd (false≢true e)

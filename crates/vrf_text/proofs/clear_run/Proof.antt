@@ -22,8 +22,7 @@ returns c = c.loop-i.invariant
 
 loop-again : tie.Need-loop-i-preserved invariant-loop decreases-loop
 loop-again c =
-    let at-loop = c.before.before.before.before in
-    block at-loop.args.s.now _ at-loop.loop-i.i at-loop.loop-i.invariant.1 (c.clear_32.ensures (not-false _ c.if-not-clear_32.false))
+    block c.args.s.now _ c.loop-i.i c.loop-i.invariant.1 (c.clear_32.ensures (c.if-not-clear_32.false))
 
 returns-2 : tie.Need-returns invariant-loop decreases-loop
 returns-2 c = c.loop-i.invariant

@@ -20,40 +20,33 @@ left c = few c.args.c _ c.too_long.ensures c.if-too_long.false
 
 -- the bytes that are left of them, and the cursor after all n
 reached : (c : tie.After-trimmed-k) →
-    let at-if1 = c.before.before in
-    let a = at-if1.args in
+    let a = c.args in
     Reached a.s.now a.c (read_at a.s.now a.c (text8 a.start a.n a.n)) a.start (as_utf8 (bytes_of a.s.now (bit_at a.c) c.trimmed-k.result)) (moved a.c (8 * a.n))
 reached c =
-    let after-bits-at = c.before in
-    let at-if1 = after-bits-at.before in
-    bytes-reached _ _ _ _ _ at-if1.too_long.ensures at-if1.if1.false at-if1.requires after-bits-at.bits_at.ensures c.trimmed-k.ensures.0
+    bytes-reached _ _ _ _ _ c.too_long.ensures c.if-too_long.false c.requires c.bits_at.ensures c.trimmed-k.ensures.0
 
 returns : tie.Need-returns-then-too_long
 returns c = bytes-refused _ _ _ _ _ c.too_long.ensures c.if-too_long.true
 
 returns-2 : tie.Need-returns-then-not-utf8_at
-returns-2 c = bad-text _ _ _ _ _ _ (reached c.before.before) (not-utf8 _ c.utf8_at.ensures (not-true _ c.if-not-utf8_at.true))
+returns-2 c = bad-text _ _ _ _ _ _ (reached c.before.before) (not-utf8 _ c.utf8_at.ensures (c.if-not-utf8_at.true))
 
 returns-3 : tie.Need-returns-then-k-gt-TEXT_BYTES
 returns-3 c =
-    let after-utf8-at = c.before.before in
-    long-text _ _ _ _ _ _ (reached after-utf8-at.before) _ (is-utf8 _ after-utf8-at.utf8_at.ensures (not-false _ c.if-not-utf8_at.false)) (sym (bytes-length _ _ _)) c.if-k-gt-TEXT_BYTES.true
+    long-text _ _ _ _ _ _ (reached c.before.before.before) _ (is-utf8 _ c.utf8_at.ensures (c.if-not-utf8_at.false)) (sym (bytes-length _ _ _)) c.if-k-gt-TEXT_BYTES.true
 
 mul-t16 : tie.Need-overflow_mul-result
 mul-t16 c =
-    let back = c.before.before.before.before in
-    omega (arith, left back.before)
+    omega (arith, left c.before.before.before.before.before)
 
 add-t26 : tie.Need-overflow_add-result
 add-t26 c =
-    let back = c.before.before.before.before in
-    omega (arith, c, left back.before)
+    omega (arith, c, left c.before.before.before.before.before)
 
 returns-4 : tie.Need-returns
 returns-4 c =
-    let after-utf8-at = c.before.before in
-    let after-trimmed = after-utf8-at.before in
-    let valid = is-utf8 _ after-utf8-at.utf8_at.ensures (not-false _ c.if-not-utf8_at.false) in
+    let after-trimmed = c.before.before.before in
+    let valid = is-utf8 _ c.utf8_at.ensures (c.if-not-utf8_at.false) in
     (good-text _ _ _ _ _ _ (reached after-trimmed) _ valid (sym (bytes-length _ _ _)) c.if-k-gt-TEXT_BYTES.false, omega (arith, left after-trimmed.before.before, after-trimmed.trimmed-k.ensures.1))
 
 pub find_bytes_spec : {M : Type 1} → statement M

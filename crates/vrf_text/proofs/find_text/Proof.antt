@@ -8,7 +8,7 @@ use Rattle.vrf_text.proofs.find_text.Statement.{statement}
 use Rattle.vrf_text.proofs.find_text.Tie as tie
 
 -- the length word that was read, and what it says
-word : (c : tie.In-Value-2) → let a = c.args in Worded a.s.now a.c c.in-Value.n c.in-Value.at
+word : (c : tie.In-Value) → let a = c.args in Worded a.s.now a.c c.in-Value.n c.in-Value.at
 word c = worded _ _ _ _ (rw c.in-Value.is at c.read_i32.ensures)
 
 says : (c : tie.After-length_of) {r : Length} → c.length_of.result ≡ r → LengthOf c.in-Value.n r
@@ -30,18 +30,16 @@ returns-2 c =
 
 returns-3 : tie.Need-returns-in-Bytes
 returns-3 c =
-    let at-k = c.before in
-    let after-length-of = at-k.before in
+    let after-length-of = c.before.before in
     let at_n = after-length-of.before in
-    let m = says after-length-of at-k.in-Bytes.is in
+    let m = says after-length-of c.in-Bytes.is in
     found_from _ _ (word at_n) (then-bytes _ _ (word at_n) _ m.0 m.1) c.find_bytes.result c.find_bytes.ensures
 
 returns-4 : tie.Need-returns-in-Units
 returns-4 c =
-    let at-k2 = c.before in
-    let after-length-of = at-k2.before in
+    let after-length-of = c.before.before in
     let at_n = after-length-of.before in
-    let m = says after-length-of at-k2.in-Units.is in
+    let m = says after-length-of c.in-Units.is in
     found_from _ _ (word at_n) (then-units _ _ (word at_n) _ m.0 m.1) c.find_units.result c.find_units.ensures
 
 pub find_text_spec : {M : Type 1} → statement M

@@ -17,43 +17,35 @@ left c = few c.args.c _ c.too_long.ensures c.if-too_long.false
 
 -- the units that are left of them, and the cursor after all n
 reached : (c : tie.After-trimmed-k) →
-    let at-if1 = c.before.before in
-    let a = at-if1.args in
+    let a = c.args in
     Reached a.s.now a.c (read_at a.s.now a.c (text16 a.start (4294967296 - a.n) a.n)) a.start (units_to_utf8 (units_of a.s.now (bit_at a.c) c.trimmed-k.result)) (moved a.c (16 * a.n))
 reached c =
-    let after-bits-at = c.before in
-    let at-if1 = after-bits-at.before in
-    units-reached _ _ _ _ _ at-if1.too_long.ensures at-if1.if1.false at-if1.requires.0 after-bits-at.bits_at.ensures c.trimmed-k.ensures.0
+    units-reached _ _ _ _ _ c.too_long.ensures c.if-too_long.false c.requires.0 c.bits_at.ensures c.trimmed-k.ensures.0
 
 returns : tie.Need-returns-then-too_long
 returns c = units-refused _ _ _ (4294967296 - c.args.n) _ c.too_long.ensures c.if-too_long.true
 
 returns-2 : tie.Need-returns-then-len-gt-TEXT_BYTES
 returns-2 c =
-    let at_len = c.before in
-    let m = rw at_len.in-Bytes.is at at_len.utf16_length.ensures in
-    long-text _ _ _ _ _ _ (reached at_len.before.before) m.0 m.1.0 m.1.1 c.if-len-gt-TEXT_BYTES.true
+    let m = rw c.in-Bytes.is at c.utf16_length.ensures in
+    long-text _ _ _ _ _ _ (reached c.before.before.before) m.0 m.1.0 m.1.1 c.if-len-gt-TEXT_BYTES.true
 
 mul-t29 : tie.Need-overflow_mul-result
 mul-t29 c =
-    let back = c.before.before in
-    omega (arith, left back.before.before.before)
+    omega (arith, left c.before.before.before.before.before)
 
 add-t30 : tie.Need-overflow_add-result
 add-t30 c =
-    let back = c.before.before in
-    omega (arith, c, left back.before.before.before)
+    omega (arith, c, left c.before.before.before.before.before)
 
 returns-3 : tie.Need-returns-in-Bad
 returns-3 c =
-    let after-utf16-length = c.before in
-    bad-text _ _ _ _ _ _ (reached after-utf16-length.before) (rw c.in-Bad.is at after-utf16-length.utf16_length.ensures)
+    bad-text _ _ _ _ _ _ (reached c.before.before) (rw c.in-Bad.is at c.utf16_length.ensures)
 
 returns-4 : tie.Need-returns-else-len-gt-TEXT_BYTES
 returns-4 c =
-    let at_len = c.before in
-    let after-trimmed = at_len.before.before in
-    let m = rw at_len.in-Bytes.is at at_len.utf16_length.ensures in
+    let after-trimmed = c.before.before.before in
+    let m = rw c.in-Bytes.is at c.utf16_length.ensures in
     (m.0, (good-text _ _ _ _ _ _ (reached after-trimmed) m.0 m.1.0 m.1.1 c.if-len-gt-TEXT_BYTES.false, (m.1.0, (m.1.1, omega (arith, left after-trimmed.before.before, after-trimmed.trimmed-k.ensures.1)))))
 
 pub find_units_spec : {M : Type 1} → statement M

@@ -14,8 +14,7 @@ returns-2 c = is_zero _ c.ranges.n c.if-n-eq0.true
 
 returns-3 : tie.Need-returns
 returns-3 c =
-    let at-if1 = c.before.before in
-    let m = above_zero _ at-if1.ranges.n c.magnitude-2.ensures at-if1.if-n-lt0.false c.if-n-eq0.false in
+    let m = above_zero _ c.ranges.n c.magnitude-2.ensures c.if-n-lt0.false c.if-n-eq0.false in
     (m.1, m.0)
 
 pub length_of_spec : {M : Type 1} → statement M

@@ -32,8 +32,7 @@ slice-write-out-6 c = simp length-set (omega (arith, length-3 _ c.if-u-lt2048.fa
 
 returns-3 : tie.Need-returns-then-u-lt65536
 returns-3 c =
-    let at-if2 = c.before in
-    (omega (arith, length-3 _ at-if2.if-u-lt2048.false c.if-u-lt65536.true), put_3 _ _ _ at-if2.requires.1 at-if2.if-u-lt2048.false c.if-u-lt65536.true)
+    (omega (arith, length-3 _ c.if-u-lt2048.false c.if-u-lt65536.true), put_3 _ _ _ c.requires.1 c.if-u-lt2048.false c.if-u-lt65536.true)
 
 slice-write-out-7 : tie.Need-bounds-out-at-2
 slice-write-out-7 c = omega (arith, length-4 _ c.if-u-lt65536.false)

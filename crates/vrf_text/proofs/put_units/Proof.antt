@@ -15,32 +15,26 @@ decreases-loop s p n out₀ i₀ at₀ out i at = n - i
 
 put-char-requires : tie.Need-put_char-at-requires invariant-loop decreases-loop
 put-char-requires c κs =
-    let after-char16 = c.before in
-    let at-loop = after-char16.before.before.before in (
-      after-char16.char16-c.ensures.scalar,
-      fits (units_of _ _ _) _ at-loop.loop-i.out at-loop.loop-i.i at-loop.loop-i.at at-loop.loop-i.invariant.0 at-loop.requires.2 after-char16.char16-c.result.code after-char16.char16-c.result.units
-          (taken_at _ _ _ at-loop.loop-i.i after-char16.char16-c.ensures after-char16.units_at.ensures),
+    (
+      c.char16-c.ensures.scalar,
+      fits (units_of _ _ _) _ c.loop-i.out c.loop-i.i c.loop-i.at c.loop-i.invariant.0 c.requires.2 c.char16-c.result.code c.char16-c.result.units
+          (taken_at _ _ _ c.loop-i.i c.char16-c.ensures c.units_at.ensures),
     )
 
 loop-less : tie.Need-loop-i-smaller invariant-loop decreases-loop
 loop-less c =
-    let back = c.before.before.before.before in
-    let after-char16 = back.before in
-    let at-loop = after-char16.before.before.before in
     omega (
       arith,
-      advances (units_of _ _ _) _ at-loop.loop-i.out at-loop.loop-i.i at-loop.loop-i.at at-loop.loop-i.invariant.0 at-loop.requires.2 after-char16.char16-c.result.code after-char16.char16-c.result.units
-          (taken_at _ _ _ at-loop.loop-i.i after-char16.char16-c.ensures after-char16.units_at.ensures),
+      advances (units_of _ _ _) _ c.loop-i.out c.loop-i.i c.loop-i.at c.loop-i.invariant.0 c.requires.2 c.char16-c.result.code c.char16-c.result.units
+          (taken_at _ _ _ c.loop-i.i c.char16-c.ensures c.units_at.ensures),
     )
 
 loop-again : tie.Need-loop-i-preserved invariant-loop decreases-loop
 loop-again c =
-    let after-put-char = c.before.before.before in
-    let after-char16 = after-put-char.before.before in
-    let at-loop = after-char16.before.before.before in (
-      rw after-put-char.put_char-at.ensures.0 (write-on (units_of _ _ _) _ at-loop.loop-i.out at-loop.loop-i.i at-loop.loop-i.at at-loop.loop-i.invariant.0 at-loop.requires.2 after-char16.char16-c.result.code after-char16.char16-c.result.units
-          (taken_at _ _ _ at-loop.loop-i.i after-char16.char16-c.ensures after-char16.units_at.ensures) after-put-char.put_char-at.ensures.1),
-      omega (arith, after-char16.char16-c.ensures.few),
+    (
+      rw c.put_char-at.ensures.0 (write-on (units_of _ _ _) _ c.loop-i.out c.loop-i.i c.loop-i.at c.loop-i.invariant.0 c.requires.2 c.char16-c.result.code c.char16-c.result.units
+          (taken_at _ _ _ c.loop-i.i c.char16-c.ensures c.units_at.ensures) c.put_char-at.ensures.1),
+      omega (arith, c.char16-c.ensures.few),
     )
 
 returns : tie.Need-returns invariant-loop decreases-loop

@@ -15,13 +15,11 @@ found c e = rw e at c.find_text.ensures
 
 take-bytes-requires : tie.Need-take_bytes-requires
 take-bytes-requires c κs =
-    let at_at = c.before in
-    (found at_at.before at_at.in-Bytes.is).1
+    (found c.before.before c.in-Bytes.is).1
 
 take-units-requires : tie.Need-take_units-requires
 take-units-requires c κs =
-    let at-at2 = c.before in
-    let f = found at-at2.before at-at2.in-Units.is in
+    let f = found c.before.before c.in-Units.is in
     (f.1.1.1.1, (f.0, (f.1.1.0, f.1.1.1.0)))
 
 returns : tie.Need-returns-in-Refused
@@ -29,16 +27,12 @@ returns c = (text-refused _ _ _ _ (found c.before c.in-Refused.is), refl)
 
 returns-2 : tie.Need-returns-in-Bytes
 returns-2 c =
-    let after-take-bytes = c.before.before in
-    let at_at = after-take-bytes.before.before in
-    text-then _ _ _ (found at_at.before at_at.in-Bytes.is).0 _ _ after-take-bytes.take_bytes.result after-take-bytes.take_bytes.ensures
+    text-then _ _ _ (found c.before.before.before.before.before c.in-Bytes.is).0 _ _ c.take_bytes.result c.take_bytes.ensures
 
 returns-3 : tie.Need-returns-in-Units
 returns-3 c =
-    let after-take-units = c.before.before in
-    let at-at2 = after-take-units.before.before in
-    let f = found at-at2.before at-at2.in-Units.is in
-    text-then _ _ _ f.1.0 _ _ after-take-units.take_units.result (after-take-units.take_units.ensures f.0 f.1.1.0)
+    let f = found c.before.before.before.before.before c.in-Units.is in
+    text-then _ _ _ f.1.0 _ _ c.take_units.result (c.take_units.ensures f.0 f.1.1.0)
 
 pub read_fstring_spec : {M : Type 1} → statement M
 read_fstring_spec =

@@ -8,13 +8,11 @@ use Rattle.vrf_text.proofs.step_in.Tie as tie
 
 returns : tie.Need-returns-then-clear_32
 returns c =
-    let after-clear-32 = c.before in
-    (omega arith, clear-passed _ (λ k. omega (arith, after-clear-32.shared_slice_known-1.given k)) 32 (after-clear-32.clear_32.ensures c.if-clear_32.true).1)
+    (omega arith, clear-passed _ (λ k. omega (arith, c.shared_slice_known-1.given k)) 32 (c.clear_32.ensures c.if-clear_32.true).1)
 
 returns-2 : tie.Need-returns-else-k-eq8
 returns-2 c =
-    let after-bits-at = c.before.before in
-    (omega arith, c.step-k.ensures.passed _ (holds-in _ (λ k. omega (arith, after-bits-at.shared_slice_known-1.given k)) 0 after-bits-at.bits_at.ensures))
+    (omega arith, c.step-k.ensures.passed _ (holds-in _ (λ k. omega (arith, c.shared_slice_known-1.given k)) 0 c.bits_at.ensures))
 
 pub step_in_spec : {M : Type 1} → statement M
 step_in_spec =

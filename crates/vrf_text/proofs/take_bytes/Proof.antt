@@ -16,28 +16,22 @@ returns c =
 
 returns-2 : tie.Need-returns-in-Done
 returns-2 c =
-    let after-copy-bits-to = c.before.before.before in
-    let at-if1 = after-copy-bits-to.before.before in
-    let start = at-if1.before.before.before in (
-      bytes_of start.args.s.now (bit_at start.args.c) start.args.n,
+    (
+      bytes_of c.args.s.now (bit_at c.args.c) c.args.n,
       (
-        space start.args.s.now start.args.next (length start.args.out.now) (bytes_of start.args.s.now (bit_at start.args.c) start.args.n) start.args.n (sym (bytes-length start.args.s.now (bit_at start.args.c) start.args.n)) at-if1.if-space-n.false,
+        space c.args.s.now c.args.next (length c.args.out.now) (bytes_of c.args.s.now (bit_at c.args.c) c.args.n) c.args.n (sym (bytes-length c.args.s.now (bit_at c.args.c) c.args.n)) c.if-space-n.false,
         (
-          sym (bytes-length start.args.s.now (bit_at start.args.c) start.args.n),
-          copied-bytes start.args.s.now start.args.c (length start.args.out.now) start.args.n at-if1.if-space-n.false start.requires
-              start.args.out.now after-copy-bits-to.copy_bits_to.new.1.1.0 after-copy-bits-to.copy_bits_to.ensures c.in-Done.is,
+          sym (bytes-length c.args.s.now (bit_at c.args.c) c.args.n),
+          copied-bytes c.args.s.now c.args.c (length c.args.out.now) c.args.n c.if-space-n.false c.requires
+              c.args.out.now c.copy_bits_to.new.dst c.copy_bits_to.ensures c.in-Done.is,
         ),
       ),
     )
 
 returns-3 : tie.Need-returns-in-Refused
 returns-3 c =
-    let at-r = c in
-    let after-copy-bits-to = at-r.before.before.before in
-    let at-if1 = after-copy-bits-to.before.before in
-    let start = at-if1.before.before.before in
-    never-refused start.args.s.now _ (length start.args.out.now) _ at-if1.if-space-n.false start.requires
-    start.args.out.now after-copy-bits-to.copy_bits_to.new.1.1.0 after-copy-bits-to.copy_bits_to.ensures at-r.in-Refused.is
+    never-refused c.args.s.now _ (length c.args.out.now) _ c.if-space-n.false c.requires
+    c.args.out.now c.copy_bits_to.new.dst c.copy_bits_to.ensures c.in-Refused.is
 
 pub take_bytes_spec : {M : Type 1} → statement M
 take_bytes_spec =

@@ -22,19 +22,17 @@ returns c =
 
 loop-again : tie.Need-loop-i-preserved invariant-loop decreases-loop
 loop-again c =
-    let after-char16 = c.before.before in
-    let l = after-char16.loop-i in (
-      rw c.utf8_len-len.ensures.0 (on (units_of _ _ _) l.i l.len l.invariant.0 after-char16.char16-c.result.code after-char16.char16-c.result.units c.if-k-eq0.false
-          (taken_at _ _ _ l.i after-char16.char16-c.ensures after-char16.units_at.ensures)),
-      omega (arith, after-char16.char16-c.ensures.few),
+    let l = c.loop-i in (
+      rw c.utf8_len-len.ensures.0 (on (units_of _ _ _) l.i l.len l.invariant.0 c.char16-c.result.code c.char16-c.result.units c.if-k-eq0.false
+          (taken_at _ _ _ l.i c.char16-c.ensures c.units_at.ensures)),
+      omega (arith, c.char16-c.ensures.few),
       omega (arith, c.utf8_len-len.ensures.1),
     )
 
 returns-2 : tie.Need-returns invariant-loop decreases-loop
 returns-2 c =
-    let at-loop = c.before in
-    let a = at-loop.args in
-    (at-loop.loop-i.invariant.0.done, (end (units_of a.s.now a.p a.n) at-loop.loop-i.i at-loop.loop-i.len at-loop.loop-i.invariant.0 (omega (arith, units-length a.s.now a.p a.n)), sym at-loop.loop-i.invariant.0.long))
+    let a = c.args in
+    (c.loop-i.invariant.0.done, (end (units_of a.s.now a.p a.n) c.loop-i.i c.loop-i.len c.loop-i.invariant.0 (omega (arith, units-length a.s.now a.p a.n)), sym c.loop-i.invariant.0.long))
 
 pub utf16_length_spec : {M : Type 1} → statement M
 utf16_length_spec =

@@ -9,8 +9,7 @@ use Rattle.vrf_text.proofs.utf8_at.Tie as tie
 
 returns-3 : tie.Need-returns
 returns-3 c =
-    let at-if2 = c.before.before in
-    c.is_utf8.ensures ∙ ap utf8 (part _ (λ k. omega (arith, at-if2.shared_slice_known-1.given k)) _ _ (omega arith) at-if2.if-s-e.false)
+    c.is_utf8.ensures ∙ ap utf8 (part _ (λ k. omega (arith, c.shared_slice_known-1.given k)) _ _ (omega arith) c.if-s-e.false)
 
 pub utf8_at_spec : {M : Type 1} → statement M
 utf8_at_spec =

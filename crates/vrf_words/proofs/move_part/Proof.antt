@@ -16,10 +16,9 @@ loop-holds c = copy_start _ _ _ _ _
 
 loop-again : tie.Need-loop-k-preserved invariant-loop decreases-loop
 loop-again c =
-    let at-loop = c.before.before in
-    let m = at-loop.args.m.now in
-    let stood = unmoved m at-loop.loop-k.m _ _ _ at-loop.loop-k.k at-loop.loop-k.invariant c.loop-k-test.true at-loop.requires.0 at-loop.requires.1 at-loop.requires.2 in
-    copy_step m at-loop.loop-k.m m _ _ _ at-loop.loop-k.k at-loop.loop-k.invariant _ stood c.loop-k-test.true at-loop.requires.0 at-loop.requires.1
+    let m = c.args.m.now in
+    let stood = unmoved m c.loop-k.m _ _ _ c.loop-k.k c.loop-k.invariant c.loop-k-test.true c.requires.0 c.requires.1 c.requires.2 in
+    copy_step m c.loop-k.m m _ _ _ c.loop-k.k c.loop-k.invariant _ stood c.loop-k-test.true c.requires.0 c.requires.1
 
 same_length : tie.Need-shape_of-m invariant-loop decreases-loop
 same_length c = c.loop-k.invariant.long

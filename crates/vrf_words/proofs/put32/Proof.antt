@@ -8,8 +8,7 @@ use Rattle.vrf_words.proofs.put32.Tie as tie
 
 returns : tie.Need-returns
 returns c =
-    let after-low2 = c.before.before in
-    four _ _ _ _ _ _ _ (omega arith) after-low2.low.ensures after-low2.low-2.ensures c.low-3.ensures c.low-4.ensures
+    four _ _ _ _ _ _ _ (omega arith) c.low.ensures c.low-2.ensures c.low-3.ensures c.low-4.ensures
 
 pub put32_spec : {M : Type 1} → statement M
 put32_spec =

@@ -8,9 +8,8 @@ use Rattle.vrf_words.proofs.put_eight.Tie as tie
 
 returns : tie.Need-returns
 returns c =
-    let after-eight-of = c.before.before.before.before in
-    let a = after-eight-of.args in
-    c.put_eight_bytes.ensures ∙ ap (pasted _ (a.at + a.k)) after-eight-of.eight_of-e.ensures
+    let a = c.args in
+    c.put_eight_bytes.ensures ∙ ap (pasted _ (a.at + a.k)) c.eight_of-e.ensures
 
 pub put_eight_spec : {M : Type 1} → statement M
 put_eight_spec =

@@ -21,9 +21,8 @@ loop-holds c = copy_start c.args.m.now c.args.t.now _ 0 (length c.args.t.now)
 
 loop-again : tie.Need-loop-k-preserved invariant-loop decreases-loop
 loop-again c =
-    let at-loop = c.before.before in
-    let t = at-loop.args.t.now in
-    copy_step _ at-loop.loop-k.m t _ 0 (length t) at-loop.loop-k.k at-loop.loop-k.invariant (get_or t at-loop.loop-k.k 0) (rw zero-add) (omega arith) (omega arith) (omega arith)
+    let t = c.args.t.now in
+    copy_step _ c.loop-k.m t _ 0 (length t) c.loop-k.k c.loop-k.invariant (get_or t c.loop-k.k 0) (rw zero-add) (omega arith) (omega arith) (omega arith)
 
 same_length : tie.Need-shape_of-m invariant-loop decreases-loop
 same_length c = c.loop-k.invariant.long

@@ -7,13 +7,9 @@ use Rattle.vrf_words.proofs.put_long.Tie as tie
 
 returns : tie.Need-returns
 returns c =
-    let after-put-many3 = c.before.before in
-    let after-put-many2 = after-put-many3.before.before.before.before in
-    let after_lower = after-put-many2.before in
-    let after-put-many = after_lower.before.before.before.before in
-    let one = copy_step (copy_start _ _ after-put-many.args.at) 0 32 after-put-many.put_many.ensures (omega arith) (omega arith) (omega arith) (omega arith) in
-    let two = copy_step one after_lower.lower.result 32 after-put-many2.put_many-2.ensures (omega arith) (omega arith) (omega arith) (omega arith) in
-    copy-end (copy_step two _ 32 after-put-many3.put_many-3.ensures (omega arith) (omega arith) (omega arith) (omega arith)) (omega arith)
+    let one = copy_step (copy_start _ _ c.args.at) 0 32 c.put_many.ensures (omega arith) (omega arith) (omega arith) (omega arith) in
+    let two = copy_step one c.lower.result 32 c.put_many-2.ensures (omega arith) (omega arith) (omega arith) (omega arith) in
+    copy-end (copy_step two _ 32 c.put_many-3.ensures (omega arith) (omega arith) (omega arith) (omega arith)) (omega arith)
 
 pub put_long_spec : {M : Type 1} → statement M
 put_long_spec =

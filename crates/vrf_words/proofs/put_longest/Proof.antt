@@ -21,11 +21,9 @@ loop-holds c =
 
 loop-again : tie.Need-loop-k-preserved invariant-loop decreases-loop
 loop-again c =
-    let after_lower = c.before.before.before in
-    let at-loop = after_lower.before.before.before in
-    let a = at-loop.args in
-    let more : after_lower.lower.result + 32 ≡ min (at-loop.loop-k.k + 32) (length a.t.now) = omega (arith, after_lower.lower.ensures) in
-    subst (λ (j : ℕ). PartCopied a.m.now c.put_many.new.m a.t.now a.at j) more (copy_step at-loop.loop-k.invariant after_lower.lower.result 32 c.put_many.ensures (omega arith) (omega (arith, after_lower.lower.ensures)) (omega (arith, after_lower.lower.ensures)) (omega (arith, after_lower.lower.ensures)))
+    let a = c.args in
+    let more : c.lower.result + 32 ≡ min (c.loop-k.k + 32) (length a.t.now) = omega (arith, c.lower.ensures) in
+    subst (λ (j : ℕ). PartCopied a.m.now c.put_many.new.m a.t.now a.at j) more (copy_step c.loop-k.invariant c.lower.result 32 c.put_many.ensures (omega arith) (omega (arith, c.lower.ensures)) (omega (arith, c.lower.ensures)) (omega (arith, c.lower.ensures)))
 
 pub put_longest_spec : {M : Type 1} → statement M
 put_longest_spec =

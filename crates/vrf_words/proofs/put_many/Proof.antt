@@ -8,10 +8,8 @@ use Rattle.vrf_words.proofs.put_many.Tie as tie
 
 returns : tie.Need-returns
 returns c =
-    let after-put-sixteen2 = c.before.before in
-    let after-put-sixteen = after-put-sixteen2.before.before.before.before in
-    let a = after-put-sixteen.args in
-    next-part _ _ (a.at + a.k) _ 16 16 (omega arith) (omega arith) after-put-sixteen.put_sixteen.ensures _ _ after-put-sixteen2.put_sixteen-2.ensures (omega arith) (omega arith)
+    let a = c.args in
+    next-part _ _ (a.at + a.k) _ 16 16 (omega arith) (omega arith) c.put_sixteen.ensures _ _ c.put_sixteen-2.ensures (omega arith) (omega arith)
 
 pub put_many_spec : {M : Type 1} → statement M
 put_many_spec =

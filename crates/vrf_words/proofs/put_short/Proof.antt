@@ -7,16 +7,10 @@ use Rattle.vrf_words.proofs.put_short.Tie as tie
 
 returns : tie.Need-returns
 returns c =
-    let after-put-eight4 = c.before.before in
-    let after-put-eight3 = after-put-eight4.before.before.before.before in
-    let after-lower2 = after-put-eight3.before in
-    let after-put-eight2 = after-lower2.before.before.before.before in
-    let after_lower = after-put-eight2.before in
-    let after-put-eight = after_lower.before.before.before.before in
-    let one = copy_step (copy_start _ _ after-put-eight.args.at) 0 8 after-put-eight.put_eight.ensures (omega arith) (omega arith) (omega arith) (omega arith) in
-    let two = copy_step one after_lower.lower.result 8 after-put-eight2.put_eight-2.ensures (omega arith) (omega arith) (omega arith) (omega arith) in
-    let three = copy_step two after-lower2.lower-2.result 8 after-put-eight3.put_eight-3.ensures (omega arith) (omega arith) (omega arith) (omega arith) in
-    copy-end (copy_step three _ 8 after-put-eight4.put_eight-4.ensures (omega arith) (omega arith) (omega arith) (omega arith)) (omega arith)
+    let one = copy_step (copy_start _ _ c.args.at) 0 8 c.put_eight.ensures (omega arith) (omega arith) (omega arith) (omega arith) in
+    let two = copy_step one c.lower.result 8 c.put_eight-2.ensures (omega arith) (omega arith) (omega arith) (omega arith) in
+    let three = copy_step two c.lower-2.result 8 c.put_eight-3.ensures (omega arith) (omega arith) (omega arith) (omega arith) in
+    copy-end (copy_step three _ 8 c.put_eight-4.ensures (omega arith) (omega arith) (omega arith) (omega arith)) (omega arith)
 
 pub put_short_spec : {M : Type 1} → statement M
 put_short_spec =

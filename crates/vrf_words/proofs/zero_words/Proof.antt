@@ -19,9 +19,8 @@ loop-holds c = (omega arith, refl, zero-start _ (4 * c.args.i))
 
 loop-again : tie.Need-loop-k-preserved invariant-loop decreases-loop
 loop-again c =
-    let after-put32 = c.before.before in
-    let l = after-put32.loop-k in
-    (omega arith, after-put32.put32.auto.s ∙ l.invariant.1, after-put32.put32.ensures ∙ zero-step _ l.m-1 _ l.k l.invariant.2 (omega arith))
+    let l = c.loop-k in
+    (omega arith, c.put32.auto.s ∙ l.invariant.1, c.put32.ensures ∙ zero-step _ l.m _ l.k l.invariant.2 (omega arith))
 
 same_length : tie.Need-shape_of-m invariant-loop decreases-loop
 same_length c = c.loop-k.invariant.1

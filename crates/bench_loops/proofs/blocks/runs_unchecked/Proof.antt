@@ -11,15 +11,12 @@ decreases-loop m₀ s scratch₀ n c₀ sum₀ counter₀ m scratch c sum counte
 
 loop-again : tie.Need-loop-preserved invariant-loop decreases-loop
 loop-again c =
-    let at-exports = c.before in
-    let back = at-exports.before.before.before in
-    let after-read-net-field-exports = back.before.before in
-    let at-loop = after-read-net-field-exports.before.before.before.before in (
+    (
       omega arith,
-      (rw at-exports.in-Of.is at after-read-net-field-exports.read_net_field_exports.ensures).good,
-      after-read-net-field-exports.read_net_field_exports.auto.scratch.1.0 ∙ at-loop.loop.invariant.2,
-      omega (arith, after-read-net-field-exports.read_net_field_exports.auto.scratch.1.1.0, at-loop.loop.invariant.3),
-      after-read-net-field-exports.read_net_field_exports.auto.scratch.1.1.0 ∙ at-loop.loop.invariant.4,
+      (rw c.in-Of.is at c.read_net_field_exports.ensures).good,
+      c.read_net_field_exports.auto.m ∙ c.loop.invariant.2,
+      omega (arith, c.read_net_field_exports.auto.scratch, c.loop.invariant.3),
+      c.read_net_field_exports.auto.scratch ∙ c.loop.invariant.4,
     )
 
 pub runs_unchecked_spec : {M : Type 1} → statement M

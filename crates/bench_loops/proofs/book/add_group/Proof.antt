@@ -7,10 +7,7 @@ returns c = (rw c.in-At.is at c.add_export_group.ensures).holds.good
 
 returns-2 : tie.Need-returns-in-Refused
 returns-2 c =
-    let after-add-export-group = c.before.before.before in
-    let back = after-add-export-group.before.before.before.before in
-    let start = back.before in
-    rw (rw c.in-Refused.is at after-add-export-group.add_export_group.ensures).same start.requires.0
+    rw (rw c.in-Refused.is at c.add_export_group.ensures).same c.requires.0
 
 pub add_group_spec : {M : Type 1} → statement M
 add_group_spec =

@@ -5,9 +5,7 @@ use Rattle.bench_loops.proofs.book.bench_fill.Tie as tie
 
 set-all-requires : tie.Need-set_all-requires
 set-all-requires c κs =
-    let at-enum-told = c.before in
-    let after_open = at-enum-told.before.before.before in
-    check-good _ (rw at-enum-told.in-Done.is at after_open.«open».ensures).accepted
+    check-good _ (rw c.in-Done.is at after_open.«open».ensures).accepted
 
 pub bench_fill_spec : {M : Type 1} → statement M
 bench_fill_spec =

@@ -10,9 +10,7 @@ returns-2 c = (rw c.in-NotPlaced.is at c.set_field_on_group.ensures).holds.good
 
 returns-3 : tie.Need-returns-in-Refused
 returns-3 c =
-    let after-set-field-on-group = c.before.before.before in
-    let start = after-set-field-on-group.before.before.before.before in
-    rw (rw c.in-Refused.is at after-set-field-on-group.set_field_on_group.ensures).same start.requires.0
+    rw (rw c.in-Refused.is at c.set_field_on_group.ensures).same c.requires.0
 
 pub set_field_spec : {M : Type 1} → statement M
 set_field_spec =

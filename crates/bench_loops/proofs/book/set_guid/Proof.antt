@@ -7,9 +7,7 @@ returns c = (rw c.in-Done.is at c.set_net_guid_path.ensures).holds.good
 
 returns-2 : tie.Need-returns-in-Refused
 returns-2 c =
-    let after-set-net-guid-path = c.before.before.before in
-    let start = after-set-net-guid-path.before.before.before.before in
-    rw (rw c.in-Refused.is at after-set-net-guid-path.set_net_guid_path.ensures).same start.requires.0
+    rw (rw c.in-Refused.is at c.set_net_guid_path.ensures).same c.requires.0
 
 pub set_guid_spec : {M : Type 1} → statement M
 set_guid_spec =

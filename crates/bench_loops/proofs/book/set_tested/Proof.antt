@@ -5,10 +5,7 @@ use Rattle.bench_loops.proofs.book.set_tested.Tie as tie
 
 set-requires : tie.Need-set-requires
 set-requires c κs =
-    let at-enum-told = c.before in
-    let after-check-text = at-enum-told.before in
-    let start = after-check-text.before.before.before in
-    (start.requires, caller_text-text _ (rw at-enum-told.in-Accepted.is at after-check-text.check_text.ensures))
+    (c.requires, caller_text-text _ (rw c.in-Accepted.is at c.check_text.ensures))
 
 pub set_tested_spec : {M : Type 1} → statement M
 set_tested_spec =

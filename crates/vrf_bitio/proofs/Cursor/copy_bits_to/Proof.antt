@@ -14,8 +14,7 @@ returns-2 c = (rw c.too_few.ensures (copy-lacking _ _ _ _ (omega arith) (omega a
 
 returns-3 : tie.Need-returns
 returns-3 c =
-    let after-copy-bits = c.before.before.before in
-    (_, (gave-moved _ _ _ c.moved.ensures (copy-found _ _ _ _ (omega arith) (omega arith)), rw after-copy-bits.at.ensures at after-copy-bits.copy_bits.ensures))
+    (_, (gave-moved _ _ _ c.moved.ensures (copy-found _ _ _ _ (omega arith) (omega arith)), rw c.at.ensures at c.copy_bits.ensures))
 
 pub copy_bits_to_spec : {M : Type 1} → statement M
 copy_bits_to_spec =

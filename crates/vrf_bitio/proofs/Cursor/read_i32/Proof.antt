@@ -17,10 +17,9 @@ returns c =
 returns-2 : tie.Need-returns-in-Value
 unfolding int32
 returns-2 c =
-    let at-w = c.before in
     rw (to_z-of_z (record { sfits = c.as_signed.type_inv }), c.as_signed.ensures)
     (gave_then _ _ word32 _
-    (subst (WordAnswer _ _ (read_at _ _ word32)) at-w.in-Value.is at-w.read_u32.ensures)
+    (subst (WordAnswer _ _ (read_at _ _ word32)) c.in-Value.is c.read_u32.ensures)
     (gave-return _ _ _))
 
 pub read_i32_spec : {M : Type 1} → statement M

@@ -18,30 +18,26 @@ loop-holds c = started _ _
 
 returns : tie.Need-returns-in-Refused invariant-loop decreases-loop
 returns c =
-    let after-read-u8 = c.before in
-    let l = after-read-u8.loop-k in
+    let l = c.loop-k in
     ended _ _ l.at l.low l.k l.invariant
-    (rw c.in-Refused.is at after-read-u8.read_u8.ensures)
+    (rw c.in-Refused.is at c.read_u8.ensures)
 
 with-chunk-requires : tie.Need-with_chunk-low-requires invariant-loop decreases-loop
 with-chunk-requires c κs =
-    let at-loop-test = c.before.before in
-    chunk-fits at-loop-test.loop-k.low at-loop-test.loop-k.k _ at-loop-test.loop-k-test.true at-loop-test.loop-k.invariant.small c.in-Value.known_told-in-Value-1-own.given.0.1
+    chunk-fits c.loop-k.low c.loop-k.k _ c.loop-k-test.true c.loop-k.invariant.small c.in-Value.known_told-in-Value-1-own.given.0.1
 
 returns-2 : tie.Need-returns-then-b-eq0 invariant-loop decreases-loop
 returns-2 c =
-    let at_b = c.before.before in
-    let l = at_b.loop-k in
-    last _ _ l.at l.low l.k l.invariant at_b.loop-k-test.true _ _ _
-    (rw at_b.in-Value.is at at_b.read_u8.ensures)
+    let l = c.loop-k in
+    last _ _ l.at l.low l.k l.invariant c.loop-k-test.true _ _ _
+    (rw c.in-Value.is at c.read_u8.ensures)
     c.with_chunk-low.ensures c.if-b-eq0.true
 
 loop-again : tie.Need-loop-k-preserved invariant-loop decreases-loop
 loop-again c =
-    let at_b = c.before.before in
-    let l = at_b.loop-k in
-    next _ _ l.at l.low l.k l.invariant at_b.loop-k-test.true _ _ _
-    (rw at_b.in-Value.is at at_b.read_u8.ensures)
+    let l = c.loop-k in
+    next _ _ l.at l.low l.k l.invariant c.loop-k-test.true _ _ _
+    (rw c.in-Value.is at c.read_u8.ensures)
     c.with_chunk-low.ensures c.in-Value.known_told-in-Value-1-own.given.0.1 c.if-b-eq0.false
 
 read-last-chunk-requires : tie.Need-read_last_chunk-requires invariant-loop decreases-loop

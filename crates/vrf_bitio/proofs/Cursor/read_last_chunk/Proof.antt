@@ -8,13 +8,11 @@ use Rattle.vrf_bitio.proofs.Cursor.read_last_chunk.Tie as tie
 
 returns : tie.Need-returns-then-b-eq1
 returns c =
-    let at_b = c.before in
-    last-runs-on _ (2 ^ 28) _ _ (rest_of _ _) (rw at_b.in-Value.is at at_b.read_u8.ensures).read c.if-b-eq1.true
+    last-runs-on _ (2 ^ 28) _ _ (rest_of _ _) (rw c.in-Value.is at c.read_u8.ensures).read c.if-b-eq1.true
 
 returns-2 : tie.Need-returns-then-b-gt15
 returns-2 c =
-    let at_b = c.before.before in
-    last-too-large _ (2 ^ 28) _ _ (rest_of _ _) (rw at_b.in-Value.is at at_b.read_u8.ensures).read c.if-b-eq1.false c.if-b-gt15.true
+    last-too-large _ (2 ^ 28) _ _ (rest_of _ _) (rw c.in-Value.is at c.read_u8.ensures).read c.if-b-eq1.false c.if-b-gt15.true
 
 returns-3 : tie.Need-returns-in-Refused
 returns-3 c =
@@ -23,8 +21,7 @@ returns-3 c =
 
 returns-4 : tie.Need-returns-else-b-gt15
 returns-4 c =
-    let at_b = c.before.before.before in
-    let g = (rw at_b.in-Value.is at at_b.read_u8.ensures) in
+    let g = (rw c.in-Value.is at c.read_u8.ensures) in
     rw c.with_chunk.ensures
     (record { read = last-ends _ (2 ^ 28) _ _ (rest_of _ _) g.read c.if-b-eq1.false c.if-b-gt15.false; first = g.first; count = g.count })
 

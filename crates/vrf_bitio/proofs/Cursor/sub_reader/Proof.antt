@@ -10,13 +10,11 @@ returns c = rw c.too_few.ensures (inner-lacking _ _ _ (omega arith))
 
 returns-2 : tie.Need-returns-in-Refused
 returns-2 c =
-    let after-window = c.before in
-    inner-refused _ _ _ (omega arith) (rw (c.in-Refused.is, after-window.at.ensures) at after-window.window.ensures)
+    inner-refused _ _ _ (omega arith) (rw (c.in-Refused.is, c.at.ensures) at c.window.ensures)
 
 returns-3 : tie.Need-returns-in-Window
 returns-3 c =
-    let after-window = c.before.before in
-    let opened = rw (c.in-Window.is, after-window.at.ensures) at after-window.window.ensures in
+    let opened = rw (c.in-Window.is, c.at.ensures) at c.window.ensures in
     (gave-moved _ _ _ c.moved.ensures (inner-found _ _ _ (omega arith) opened), window-start _ _ _ opened)
 
 pub sub_reader_spec : {M : Type 1} → statement M

@@ -20,14 +20,11 @@ as-whole s n r = subst (λ (x : Read (ℕ × ℕ)). OpenedAnswer s x r)
 
 returns : tie.Need-returns-then-n-gt-WINDOW_BYTES
 returns c =
-    let at-if1 = c.before in
-    let start = at-if1.before.before in
-    as-whole start.args.«data».now 0 c.window.result (window-large start.args.«data».now 0 _ at-if1.if-n-gt-WINDOW_BYTES.true) c.window.ensures
+    as-whole c.args.«data».now 0 c.window.result (window-large c.args.«data».now 0 _ c.if-n-gt-WINDOW_BYTES.true) c.window.ensures
 
 returns-2 : tie.Need-returns
 returns-2 c =
-    let start = c.before.before.before in
-    as-whole start.args.«data».now _ c.window-2.result (ap (window start.args.«data».now 0) (omega arith)) c.window-2.ensures
+    as-whole c.args.«data».now _ c.window-2.result (ap (window c.args.«data».now 0) (omega arith)) c.window-2.ensures
 
 pub new_spec : {M : Type 1} → statement M
 new_spec = tie.close (tie.spec (λ c κs. search rules) returns (λ c. search rules) (λ c κs. search rules) returns-2)

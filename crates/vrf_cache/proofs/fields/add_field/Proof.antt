@@ -28,10 +28,9 @@ push-field-requires c κs =
 
 returns-2 : tie.Need-returns
 returns-2 c =
-    let n = c.before.before in
-    let k = n.before.before.before.before in
+    let k = c.before.before.before.before.before.before in
     let p = (fit k).before in
-    new-taken (start p).args.checksum (start p).requires p.passes-which.ensures (fit k).if-which-ne0.false k.keep_text-at.ensures (λ i. (p.slice_known-1.given i).fits) n.push_field.ensures
+    new-taken (start p).args.checksum (start p).requires p.passes-which.ensures (fit k).if-which-ne0.false k.keep_text-at.ensures (λ i. (p.slice_known-1.given i).fits) c.push_field.ensures
 
 pub add_field_spec : {M : Type 1} → statement M
 add_field_spec =

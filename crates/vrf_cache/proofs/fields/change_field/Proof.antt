@@ -14,16 +14,13 @@ start c = c.before.before.before
 
 returns : tie.Need-returns-then-same
 returns c =
-    let set = c.before.before in
-    let t = set.before.before in
-    let n = name t.before in
-    same_taken (start n).args.checksum (start n).requires (rw n.row_name.ensures at (sym t.same.ensures ∙ t.if-same.true)) (λ i. (n.slice_known-1.given i).fits) set.set_checksum.ensures
+    let n = name c.before.before.before.before.before in
+    same_taken (start n).args.checksum (start n).requires (rw n.row_name.ensures at (sym c.same.ensures ∙ c.if-same.true)) (λ i. (n.slice_known-1.given i).fits) c.set_checksum.ensures
 
 rename-field-requires : tie.Need-rename_field-requires
 rename-field-requires c κs =
-    let e = c.before in
-    let n = name e.before in
-    ((start n).requires, rw n.row_name.ensures at (sym e.same.ensures ∙ e.if-same.false))
+    let n = name c.before.before in
+    ((start n).requires, rw n.row_name.ensures at (sym c.same.ensures ∙ c.if-same.false))
 
 pub change_field_spec : {M : Type 1} → statement M
 change_field_spec =

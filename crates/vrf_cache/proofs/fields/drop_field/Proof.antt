@@ -6,9 +6,7 @@ use Rattle.vrf_cache.proofs.fields.drop_field.Tie as tie
 
 returns : tie.Need-returns
 returns c =
-    let after-step-dropped = c.before.before in
-    let start = after-step-dropped.before.before.before in
-    dropped start.requires after-step-dropped.step_dropped.ensures
+    dropped c.requires c.step_dropped.ensures
 
 pub drop_field_spec : {M : Type 1} → statement M
 drop_field_spec = tie.close (tie.spec (λ c κs. search rules) (λ c. search rules) returns)

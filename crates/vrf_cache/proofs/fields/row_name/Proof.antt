@@ -7,10 +7,8 @@ use Rattle.vrf_cache.proofs.fields.row_name.Tie as tie
 
 row-text-requires : tie.Need-row_text-requires
 row-text-requires c κs =
-    let after-field-rows = c.before in
-    let start = after-field-rows.before.before in
-    let valid = start.requires.0.valid in
-    (field_row valid after-field-rows.field_rows.ensures start.requires.1, field-text valid after-field-rows.field_rows.ensures c.texts.ensures start.requires.1)
+    let valid = c.requires.0.valid in
+    (field_row valid c.field_rows.ensures c.requires.1, field-text valid c.field_rows.ensures c.texts.ensures c.requires.1)
 
 returns : tie.Need-returns
 returns c = c.row_text.ensures ∙ rw (c.field_rows.ensures, c.texts.ensures)

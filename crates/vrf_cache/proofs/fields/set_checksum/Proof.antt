@@ -38,11 +38,10 @@ set-field-row-requires c κs =
 
 returns : tie.Need-returns
 returns c =
-    let set = c.before.before in
-    let l = set.before.before in
+    let l = c.before.before.before.before in
     let t = place l.before in
     let s = start t.before in
-    name-kept s.requires.0 s.requires.1 (at-is t) (len_is l) s.args.checksum set.set_field_row.ensures
+    name-kept s.requires.0 s.requires.1 (at-is t) (len_is l) s.args.checksum c.set_field_row.ensures
 
 pub set_checksum_spec : {M : Type 1} → statement M
 set_checksum_spec =

@@ -13,19 +13,15 @@ start c = c.before.before.before
 
 returns : tie.Need-returns-in-At
 returns c =
-    let set = c.before.before in
-    let p = set.before.before in
-    let first = p.before in
+    let first = c.before.before.before.before.before in
     let x = (start first).args in
-    rw (set_known (held x.m.now) x.handle x.checksum x.name.now x.index (sym first.find_index.ensures ∙ ap entry p.in-At.is)) set.set_slot.ensures
+    rw (set_known (held x.m.now) x.handle x.checksum x.name.now x.index (sym first.find_index.ensures ∙ ap entry c.in-At.is)) c.set_slot.ensures
 
 returns-2 : tie.Need-returns-in-Nowhere
 returns-2 c =
-    let drop = c.before.before in
-    let told = drop.before.before in
-    let first = told.before in
+    let first = c.before.before.before.before.before in
     let x = (start first).args in
-    rw (set-unknown (held x.m.now) x.handle x.checksum x.name.now x.index (sym first.find_index.ensures ∙ ap entry told.in-Nowhere.is)) drop.drop_field.ensures
+    rw (set-unknown (held x.m.now) x.handle x.checksum x.name.now x.index (sym first.find_index.ensures ∙ ap entry c.in-Nowhere.is)) c.drop_field.ensures
 
 pub set_field_on_group_spec : {M : Type 1} → statement M
 set_field_on_group_spec =

@@ -23,17 +23,14 @@ inside c = rw c.group_slots.ensures at c.if-group_slots-slot.false
 
 returns : tie.Need-returns-then-group_slots-slot
 returns c =
-    let d = c.before.before in
-    let t = d.before.before in
-    let x = (start t.before).args in
-    rw (set_past (held x.m.now) x.slot x.checksum x.name.now x.place (rw t.group_slots.ensures at t.if-group_slots-slot.true)) d.drop_field.ensures
+    let x = (start c.before.before.before.before.before).args in
+    rw (set_past (held x.m.now) x.slot x.checksum x.name.now x.place (rw c.group_slots.ensures at c.if-group_slots-slot.true)) c.drop_field.ensures
 
 change-field-requires : tie.Need-change_field-requires
 change-field-requires c κs =
-    let e = c.before in
-    let f = e.before in
+    let f = c.before.before in
     let s = start (slots f).before in
-    record { good = s.requires.0; is_text = s.requires.1; known = row-known s.requires.0 s.args.place (inside (slots f)) (sym f.find_field.ensures ∙ ap entry e.in-At.is) }
+    record { good = s.requires.0; is_text = s.requires.1; known = row-known s.requires.0 s.args.place (inside (slots f)) (sym f.find_field.ensures ∙ ap entry c.in-At.is) }
 
 add-field-requires : tie.Need-add_field-requires
 add-field-requires c κs =
@@ -43,18 +40,15 @@ add-field-requires c κs =
 
 returns-2 : tie.Need-returns-in-At
 returns-2 c =
-    let n = c.before.before in
-    let e = n.before.before in
-    let f = e.before in
+    let f = c.before.before.before.before.before in
     let s = start (slots f).before in
-    rw (set-row s.requires.0 s.args.place (inside (slots f)) (sym f.find_field.ensures ∙ ap entry e.in-At.is) s.args.checksum s.args.name.now) n.change_field.ensures
+    rw (set-row s.requires.0 s.args.place (inside (slots f)) (sym f.find_field.ensures ∙ ap entry c.in-At.is) s.args.checksum s.args.name.now) c.change_field.ensures
 
 returns-3 : tie.Need-returns-in-Nowhere
 returns-3 c =
-    let n = c.before.before in
-    let f = n.before.before.before in
+    let f = c.before.before.before.before.before in
     let x = (start (slots f).before).args in
-    rw (set-within (held x.m.now) x.slot x.checksum x.name.now x.place (inside (slots f))) n.add_field.ensures
+    rw (set-within (held x.m.now) x.slot x.checksum x.name.now x.place (inside (slots f))) c.add_field.ensures
 
 pub set_slot_spec : {M : Type 1} → statement M
 set_slot_spec =

@@ -5,11 +5,7 @@ use Rattle.vrf_cache.proofs.full.passes.Tie as tie
 
 returns : tie.Need-returns
 returns c =
-    let after-fields = c.before in
-    let after-groups = after-fields.before in
-    let after-guids = after-groups.before in
-    let after-held = after-guids.before in
-    rw (← after-held.held.ensures, ← after-guids.guids.ensures, ← after-groups.groups.ensures, ← after-fields.fields.ensures) c.passed.ensures
+    rw (← c.held.ensures, ← c.guids.ensures, ← c.groups.ensures, ← c.fields.ensures) c.passed.ensures
 
 pub passes_spec : {M : Type 1} → statement M
 passes_spec =

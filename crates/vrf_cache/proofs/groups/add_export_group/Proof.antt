@@ -13,25 +13,20 @@ start c = c.before.before.before
 
 merge-at-requires : tie.Need-merge_at-requires
 merge-at-requires c κs =
-    let e = c.before in
-    let first = e.before in
-    path-found (start first).requires (sym (ap entry e.in-At.is) ∙ first.find_path_place.ensures)
+    let first = c.before.before in
+    path-found (start first).requires (sym (ap entry c.in-At.is) ∙ first.find_path_place.ensures)
 
 returns : tie.Need-returns-in-At
 returns c =
-    let merge = c.before.before in
-    let e = merge.before.before in
-    let first = e.before in
+    let first = c.before.before.before.before.before in
     let x = (start first).args in
-    rw (added-by x.path.now x.index x.slots (held x.m.now) (sym (ap entry e.in-At.is) ∙ first.find_path_place.ensures)) merge.merge_at.ensures
+    rw (added-by x.path.now x.index x.slots (held x.m.now) (sym (ap entry c.in-At.is) ∙ first.find_path_place.ensures)) c.merge_at.ensures
 
 returns-2 : tie.Need-returns-in-Nowhere
 returns-2 c =
-    let add = c.before.before in
-    let told = add.before.before in
-    let first = told.before in
+    let first = c.before.before.before.before.before in
     let x = (start first).args in
-    rw (added-by x.path.now x.index x.slots (held x.m.now) (sym (ap entry told.in-Nowhere.is) ∙ first.find_path_place.ensures)) add.add_unknown.ensures
+    rw (added-by x.path.now x.index x.slots (held x.m.now) (sym (ap entry c.in-Nowhere.is) ∙ first.find_path_place.ensures)) c.add_unknown.ensures
 
 pub add_export_group_spec : {M : Type 1} → statement M
 add_export_group_spec =

@@ -14,7 +14,7 @@ abbrev start : tie.After-find_index → tie.Start
 start c = c.before.before.before
 
 -- the group with the index is found, or there is none
-found : (c : tie.In-At-2) → some c.in-At.j ≡ index_place (start c.before).args.index (held (start c.before).args.m.now).groups
+found : (c : tie.In-At) → some c.in-At.j ≡ index_place (start c.before).args.index (held (start c.before).args.m.now).groups
 found c = sym (ap entry c.in-At.is) ∙ c.find_index.ensures
 
 missing : (c : tie.In-Nowhere) → none ≡ index_place (start c.before).args.index (held (start c.before).args.m.now).groups
@@ -31,17 +31,15 @@ append-group-requires c κs = let s = start c.before.before in append-asked s.ar
 
 returns : tie.Need-returns-in-At
 returns c =
-    let r = c.before.before in
-    let j = r.before.before in
+    let j = c.before.before.before.before in
     let s = start j.before in
-    rw (replaced-by s.args.index s.requires (found j)) r.replace_at.ensures
+    rw (replaced-by s.args.index s.requires (found j)) c.replace_at.ensures
 
 returns-2 : tie.Need-returns-in-Nowhere
 returns-2 c =
-    let a = c.before.before in
-    let none_told = a.before.before in
+    let none_told = c.before.before.before.before in
     let s = start none_told.before in
-    rw (appended-by s.args.index s.requires (missing none_told)) a.append_group.ensures
+    rw (appended-by s.args.index s.requires (missing none_told)) c.append_group.ensures
 
 pub add_unknown_spec : {M : Type 1} → statement M
 add_unknown_spec =

@@ -20,9 +20,8 @@ pushed c = c.before.before.before.before
 
 keep-text-requires : tie.Need-keep_text-at-requires
 keep-text-requires c κs =
-    let f = c.before.before.before in
-    let asked = (start f.before).requires in
-    (asked.good, new-space asked f.passes-which.ensures f.if-which-ne0.false)
+    let asked = (start c.before.before.before.before).requires in
+    (asked.good, new-space asked c.passes-which.ensures c.if-which-ne0.false)
 
 push-group-requires : tie.Need-push_group-requires
 push-group-requires c κs =

@@ -5,10 +5,7 @@ use Rattle.vrf_cache.proofs.groups.is_named.Tie as tie
 
 returns : tie.Need-returns-then-same
 returns c =
-    let at-if1 = c.before in
-    let after_same = at-if1.before in
-    let after-group-path = after_same.before in
-    rw (← after-group-path.group_path.ensures, ← c.group_index.ensures, ← after_same.same.ensures, at-if1.if-same.true)
+    rw (← c.group_path.ensures, ← c.group_index.ensures, ← c.same.ensures, c.if-same.true)
 
 returns-2 : tie.Need-returns
 returns-2 c = rw (← c.group_path.ensures, ← c.same.ensures, c.if-same.false)

@@ -13,39 +13,35 @@ start c = c.before.before.before
 
 -- no other group has the index: it is found at this group, or not at all
 own : (c : tie.Then-e-j) →
-    let s = start c.before.before.before.before in
-    GroupRequest s.args.m.now s.args.path.now s.args.e s.args.index s.args.slots
-own c =
-    let j = c.before.before in
-    let f = j.before.before in
-    merge-asked (start f).args.index (start f).requires (sym (ap entry j.j.given.1) ∙ f.find-index.ensures) (sym c.if-e-j.true)
-
-free : (c : tie.In-Nowhere) →
     let s = start c.before.before in
     GroupRequest s.args.m.now s.args.path.now s.args.e s.args.index s.args.slots
-free c =
+own c =
     let f = c.before.before in
-    merge-asked (start f).args.index (start f).requires (sym (ap entry c.in-Nowhere.is) ∙ f.find-index.ensures) tt
+    merge-asked (start f).args.index (start f).requires (sym (ap entry c.in-At.is) ∙ f.find_index.ensures) (sym c.if-e-j.true)
+
+free : (c : tie.In-Nowhere) →
+    let s = start c.before in
+    GroupRequest s.args.m.now s.args.path.now s.args.e s.args.index s.args.slots
+free c =
+    let f = c.before in
+    merge-asked (start f).args.index (start f).requires (sym (ap entry c.in-Nowhere.is) ∙ f.find_index.ensures) tt
 
 returns : tie.Need-returns-then-e-j
 returns c =
-    let g = c.before.before in
-    let t = g.before.before in
+    let t = c.before.before.before.before in
     let s = start t.before.before in
-    rw (merged_by s.args.index s.requires (own t).free) g.merge_group.ensures
+    rw (merged_by s.args.index s.requires (own t).free) c.merge_group.ensures
 
 returns-2 : tie.Need-returns-else-e-j
 returns-2 c =
-    let j = c.before in
-    let f = j.before in
-    record { step = crossed-by (start f).args.index (start f).requires (sym (ap entry j.in-At.is) ∙ f.find_index.ensures) c.if-e-j.false; same = refl }
+    let f = c.before.before in
+    record { step = crossed-by (start f).args.index (start f).requires (sym (ap entry c.in-At.is) ∙ f.find_index.ensures) c.if-e-j.false; same = refl }
 
 returns-3 : tie.Need-returns-in-Nowhere
 returns-3 c =
-    let g = c.before.before in
-    let t = g.before.before in
+    let t = c.before.before.before.before in
     let s = start t.before in
-    rw (merged_by s.args.index s.requires (free t).free) g.merge_group-in-Nowhere.ensures
+    rw (merged_by s.args.index s.requires (free t).free) c.merge_group-in-Nowhere.ensures
 
 pub merge_at_spec : {M : Type 1} → statement M
 merge_at_spec =

@@ -7,13 +7,8 @@ use Rattle.vrf_cache.proofs.groups.merge_group.Tie as tie
 
 returns : tie.Need-returns-then-is_named
 returns c =
-    let after-step-schema = c.before.before in
-    let after-grow-group = after-step-schema.before.before.before.before in
-    let at-if1 = after-grow-group.before.before in
-    let after-is-named = at-if1.before in
-    let start = after-is-named.before.before.before in
-    let as-asked = named (sym after-is-named.is_named.ensures ∙ at-if1.if-is_named.true) in
-    grow-taken start.requires as-asked.0 as-asked.1 after-grow-group.grow_group.ensures after-step-schema.step_schema.ensures
+    let as-asked = named (sym c.is_named.ensures ∙ c.if-is_named.true) in
+    grow-taken c.requires as-asked.0 as-asked.1 c.grow_group.ensures c.step_schema.ensures
 
 pub merge_group_spec : {M : Type 1} → statement M
 merge_group_spec =

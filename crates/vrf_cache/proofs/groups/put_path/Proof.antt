@@ -6,9 +6,7 @@ use Rattle.vrf_cache.proofs.groups.put_path.Tie as tie
 
 returns : tie.Need-returns
 returns c =
-    let after-keep-text = c.before.before in
-    let after-release-path = after-keep-text.before.before.before.before in
-    given after-release-path.release_path.ensures after-keep-text.keep_text.ensures
+    given c.release_path.ensures c.keep_text.ensures
 
 pub put_path_spec : {M : Type 1} → statement M
 put_path_spec = tie.close (tie.spec (λ c κs. search rules) (λ c κs. search rules) (λ c. search rules) returns)

@@ -8,21 +8,15 @@ use Rattle.vrf_cache.proofs.groups.release_path.Tie as tie
 -- the function's entry state
 abbrev start : tie.After-text_allowed → tie.Start
 start c =
-    let h = c.before.before in
-    h.before
+    c.before.before.before
 
 set-group-requires : tie.Need-set_group-requires
 set-group-requires c κs =
-    let i = c.before in
-    let e = i.before.before in
-    release-path (start e.before).requires i.group_index-index.ensures
+    release-path (start c.before.before.before.before).requires c.group_index-index.ensures
 
 returns-2 : tie.Need-returns
 returns-2 c =
-    let set = c.before.before in
-    let i = set.before.before in
-    let e = i.before.before in
-    gone (start e.before).requires i.group_index-index.ensures set.set_group.ensures
+    gone (start c.before.before.before.before.before.before.before).requires c.group_index-index.ensures c.set_group.ensures
 
 pub release_path_spec : {M : Type 1} → statement M
 release_path_spec =

@@ -51,5 +51,5 @@ rename_group_spec =
     (tie.spec
     (λ c κs. search rules) passes-requires (λ c κs. search rules) (λ c. search rules)
     (λ c. let p = c.before.before in rw c.full.ensures (merge-full (begin p).requires (which p) c.if-which-ne0.true refl))
-    (λ c κs. let f = c.before in merge-fits (begin f.before).requires (which f.before) f.if-which-ne0.false) (λ c. search rules)
+    (λ c κs. merge-fits (begin c.before.before).requires (which c.before.before) c.if-which-ne0.false) (λ c. search rules)
     set-group-requires (λ c κs. search rules) (λ c. search rules) returns-2)

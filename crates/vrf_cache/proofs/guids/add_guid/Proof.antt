@@ -33,11 +33,10 @@ push-guid-requires c κs =
 
 returns-2 : tie.Need-returns
 returns-2 c =
-    let s = c.before.before in
-    let n = s.before.before.before.before in
+    let n = c.before.before.before.before.before.before in
     let f = fit (kept n) in
     let p = f.before in
-    new-taken (start p).args.guid (start p).args.outer (start p).requires p.passes-which.ensures f.if-which-ne0.left (kept n).keep_text-at.ensures n.push_guid.ensures s.step_guid.ensures
+    new-taken (start p).args.guid (start p).args.outer (start p).requires p.passes-which.ensures f.if-which-ne0.left (kept n).keep_text-at.ensures n.push_guid.ensures c.step_guid.ensures
 
 pub add_guid_spec : {M : Type 1} → statement M
 add_guid_spec =

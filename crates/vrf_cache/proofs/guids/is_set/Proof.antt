@@ -10,15 +10,13 @@ start c = c.before.before.before
 
 returns : tie.Need-returns-then-same
 returns c =
-    let same = c.before.before in
-    let s = start same.before in
-    rw (has_both s.args.path.now s.args.outer s.requires, ← same.guid_path.ensures, ← c.guid_outer.ensures, ← same.same.ensures, c.if-same.true)
+    let s = start c.before.before.before in
+    rw (has_both s.args.path.now s.args.outer s.requires, ← c.guid_path.ensures, ← c.guid_outer.ensures, ← c.same.ensures, c.if-same.true)
 
 returns-2 : tie.Need-returns
 returns-2 c =
-    let same = c.before in
-    let s = start same.before in
-    rw (has_both s.args.path.now s.args.outer s.requires, ← same.guid_path.ensures, ← same.same.ensures, c.if-same.false)
+    let s = start c.before.before in
+    rw (has_both s.args.path.now s.args.outer s.requires, ← c.guid_path.ensures, ← c.same.ensures, c.if-same.false)
 
 pub is_set_spec : {M : Type 1} → statement M
 is_set_spec =

@@ -15,10 +15,10 @@ abbrev start : tie.After-find_guid → tie.Start
 start c = c.before.before.before
 
 -- a record of this GUID is found
-there : (c : tie.In-At-2) → guid_place (start c.before).args.guid (held (start c.before).args.m.now).guids ≡ some c.in-At.e
+there : (c : tie.In-At) → guid_place (start c.before).args.guid (held (start c.before).args.m.now).guids ≡ some c.in-At.e
 there c = sym c.find_guid.ensures ∙ ap entry c.in-At.is
 
-asked : (c : tie.In-At-2) → GuidToChange (start c.before).args.m.now (start c.before).args.path.now c.in-At.e
+asked : (c : tie.In-At) → GuidToChange (start c.before).args.m.now (start c.before).args.path.now c.in-At.e
 asked c =
     let s = start c.before in
     found s.args.m.now s.args.guid s.args.path.now s.args.outer s.requires.0 (there c) s.requires.1
@@ -32,8 +32,7 @@ returns c =
 
 change-guid-requires : tie.Need-change_guid-requires
 change-guid-requires c κs =
-    let is_set = c.before.before in
-    asked is_set.before
+    asked c.before.before.before
 
 add-guid-requires : tie.Need-add_guid-requires
 add-guid-requires c κs =
@@ -43,19 +42,15 @@ add-guid-requires c κs =
 
 returns-2 : tie.Need-returns-else-is_set
 returns-2 c =
-    let n = c.before.before in
-    let other = n.before.before in
-    let e = other.before.before in
+    let e = c.before.before.before.before.before.before in
     let s = start e.before.before in
-    rw (set_other s.args.m.now s.args.guid s.args.path.now s.args.outer s.requires.0 (there e) (sym other.if-is_set.false ∙ other.is_set.ensures)) n.change_guid.ensures
+    rw (set_other s.args.m.now s.args.guid s.args.path.now s.args.outer s.requires.0 (there e) (sym c.if-is_set.false ∙ c.is_set.ensures)) c.change_guid.ensures
 
 returns-3 : tie.Need-returns-in-Nowhere
 returns-3 c =
-    let n = c.before.before in
-    let told = n.before.before in
-    let first = told.before in
+    let first = c.before.before.before.before.before in
     let x = (start first).args in
-    rw (set_new x.m.now x.guid x.path.now x.outer (sym first.find_guid.ensures ∙ ap entry told.in-Nowhere.is)) n.add_guid.ensures
+    rw (set_new x.m.now x.guid x.path.now x.outer (sym first.find_guid.ensures ∙ ap entry c.in-Nowhere.is)) c.add_guid.ensures
 
 pub set_net_guid_path_spec : {M : Type 1} → statement M
 set_net_guid_path_spec =

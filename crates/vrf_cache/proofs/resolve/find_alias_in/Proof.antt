@@ -10,10 +10,7 @@ slice-aggregate-find-or-toggled c = written-part c.spell-n.ensures
 
 find-or-toggled-requires : tie.Need-find_or_toggled-requires
 find-or-toggled-requires c κs =
-    let after-spell = c.before.before.before in
-    let back = after-spell.before.before.before.before in
-    let start = back in
-    (start.requires.0, rw after-spell.spell-n.ensures.bytes (omega arith))
+    (c.requires.0, rw c.spell-n.ensures.bytes (omega arith))
 
 returns : tie.Need-returns
 returns c =

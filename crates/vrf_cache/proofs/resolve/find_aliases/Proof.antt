@@ -19,26 +19,22 @@ find-alias-requires c κs = ((start c).requires.0, omega (arith, default-fits (s
 
 find-alias-requires-2 : tie.Need-find_alias-requires-in-Nowhere
 find-alias-requires-2 c κs =
-    let first = c.before.before in
-    let s = start first.before in
+    let s = start c.before.before.before in
     (s.requires.0, omega (arith, core-fits s.args.path.now c.core_alias.result c.core_alias.ensures.text))
 
 returns : tie.Need-returns-in-At
 unfolding found_or_next
 returns c =
-    let first = c.before in
-    let d = first.before in
+    let d = c.before.before in
     let x = (start d).args in
-    sym (alias-turn (held x.m.now).groups x.path.now d.default_object_alias.ensures.text (sym first.find_alias.ensures ∙ ap entry c.in-At.is))
+    sym (alias-turn (held x.m.now).groups x.path.now d.default_object_alias.ensures.text (sym c.find_alias.ensures ∙ ap entry c.in-At.is))
 
 returns-2 : tie.Need-returns-in-Nowhere
 unfolding found_or_next
 returns-2 c =
-    let told = c.before.before in
-    let first = told.before in
-    let x = (start first.before).args in
+    let x = (start c.before.before.before.before).args in
     let groups = (held x.m.now).groups in
-    let turn = alias-turn groups x.path.now first.default_object_alias.ensures.text (sym first.find_alias.ensures ∙ ap entry told.in-Nowhere.is) in
+    let turn = alias-turn groups x.path.now c.default_object_alias.ensures.text (sym c.find_alias.ensures ∙ ap entry c.in-Nowhere.is) in
     c.find_alias-in-Nowhere.ensures ∙ ap (with_toggle groups) c.core_alias.ensures.text ∙ sym turn
 
 pub find_aliases_spec : {M : Type 1} → statement M

@@ -11,16 +11,14 @@ use Rattle.vrf_cache.proofs.resolve.find_class_net_cache_key.Tie as tie
 returns : tie.Need-returns-in-At
 unfolding found_or_next
 returns c =
-    let first = c.before in
-    let x = first.args in
-    sym (rw (sym first.find_or_toggled.ensures ∙ ap entry c.in-At.is) at (keys-turn (held x.m.now).groups x.path.now))
+    let x = c.args in
+    sym (rw (sym c.find_or_toggled.ensures ∙ ap entry c.in-At.is) at (keys-turn (held x.m.now).groups x.path.now))
 
 returns-2 : tie.Need-returns-in-Nowhere
 unfolding found_or_next
 returns-2 c =
-    let first = c.before.before in
-    let x = first.args in
-    c.find_aliases.ensures ∙ sym (rw (sym first.find_or_toggled.ensures ∙ ap entry c.in-Nowhere.is) at (keys-turn (held x.m.now).groups x.path.now))
+    let x = c.args in
+    c.find_aliases.ensures ∙ sym (rw (sym c.find_or_toggled.ensures ∙ ap entry c.in-Nowhere.is) at (keys-turn (held x.m.now).groups x.path.now))
 
 pub find_class_net_cache_key_spec : {M : Type 1} → statement M
 find_class_net_cache_key_spec =

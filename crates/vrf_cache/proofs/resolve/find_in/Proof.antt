@@ -14,10 +14,7 @@ slice-aggregate-find-path-place c = written-part c.join-n.ensures
 
 find-path-place-requires : tie.Need-find_path_place-requires
 find-path-place-requires c κs =
-    let after-join = c.before.before.before in
-    let back = after-join.before.before.before.before in
-    let start = back.before in
-    (start.requires.0, rw (after-join.join-n.ensures.bytes, length-append) (omega arith))
+    (c.requires.0, rw (c.join-n.ensures.bytes, length-append) (omega arith))
 
 returns : tie.Need-returns
 returns c =

@@ -11,16 +11,14 @@ use Rattle.vrf_cache.proofs.resolve.find_or_toggled.Tie as tie
 returns : tie.Need-returns-in-At
 unfolding found_or_next
 returns c =
-    let first = c.before in
-    let x = first.args in
-    sym (rw (sym first.find_path_place.ensures ∙ ap entry c.in-At.is) at (toggle-turn (held x.m.now).groups x.key.now))
+    let x = c.args in
+    sym (rw (sym c.find_path_place.ensures ∙ ap entry c.in-At.is) at (toggle-turn (held x.m.now).groups x.key.now))
 
 returns-2 : tie.Need-returns-in-Nowhere
 unfolding found_or_next
 returns-2 c =
-    let first = c.before.before in
-    let x = first.args in
-    c.find_toggled.ensures ∙ sym (rw (sym first.find_path_place.ensures ∙ ap entry c.in-Nowhere.is) at (toggle-turn (held x.m.now).groups x.key.now))
+    let x = c.args in
+    c.find_toggled.ensures ∙ sym (rw (sym c.find_path_place.ensures ∙ ap entry c.in-Nowhere.is) at (toggle-turn (held x.m.now).groups x.key.now))
 
 pub find_or_toggled_spec : {M : Type 1} → statement M
 find_or_toggled_spec =

@@ -16,8 +16,8 @@ abbrev start : tie.After-toggle_class_net_cache → tie.Start
 start c = c.before.before.before
 
 -- the key has the suffix
-stripped : (c : tie.In-Stripped-2) →
-    let key = (start c.before.before).args.key.now in
+stripped : (c : tie.In-Stripped) →
+    let key = (start c.before).args.key.now in
     (toggle key ≡ some (take c.in-Stripped.n key)) × (c.in-Stripped.n ≤ length key)
 stripped c = rw c.in-Stripped.is at c.toggle_class_net_cache.ensures
 
@@ -29,9 +29,8 @@ returns c =
 returns-2 : tie.Need-returns-in-Appended
 unfolding class_net_cache
 returns-2 c =
-    let told = c.before.before in
-    let t = told.before in
-    c.find_joined.ensures ∙ sym (path-alone (held (start t).args.m.now).groups (rw told.in-Appended.is at t.toggle_class_net_cache.ensures))
+    let t = c.before.before.before in
+    c.find_joined.ensures ∙ sym (path-alone (held (start t).args.m.now).groups (rw c.in-Appended.is at t.toggle_class_net_cache.ensures))
 
 returns-3 : tie.Need-returns-in-Absent
 returns-3 c =

@@ -36,36 +36,29 @@ slice-aggregate-try-cnc-leaf-candidates :
     tie.Need-slice_bounds-try_cnc_leaf_candidates-end invariant-loop decreases-loop
 slice-aggregate-try-cnc-leaf-candidates c =
     let s = c.before.before in
-    let within = rw s.in-At.is at s.loop-stem.invariant.1 in
+    let within = rw s.stem.given.1 at s.loop-stem.invariant.1 in
     rw length-take (omega (arith, within))
 
 try-cnc-leaf-candidates-requires : tie.Need-try_cnc_leaf_candidates-c-requires invariant-loop decreases-loop
 try-cnc-leaf-candidates-requires c κs =
-    let s = c in
-    let x = begin s.before.before in
-    (x.requires.0, separators-take s.in-At.len x.args.name.now (cc), rw length-take (omega arith))
+    let x = begin c.before.before in
+    (x.requires.0, separators-take c.in-At.len x.args.name.now (cc), rw length-take (omega arith))
 
 returns-3 : tie.Need-returns-then-decides invariant-loop decreases-loop
 returns-3 c =
-    let t = c.before.before.before in
-    let s = t.before in
-    let l = s.before.before in
-    let rest = rw s.in-At.is at l.loop-stem.invariant.0 in
-    c.claimed.ensures ∙ sym (stem-decides (held (begin l).args.m.now).groups _ _ rest t.try_cnc_leaf_candidates-c.ensures (cc))
+    let l = c.before.before.before.before.before.before in
+    let rest = rw c.in-At.is at l.loop-stem.invariant.0 in
+    c.claimed.ensures ∙ sym (stem-decides (held (begin l).args.m.now).groups _ _ rest c.try_cnc_leaf_candidates-c.ensures (cc))
 
 loop-less : tie.Need-loop-stem-smaller invariant-loop decreases-loop
 loop-less c =
-    let t = c.before.before.before in
-    let s = t.before in
-    stems-fewer (begin s.before.before).args.name.now c.next_stem-stem.result s.in-At.is c.next_stem-stem.ensures.stems
+    stems-fewer (begin c.before.before.before.before.before.before).args.name.now c.next_stem-stem.result c.in-At.is c.next_stem-stem.ensures.stems
 
 loop-again : tie.Need-loop-stem-preserved invariant-loop decreases-loop
 loop-again c =
-    let t = c.before.before.before in
-    let s = t.before in
-    let l = s.before.before in
-    let rest = rw s.in-At.is at l.loop-stem.invariant.0 in
-    (stem-passes (held (begin l).args.m.now).groups _ _ rest t.try_cnc_leaf_candidates-c.ensures (cc) c.next_stem-stem.ensures.stems, c.next_stem-stem.ensures.within)
+    let l = c.before.before.before.before.before.before in
+    let rest = rw c.in-At.is at l.loop-stem.invariant.0 in
+    (stem-passes (held (begin l).args.m.now).groups _ _ rest c.try_cnc_leaf_candidates-c.ensures (cc) c.next_stem-stem.ensures.stems, c.next_stem-stem.ensures.within)
 
 pub resolve_cnc_for_instance_name_spec : {M : Type 1} → statement M
 resolve_cnc_for_instance_name_spec =

@@ -10,16 +10,12 @@ use Rattle.vrf_cache.proofs.resolve.try_cnc_leaf_candidates.Tie as tie
 claim-of-requires : tie.Need-claim_of-requires
 unfolding component underscore_c class_net_cache
 claim-of-requires c κs =
-    let after-class-base = c.before.before.before in
-    let s = after-class-base.before.before.before in
-    (s.requires.0, stem-leaves s.args.stem.now s.requires.1 s.requires.2 after-class-base.class_base.ensures)
+    (c.requires.0, stem-leaves c.args.stem.now c.requires.1 c.requires.2 c.class_base.ensures)
 
 returns : tie.Need-returns
 unfolding component underscore_c class_net_cache
 returns c =
-    let back = c.before.before.before.before in
-    let start = back.before.before.before in
-    let x = start.args in
+    let x = c.args in
     stem-in-turn (held x.m.now).groups x.stem.now c.claim_of.ensures
 
 pub try_cnc_leaf_candidates_spec : {M : Type 1} → statement M

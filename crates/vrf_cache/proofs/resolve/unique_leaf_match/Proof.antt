@@ -14,18 +14,15 @@ start c = c.before.before.before.before
 claim-of-requires : tie.Need-claim_of-requires
 unfolding component underscore_c
 claim-of-requires c κs =
-    let base = c.before.before.before in
-    let s = start base.before in
-    (s.requires.0, name-leaves s.args.name.now (cc) s.requires.1 base.leaf_base.ensures)
+    let s = start c.before.before.before.before in
+    (s.requires.0, name-leaves s.args.name.now (cc) s.requires.1 c.leaf_base.ensures)
 
 returns-2 : tie.Need-returns
 unfolding component underscore_c
 returns-2 c =
-    let claim = c.before in
-    let base = claim.before.before.before.before in
-    let x = (start base.before).args in
+    let x = (start c.before.before.before.before.before.before).args in
     let groups = (held x.m.now).groups in
-    c.claimed.ensures ∙ match-name x.name.now groups (cc) (name-in-turn groups x.name.now claim.claim_of.ensures)
+    c.claimed.ensures ∙ match-name x.name.now groups (cc) (name-in-turn groups x.name.now c.claim_of.ensures)
 
 pub unique_leaf_match_spec : {M : Type 1} → statement M
 unique_leaf_match_spec =

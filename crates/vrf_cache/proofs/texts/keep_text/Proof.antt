@@ -6,9 +6,7 @@ use Rattle.vrf_cache.proofs.texts.keep_text.Tie as tie
 
 returns : tie.Need-returns
 returns c =
-    let after-append-text = c.before.before in
-    let after-make-space = after-append-text.before.before.before.before in
-    put_written after-make-space.make_space.ensures after-append-text.append_text.ensures
+    put_written c.make_space.ensures c.append_text.ensures
 
 pub keep_text_spec : {M : Type 1} → statement M
 keep_text_spec =

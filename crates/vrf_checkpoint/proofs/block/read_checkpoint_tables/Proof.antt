@@ -12,10 +12,10 @@ use Rattle.vrf_checkpoint.proofs.block.read_checkpoint_tables.Tie as tie
 abbrev start : tie.After-read_head → tie.Start
 start c = c.before.before.before.before
 
-abbrev head : tie.In-Of-2 → tie.After-read_head
+abbrev head : tie.In-Of → tie.After-read_head
 head c = c.before
 
-abbrev width : tie.After-read_guids → tie.In-Of-2
+abbrev width : tie.After-read_guids → tie.In-Of
 width c = c.before.before.before
 
 -- the head that was read
@@ -30,31 +30,24 @@ read-guids-requires c κs =
 
 read-rest-requires : tie.Need-read_rest-requires
 read-rest-requires c κs =
-    let t = c.before.before in
-    let known = t.before.before.before in
-    let g = known.before.before in
-    let guids = rw t.in-To.is at g.read_guids.ensures in
-    (guids.simulates.good, omega (arith, g.read_guids.auto.scratch.1.1.0, (start (head (width g))).requires.1))
+    let g = c.before.before.before.before.before.before.before in
+    let guids = rw c.in-To.is at g.read_guids.ensures in
+    (guids.simulates.good, omega (arith, g.read_guids.auto.scratch, (start (head (width g))).requires.1))
 
 returns : tie.Need-returns-in-Refused
 returns c = let h = c.before in (opened h c.in-Refused.is).simulates (start h).args.m.now (start h).requires.0
 
 returns-2 : tie.Need-returns-in-Refused-read_guids
 returns-2 c =
-    let r = c in
-    let known = r.before.before.before in
-    let g = known.before.before in
+    let g = c.before.before.before.before.before in
     let w = width g in
-    block-no-guids _ _ (opened (head w) w.in-Of.is).0 (start (head w)).requires.0 r.in-Refused-read_guids.r (rw r.in-Refused-read_guids.is at g.read_guids.ensures)
+    block-no-guids _ _ (opened (head w) w.in-Of.is).0 (start (head w)).requires.0 c.in-Refused-read_guids.r (rw c.in-Refused-read_guids.is at g.read_guids.ensures)
 
 returns-3 : tie.Need-returns-in-To
 returns-3 c =
-    let rest = c.before.before.before.before in
-    let t = rest.before.before.before in
-    let known = t.before.before.before in
-    let w = width known.before.before in
-    let g = rw t.in-To.is at known.read_guids.ensures in
-    block-then (block-guids _ _ (opened (head w) w.in-Of.is).0 (start (head w)).requires.0 g.table g.simulates) rest.read_rest.new.scratch.1.0 rest.read_rest.result (rest.read_rest.ensures g.table g.represents)
+    let w = width c.before.before.before.before.before.before.before.before.before.before.before.before in
+    let g = rw c.in-To.is at c.read_guids.ensures in
+    block-then (block-guids _ _ (opened (head w) w.in-Of.is).0 (start (head w)).requires.0 g.table g.simulates) c.read_rest.new.m c.read_rest.result (c.read_rest.ensures g.table g.represents)
 
 pub read_checkpoint_tables_spec : {M : Type 1} → statement M
 read_checkpoint_tables_spec =

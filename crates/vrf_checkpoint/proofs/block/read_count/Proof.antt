@@ -18,18 +18,16 @@ word c e = rw e at c.read_u32.ensures
 
 returns : tie.Need-returns-then-top-n
 returns c =
-    let n = c.before in
-    let a = (start n.before).args in
-    (count-over (word n.before n.in-Value.is) a.which a.top c.if-top-n.true, tt)
+    let a = (start c.before.before).args in
+    (count-over (word c.before.before c.in-Value.is) a.which a.top c.if-top-n.true, tt)
 
 returns-2 : tie.Need-returns-in-Refused
 returns-2 c = let u = c.before in (count-refused (word u c.in-Refused.is) (start u).args.which (start u).args.top, tt)
 
 returns-3 : tie.Need-returns-else-top-n
 returns-3 c =
-    let n = c.before in
-    let a = (start n.before).args in
-    (count-read (word n.before n.in-Value.is) a.which a.top (omega arith), omega arith)
+    let a = (start c.before.before).args in
+    (count-read (word c.before.before c.in-Value.is) a.which a.top (omega arith), omega arith)
 
 pub read_count_spec : {M : Type 1} → statement M
 read_count_spec =

@@ -18,20 +18,20 @@ use Rattle.vrf_checkpoint.proofs.block.read_head.Tie as tie
 abbrev start : tie.After-read_u32 → tie.Start
 start c = c.before.before
 
-abbrev width : tie.After-read_zeros → tie.In-Value-2
+abbrev width : tie.After-read_zeros → tie.In-Value
 width c = c.before
 
-abbrev zeros : tie.After-read_count → tie.In-To-2
+abbrev zeros : tie.After-read_count → tie.In-To
 zeros c = c.before
 
 -- what the calls read
 word : (c : tie.After-read_u32) {x : Word} → c.read_u32.result ≡ x → let a = (start c).args in WordAnswer a.s.now a.c (read_at a.s.now a.c word32) x
 word c e = rw e at c.read_u32.ensures
 
-first : (c : tie.In-Value-2) →
-    let a = (start c.before.before).args in
+first : (c : tie.In-Value) →
+    let a = (start c.before).args in
     WordAnswer a.s.now a.c (read_at a.s.now a.c word32) (Value c.in-Value.w c.in-Value.next)
-first c = word c.before.before c.in-Value.is
+first c = word c.before c.in-Value.is
 
 zero : (c : tie.After-read_zeros) {x : Advanced} → c.read_zeros.result ≡ x → ZerosRead (start (width c).before).args.s.now (width c).in-Value.next x
 zero c e = rw e at c.read_zeros.ensures

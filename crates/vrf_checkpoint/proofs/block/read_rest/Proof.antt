@@ -18,46 +18,30 @@ many c e = rw e at c.read_count.ensures.0
 
 read-groups-requires : tie.Need-read_groups-requires
 read-groups-requires c κs =
-    let n = c.before.before in
-    let k = n.before in
-    ((start k).requires.0, (start k).requires.1, subst (UpTo 100000) n.in-Of.is k.read_count.ensures.1)
+    let k = c.before.before.before in
+    ((start k).requires.0, (start k).requires.1, subst (UpTo 100000) c.in-Of.is k.read_count.ensures.1)
 
 returns : tie.Need-returns-in-Refused
 returns c table z =
-    let r = c in
-    let s = start r.before in
-    rest-no-count s.args.w s.args.guids table s.requires.0 r.in-Refused.r (many r.before r.in-Refused.is)
+    let s = start c.before in
+    rest-no-count s.args.w s.args.guids table s.requires.0 c.in-Refused.r (many c.before c.in-Refused.is)
 
 returns-2 : tie.Need-returns-in-Refused-read_groups
 returns-2 c table z =
-    let r = c in
-    let known = r.before.before.before in
-    let g = known.before.before in
-    let n = g.before.before.before in
-    let s = start n.before in
-    rest-no-groups s.args.w s.args.guids table s.requires.0 (many n.before n.in-Of.is) r.in-Refused-read_groups.r (rw r.in-Refused-read_groups.is at g.read_groups.ensures)
+    let s = start c.before.before.before.before.before.before.before.before.before in
+    rest-no-groups s.args.w s.args.guids table s.requires.0 (many c.before.before.before.before.before.before.before.before.before c.in-Of.is) c.in-Refused-read_groups.r (rw c.in-Refused-read_groups.is at c.read_groups.ensures)
 
 returns-3 : tie.Need-returns-in-Refused-read_end
 returns-3 c table z =
-    let r = c in
-    let f = r.before.before in
-    let known = f.before.before.before in
-    let g = known.before.before in
-    let n = g.before.before.before in
-    let s = start n.before in
-    let end = rw r.in-Refused-read_end.is at (r.read_end.ensures s.args.s.now) in
-    rest-no-end s.args.w s.args.guids table s.requires.0 (many n.before n.in-Of.is) _ (rw f.in-Read.is at g.read_groups.ensures).0 r.in-Refused-read_end.r end
+    let s = start c.before.before.before.before.before.before.before.before.before.before.before in
+    let end = rw c.in-Refused-read_end.is at (c.read_end.ensures s.args.s.now) in
+    rest-no-end s.args.w s.args.guids table s.requires.0 (many c.before.before.before.before.before.before.before.before.before.before.before c.in-Of.is) _ (rw c.in-Read.is at c.read_groups.ensures).0 c.in-Refused-read_end.r end
 
 returns-4 : tie.Need-returns-in-Of-read_end
 returns-4 c table z =
-    let r = c in
-    let f = r.before.before in
-    let known = f.before.before.before in
-    let g = known.before.before in
-    let n = g.before.before.before in
-    let s = start n.before in
-    let end = rw r.in-Of-read_end.is at (r.read_end.ensures s.args.s.now) in
-    rest_read s.args.w s.args.guids table s.requires.0 (many n.before n.in-Of.is) _ (rw f.in-Read.is at g.read_groups.ensures).0 end z
+    let s = start c.before.before.before.before.before.before.before.before.before.before.before in
+    let end = rw c.in-Of-read_end.is at (c.read_end.ensures s.args.s.now) in
+    rest_read s.args.w s.args.guids table s.requires.0 (many c.before.before.before.before.before.before.before.before.before.before.before c.in-Of.is) _ (rw c.in-Read.is at c.read_groups.ensures).0 end z
 
 pub read_rest_spec : {M : Type 1} → statement M
 read_rest_spec =

@@ -17,16 +17,14 @@ word c e = rw e at c.read_u32.ensures
 
 returns : tie.Need-returns-then-w-ne0
 returns c =
-    let w = c.before in
-    zero-set (word w.before w.in-Value.is) (start w.before).args.at c.if-w-ne0.true
+    zero-set (word c.before.before c.in-Value.is) (start c.before.before).args.at c.if-w-ne0.true
 
 returns-2 : tie.Need-returns-in-Refused
 returns-2 c = let u = c.before in zero-refused (word u c.in-Refused.is) (start u).args.at
 
 returns-3 : tie.Need-returns-else-w-ne0
 returns-3 c =
-    let w = c.before in
-    zero-read (word w.before w.in-Value.is) (start w.before).args.at c.if-w-ne0.false
+    zero-read (word c.before.before c.in-Value.is) (start c.before.before).args.at c.if-w-ne0.false
 
 pub read_zero_spec : {M : Type 1} → statement M
 read_zero_spec =

@@ -12,7 +12,7 @@ use Rattle.vrf_checkpoint.proofs.block.read_zeros.Tie as tie
 abbrev start : tie.After-read_zero → tie.Start
 start c = c.before.before
 
-abbrev second : tie.After-read_zero-in-To → tie.In-To-2
+abbrev second : tie.After-read_zero-in-To → tie.In-To
 second c = c.before
 
 zero : (c : tie.After-read_zero) {x : Advanced} → c.read_zero.result ≡ x → RefinesReading (start c).args.s.now (zero_word 4) (start c).args.c (cursor_outcome x)
@@ -31,9 +31,8 @@ returns-2 c =
 
 returns-3 : tie.Need-returns-in-To-read_zero
 returns-3 c =
-    let t = c.before in
-    let s = second t.before in
-    zeros-read (zero s.before s.in-To.is) (zero2 t.before t.in-To-read_zero.is) c.read_zero-in-To-read_zero.result c.read_zero-in-To-read_zero.ensures
+    let s = second c.before.before in
+    zeros-read (zero s.before s.in-To.is) (zero2 c.before.before c.in-To-read_zero.is) c.read_zero-in-To-read_zero.result c.read_zero-in-To-read_zero.ensures
 
 pub read_zeros_spec : {M : Type 1} → statement M
 read_zeros_spec =

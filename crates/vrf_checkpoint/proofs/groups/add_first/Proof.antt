@@ -17,16 +17,13 @@ returns c = let a = (start c.before).args in already a.path.now a.index a.slots 
 
 append-group-requires : tie.Need-append_group-requires
 append-group-requires c κs =
-    let e = c.before in
-    let s = start e.before in
-    first-asked s.args.path.now s.args.index s.args.slots s.args.m.now e.is_found.ensures e.if-is_found.false s.requires.0 s.requires.1 s.requires.2
+    let s = start c.before.before in
+    first-asked s.args.path.now s.args.index s.args.slots s.args.m.now c.is_found.ensures c.if-is_found.false s.requires.0 s.requires.1 s.requires.2
 
 returns-2 : tie.Need-returns
 returns-2 c =
-    let call = c.before.before in
-    let e = call.before.before in
-    let a = (start e.before).args in
-    subst (λ (s : Step ℕ). AddedBy s a.m.now call.append_group.new.m call.append_group.result) (sym (first-added a.path.now a.index a.slots a.m.now e.is_found.ensures e.if-is_found.false)) call.append_group.ensures
+    let a = (start c.before.before.before.before.before).args in
+    subst (λ (s : Step ℕ). AddedBy s a.m.now c.append_group.new.m c.append_group.result) (sym (first-added a.path.now a.index a.slots a.m.now c.is_found.ensures c.if-is_found.false)) c.append_group.ensures
 
 pub add_first_spec : {M : Type 1} → statement M
 add_first_spec =

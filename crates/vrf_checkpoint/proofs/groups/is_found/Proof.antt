@@ -11,15 +11,11 @@ returns c = index-found _ _ (sym (ap entry c.in-At.is) ∙ c.find_index.ensures)
 
 returns-2 : tie.Need-returns-in-At-find_path_place
 returns-2 c =
-    let call = c.before in
-    let t = call.before in
-    path-found _ _ (sym (ap entry t.in-Nowhere.is) ∙ t.find_index.ensures) (sym (ap entry c.in-At-find_path_place.is) ∙ call.find_path_place.ensures)
+    path-found _ _ (sym (ap entry c.in-Nowhere.is) ∙ c.find_index.ensures) (sym (ap entry c.in-At-find_path_place.is) ∙ c.find_path_place.ensures)
 
 returns-3 : tie.Need-returns-in-Nowhere-find_path_place
 returns-3 c =
-    let call = c.before in
-    let t = call.before in
-    none_found _ _ (sym (ap entry t.in-Nowhere.is) ∙ t.find_index.ensures) (sym (ap entry c.in-Nowhere-find_path_place.is) ∙ call.find_path_place.ensures)
+    none_found _ _ (sym (ap entry c.in-Nowhere.is) ∙ c.find_index.ensures) (sym (ap entry c.in-Nowhere-find_path_place.is) ∙ c.find_path_place.ensures)
 
 pub is_found_spec : {M : Type 1} → statement M
 is_found_spec =

@@ -10,41 +10,23 @@ start c = c.before.before.before.before
 
 returns : tie.Need-returns-then-slots-gt65536
 returns c =
-    let n = c.before in
-    let w = n.before in
-    let i = w.before in
-    too_many _ (start i.before).requires.0 (rw i.in-Value.is at i.read_int_packed.ensures) (rw n.in-Value-read_int_packed.is at w.read_int_packed-in-Value.ensures) c.if-slots-gt65536.true
+    too_many _ (start c.before.before.before.before).requires.0 (rw c.in-Value.is at c.read_int_packed.ensures) (rw c.in-Value-read_int_packed.is at c.read_int_packed-in-Value.ensures) c.if-slots-gt65536.true
 
 returns-2 : tie.Need-returns-in-Refused
 returns-2 c =
-    let r = c in
-    no_index _ (start r.before).requires.0 r.in-Refused.r (rw r.in-Refused.is at r.read_int_packed.ensures)
+    no_index _ (start c.before).requires.0 c.in-Refused.r (rw c.in-Refused.is at c.read_int_packed.ensures)
 
 returns-3 : tie.Need-returns-in-Refused-read_int_packed
 returns-3 c =
-    let r = c in
-    let w = r.before in
-    let i = w.before in
-    no-count _ (start i.before).requires.0 (rw i.in-Value.is at i.read_int_packed.ensures) r.in-Refused-read_int_packed.r (rw r.in-Refused-read_int_packed.is at w.read_int_packed-in-Value.ensures)
+    no-count _ (start c.before.before.before).requires.0 (rw c.in-Value.is at c.read_int_packed.ensures) c.in-Refused-read_int_packed.r (rw c.in-Refused-read_int_packed.is at c.read_int_packed-in-Value.ensures)
 
 returns-4 : tie.Need-returns-in-Refused-add_first
 returns-4 c =
-    let r = c in
-    let add = r.before.before.before in
-    let e = add.before.before in
-    let n = e.before in
-    let w = n.before in
-    let i = w.before in
-    not-added _ (start i.before).requires.0 (rw i.in-Value.is at i.read_int_packed.ensures) (rw n.in-Value-read_int_packed.is at w.read_int_packed-in-Value.ensures) e.if-slots-gt65536.false r.in-Refused-add_first.r (rw r.in-Refused-add_first.is at add.add_first.ensures)
+    not-added _ (start c.before.before.before.before.before.before.before.before.before).requires.0 (rw c.in-Value.is at c.read_int_packed.ensures) (rw c.in-Value-read_int_packed.is at c.read_int_packed-in-Value.ensures) c.if-slots-gt65536.false c.in-Refused-add_first.r (rw c.in-Refused-add_first.is at c.add_first.ensures)
 
 returns-5 : tie.Need-returns-in-At
 returns-5 c =
-    let add = c.before.before.before in
-    let e = add.before.before in
-    let n = e.before in
-    let w = n.before in
-    let i = w.before in
-    (added _ (start i.before).requires.0 (rw i.in-Value.is at i.read_int_packed.ensures) (rw n.in-Value-read_int_packed.is at w.read_int_packed-in-Value.ensures) e.if-slots-gt65536.false (rw c.in-At.is at add.add_first.ensures), e.if-slots-gt65536.false)
+    (added _ (start c.before.before.before.before.before.before.before.before.before).requires.0 (rw c.in-Value.is at c.read_int_packed.ensures) (rw c.in-Value-read_int_packed.is at c.read_int_packed-in-Value.ensures) c.if-slots-gt65536.false (rw c.in-At.is at c.add_first.ensures), c.if-slots-gt65536.false)
 
 pub read_declared_spec : {M : Type 1} → statement M
 read_declared_spec =

@@ -13,7 +13,7 @@ use Rattle.vrf_checkpoint.proofs.groups.read_field.Tie as tie
 abbrev start : tie.After-read_int_packed → tie.Start
 start c = c.before.before.before.before
 
-abbrev read : tie.In-Value-2 → tie.After-read_int_packed
+abbrev read : tie.In-Value → tie.After-read_int_packed
 read c = c.before
 
 abbrev same : tie.After-named_field → tie.Else-handle-slot
@@ -27,25 +27,20 @@ returns c = let h = c.before in other-handle _ _ (start (read h)).requires.0 (wo
 
 returns-2 : tie.Need-returns-in-Refused
 returns-2 c =
-    let r = c in
-    let w = r.before in
-    no-handle _ _ (start w).requires.0 r.in-Refused.r (word w r.in-Refused.is)
+    let w = c.before in
+    no-handle _ _ (start w).requires.0 c.in-Refused.r (word w c.in-Refused.is)
 
 returns-3 : tie.Need-returns-in-Refused-named_field
 returns-3 c =
-    let r = c in
-    let known = r.before in
-    let f = known.before.before.before.before in
+    let f = c.before.before.before.before.before in
     let h = (same f).before in
-    field-refused _ _ (start (read h)).requires.0 (word (read h) h.in-Value.is) (same f).if-handle-slot.false r.in-Refused-named_field.r (rw r.in-Refused-named_field.is at f.named_field.ensures)
+    field-refused _ _ (start (read h)).requires.0 (word (read h) h.in-Value.is) (same f).if-handle-slot.false c.in-Refused-named_field.r (rw c.in-Refused-named_field.is at f.named_field.ensures)
 
 returns-4 : tie.Need-returns-in-To
 returns-4 c =
-    let e = c in
-    let known = e.before in
-    let f = known.before.before.before.before in
+    let f = c.before.before.before.before.before in
     let h = (same f).before in
-    (field-read _ _ (start (read h)).requires.0 (word (read h) h.in-Value.is) (same f).if-handle-slot.false (rw e.in-To.is at f.named_field.ensures), omega (arith, c))
+    (field-read _ _ (start (read h)).requires.0 (word (read h) h.in-Value.is) (same f).if-handle-slot.false (rw c.in-To.is at f.named_field.ensures), omega (arith, c))
 
 pub read_field_spec : {M : Type 1} → statement M
 read_field_spec =

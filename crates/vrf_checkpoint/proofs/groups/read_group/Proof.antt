@@ -14,17 +14,16 @@ use Rattle.vrf_checkpoint.proofs.groups.read_group.Tie as tie
 -- the places before, and the path
 abbrev start : tie.After-read_text → tie.Start
 start c =
-    let known = c.before.before in
-    known.before.before.before
+    c.before.before.before.before.before
 
 abbrev text : tie.After-slice_known-3-1 → tie.After-read_text
 text c = c.before.before
 
-abbrev named : tie.After-read_declared → tie.In-Read-2
+abbrev named : tie.After-read_declared → tie.In-Read
 named c = c.before.before
 
-path : (c : tie.In-Read-2) →
-    let t = text c.before.before in
+path : (c : tie.In-Read) →
+    let t = text c.before in
     let a = (start t).args in
     TextIn a.s.now a.c (read_at a.s.now a.c fstring) t.read_text.last.1.1.0 (Read c.in-Read.n c.in-Read.next)
 path c = rw c.in-Read.is at c.read_text.ensures
@@ -36,30 +35,25 @@ read-declared-requires c κs =
 
 read-slots-requires : tie.Need-read_slots-requires
 read-slots-requires c κs =
-    let i = c.before.before in
-    let d = i.before.before.before in
+    let d = c.before.before.before.before.before in
     let t = text (named d).before in
-    let g = rw i.in-Slots.is at d.read_declared.ensures in
+    let g = rw c.in-Slots.is at d.read_declared.ensures in
     (g.0.good, omega (arith, t.read_text.kept.1.1.0, (start t).requires.1), g.1)
 
 returns : tie.Need-returns-in-Refused
 returns c =
-    let r = c in
-    let t = r.before.before.before in
-    no-path (start t).requires.0 r.in-Refused.r (rw r.in-Refused.is at t.read_text.ensures)
+    let t = c.before.before.before in
+    no-path (start t).requires.0 c.in-Refused.r (rw c.in-Refused.is at t.read_text.ensures)
 
 returns-2 : tie.Need-returns-in-Refused-read_declared
 returns-2 c =
-    let r = c in
-    let d = r.before.before.before in
-    group-refused (start (text (named d).before)).requires.0 (path (named d)) r.in-Refused-read_declared.r (rw r.in-Refused-read_declared.is at d.read_declared.ensures)
+    let d = c.before.before.before in
+    group-refused (start (text (named d).before)).requires.0 (path (named d)) c.in-Refused-read_declared.r (rw c.in-Refused-read_declared.is at d.read_declared.ensures)
 
 returns-3 : tie.Need-returns-in-Slots
 returns-3 c =
-    let slots = c.before.before.before.before in
-    let i = slots.before.before.before in
-    let d = i.before.before.before in
-    group-then (start (text (named d).before)).requires.0 (path (named d)) i.in-Slots.index i.in-Slots.slots (rw i.in-Slots.is at d.read_declared.ensures).0 slots.read_slots.new.scratch.1.0 slots.read_slots.result slots.read_slots.ensures
+    let d = c.before.before.before.before.before.before.before.before.before.before in
+    group-then (start (text (named d).before)).requires.0 (path (named d)) c.in-Slots.index c.in-Slots.slots (rw c.in-Slots.is at d.read_declared.ensures).0 c.read_slots.new.m c.read_slots.result c.read_slots.ensures
 
 pub read_group_spec : {M : Type 1} → statement M
 read_group_spec =

@@ -30,14 +30,14 @@ test c = c.before.before.before
 sum : (c : tie.After-read_group invariant-loop decreases-loop) {x : Fields} → c.read_group.result ≡ x →
     let l = (test c).loop in
     let a = (start (test c).before).args in
-    CountReads a.s.now block_group l.at l.m-1 c.read_group.new.scratch.1.0 65536 x
+    CountReads a.s.now block_group l.at l.m c.read_group.new.m 65536 x
 sum c e = rw e at c.read_group.ensures
 
 loop-holds : tie.Need-loop-init invariant-loop decreases-loop
 loop-holds c = (none_read c.requires.0, omega arith, refl)
 
 read-group-requires : tie.Need-read_group-requires invariant-loop decreases-loop
-read-group-requires c κs = let at-loop = c.before.before.before in (at-loop.loop.invariant.0.simulates.good, omega (arith, at-loop.loop.invariant.2))
+read-group-requires c κs = (c.loop.invariant.0.simulates.good, omega (arith, c.loop.invariant.2))
 
 returns : tie.Need-returns-in-Refused invariant-loop decreases-loop
 returns c =

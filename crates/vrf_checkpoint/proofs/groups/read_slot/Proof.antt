@@ -16,16 +16,12 @@ returns c =
 
 returns-2 : tie.Need-returns-in-Refused
 returns-2 c =
-    let r = c in
-    no_byte _ _ (start r.before).requires.0 r.in-Refused.r (rw r.in-Refused.is at r.read_u8.ensures)
+    no_byte _ _ (start c.before).requires.0 c.in-Refused.r (rw c.in-Refused.is at c.read_u8.ensures)
 
 returns-3 : tie.Need-returns-else-exported-eq0
 returns-3 c =
-    let f = c.before.before.before.before in
-    let e = f.before.before.before in
-    let x = e.before in
-    let s = start x.before in
-    slot-filled s.args.index s.args.slot s.requires.0 (rw x.in-Value.is at x.read_u8.ensures) e.if-exported-eq0.false f.read_field.new.scratch.1.0 f.read_field.result f.read_field.ensures
+    let s = start c.before.before.before.before.before.before.before.before.before in
+    slot-filled s.args.index s.args.slot s.requires.0 (rw c.in-Value.is at c.read_u8.ensures) c.if-exported-eq0.false c.read_field.new.m c.read_field.result c.read_field.ensures
 
 pub read_slot_spec : {M : Type 1} → statement M
 read_slot_spec =

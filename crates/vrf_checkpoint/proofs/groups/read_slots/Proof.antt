@@ -30,14 +30,14 @@ test c = c.before.before.before
 sum : (c : tie.After-read_slot invariant-loop decreases-loop) {x : Fields} → c.read_slot.result ≡ x →
     let l = (test c).loop-slot in
     let a = (start (test c).before).args in
-    CountReads a.s.now (block_slot a.index l.slot) l.at l.m-1 c.read_slot.new.scratch.1.0 1 x
+    CountReads a.s.now (block_slot a.index l.slot) l.at l.m c.read_slot.new.m 1 x
 sum c e = rw e at c.read_slot.ensures
 
 loop-holds : tie.Need-loop-slot-init invariant-loop decreases-loop
 loop-holds c = (none_read c.requires.0, omega arith, refl)
 
 read-slot-requires : tie.Need-read_slot-requires invariant-loop decreases-loop
-read-slot-requires c κs = let at-loop = c.before.before.before in (at-loop.loop-slot.invariant.0.simulates.good, omega (arith, at-loop.loop-slot.invariant.2))
+read-slot-requires c κs = (c.loop-slot.invariant.0.simulates.good, omega (arith, c.loop-slot.invariant.2))
 
 returns : tie.Need-returns-in-Refused invariant-loop decreases-loop
 returns c =

@@ -23,18 +23,13 @@ returns c =
 
 returns-2 : tie.Need-returns-in-Refused-set_net_guid_path
 returns-2 c =
-    let r = c in
-    let set = r.before.before.before in
-    let n = set.before.before in
-    let s = start n.before in
-    set-refused s.requires.0 s.args.guid s.args.path.now s.args.outer (flags n.before n.in-Value.is) (rw r.in-Refused-set_net_guid_path.is at set.set_net_guid_path.ensures)
+    let s = start c.before.before.before.before.before.before in
+    set-refused s.requires.0 s.args.guid s.args.path.now s.args.outer (flags c.before.before.before.before.before.before c.in-Value.is) (rw c.in-Refused-set_net_guid_path.is at c.set_net_guid_path.ensures)
 
 returns-3 : tie.Need-returns-in-Done
 returns-3 c =
-    let set = c.before.before.before in
-    let n = set.before.before in
-    let s = start n.before in
-    set-taken s.requires.0 s.args.guid s.args.path.now s.args.outer (flags n.before n.in-Value.is) (rw c.in-Done.is at set.set_net_guid_path.ensures)
+    let s = start c.before.before.before.before.before.before in
+    set-taken s.requires.0 s.args.guid s.args.path.now s.args.outer (flags c.before.before.before.before.before.before c.in-Value.is) (rw c.in-Done.is at c.set_net_guid_path.ensures)
 
 pub read_end_spec : {M : Type 1} → statement M
 read_end_spec =

@@ -13,10 +13,10 @@ use Rattle.vrf_checkpoint.proofs.guids.read_guid.Tie as tie
 abbrev start : tie.After-read_int_packed → tie.Start
 start c = c.before.before.before.before
 
-abbrev read : tie.In-Value-2 → tie.After-read_int_packed
+abbrev read : tie.In-Value → tie.After-read_int_packed
 read c = c.before
 
-abbrev guid : tie.After-read_int_packed-in-Value → tie.In-Value-2
+abbrev guid : tie.After-read_int_packed-in-Value → tie.In-Value
 guid c = c.before
 
 -- the first word
@@ -25,10 +25,9 @@ word c e = rw e at c.read_int_packed.ensures
 
 read-named-requires : tie.Need-read_named-requires
 read-named-requires c κs =
-    let o = c.before.before in
-    let w = guid o.before in
+    let w = guid c.before.before.before in
     let g = word (read w) w.in-Value.is in
-    let h = rw o.in-Value-read_int_packed.is at o.read_int_packed-in-Value.ensures in
+    let h = rw c.in-Value-read_int_packed.is at c.read_int_packed-in-Value.ensures in
     counting-on (h.first ∙ g.first) (h.count ∙ g.count) (start (read w)).requires
 
 returns : tie.Need-returns-in-Refused
@@ -43,13 +42,11 @@ returns-2 c table represents =
 
 returns-3 : tie.Need-returns-in-Value-read_int_packed
 returns-3 c table represents =
-    let n = c.before.before.before.before in
-    let o = n.before.before.before in
-    let w = guid o.before in
+    let w = guid c.before.before.before.before.before.before.before.before in
     let s = start (read w) in
     let g = word (read w) w.in-Value.is in
-    let h = rw o.in-Value-read_int_packed.is at o.read_int_packed-in-Value.ensures in
-    guid-on (guid-simulates s.requires.good s.args.entry table g h) n.read_named.new.scratch.1.0 (s.args.entry + 1) n.read_named.result (n.read_named.ensures table (represents-on (h.first ∙ g.first) (h.count ∙ g.count) refl represents))
+    let h = rw c.in-Value-read_int_packed.is at c.read_int_packed-in-Value.ensures in
+    guid-on (guid-simulates s.requires.good s.args.entry table g h) c.read_named.new.m (s.args.entry + 1) c.read_named.result (c.read_named.ensures table (represents-on (h.first ∙ g.first) (h.count ∙ g.count) refl represents))
 
 pub read_guid_spec : {M : Type 1} → statement M
 read_guid_spec =

@@ -29,31 +29,28 @@ test c = c.before.before.before
 
 reads : (c : tie.After-read_guid invariant-loop decreases-loop) {x : Guids} → c.read_guid.result ≡ x →
     let l = (test c).loop-entry in
-    GuidReads (start (test c).before).args.s.now (block_guid by_table l.entry l.inv.0.table) l.at l.m-1 c.read_guid.new.scratch.1.0 (l.entry + 1) x
+    GuidReads (start (test c).before).args.s.now (block_guid by_table l.entry l.inv.0.table) l.at l.m c.read_guid.new.m (l.entry + 1) x
 reads c e = rw e at (c.read_guid.ensures _ (test c).loop-entry.invariant.0.represents)
 
 loop-holds : tie.Need-loop-entry-init invariant-loop decreases-loop
-loop-holds c = let s = c.before.before.before in (entries_none s.args.s.now s.args.n s.args.c s.requires.0, refl)
+loop-holds c = (entries_none c.args.s.now c.args.n c.args.c c.requires.0, refl)
 
 read-guid-requires : tie.Need-read_guid-requires invariant-loop decreases-loop
 read-guid-requires c κs =
-    let t = c.before.before in
-    let i = t.loop-entry.invariant in
-    let p = (start t.before).requires in
-    entries-counting i.0 (omega (arith, i.1, p.1)) p.2 t.loop-entry-test.true
+    let i = c.loop-entry.invariant in
+    let p = (start c.before.before.before).requires in
+    entries-counting i.0 (omega (arith, i.1, p.1)) p.2 c.loop-entry-test.true
 
 returns : tie.Need-returns-in-Refused invariant-loop decreases-loop
 returns c =
-    let r = c in
-    let g = turn r.before in
-    entries-refused (test g).loop-entry.inv.0 (test g).loop-entry-test.taken r.in-Refused.r (reads g r.in-Refused.is)
+    let g = turn c.before in
+    entries-refused (test g).loop-entry.inv.0 (test g).loop-entry-test.taken c.in-Refused.r (reads g c.in-Refused.is)
 
 loop-again : tie.Need-loop-entry-preserved invariant-loop decreases-loop
 loop-again c =
-    let r = c in
-    let g = turn r.before in
+    let g = turn c.before in
     let i = (test g).loop-entry.inv in
-    (entries-more i.0 (test g).loop-entry-test.taken (reads g r.in-To.is), omega (arith, i.1))
+    (entries-more i.0 (test g).loop-entry-test.taken (reads g c.in-To.is), omega (arith, i.1))
 
 pub read_guids_spec : {M : Type 1} → statement M
 read_guids_spec =

@@ -13,35 +13,29 @@ use Rattle.vrf_checkpoint.proofs.guids.read_literal.Tie as tie
 -- the places before, and the text
 abbrev start : tie.After-read_text → tie.Start
 start c =
-    let known = c.before.before in
-    known.before.before.before
+    c.before.before.before.before.before
 
-abbrev read : tie.In-Read-2 → tie.After-read_text
+abbrev read : tie.In-Read → tie.After-read_text
 read c = c.before.before.before
 
-text : (c : tie.After-read_text) {x : Text} → c.read_text.result ≡ x → let a = (start c).args in TextIn a.s.now a.c (read_at a.s.now a.c fstring) c.read_text.new.1.1.0 x
+text : (c : tie.After-read_text) {x : Text} → c.read_text.result ≡ x → let a = (start c).args in TextIn a.s.now a.c (read_at a.s.now a.c fstring) c.read_text.new.scratch x
 text c e = rw e at c.read_text.ensures
 
 returns : tie.Need-returns-then-literals_allowed-t
 returns c table represents =
-    let l = c.before.before in
-    let n = l.before in
-    literal-passed (start (read n)).requires.good represents (text (read n) n.in-Read.is).gave (omega (arith, c.if-literals_allowed-t.true, l.literals_allowed.ensures.0))
+    let n = c.before.before.before in
+    literal-passed (start (read n)).requires.good represents (text (read n) n.in-Read.is).gave (omega (arith, c.if-literals_allowed-t.true, c.literals_allowed.ensures.0))
 
 returns-2 : tie.Need-returns-in-Refused
 returns-2 c table represents =
-    let r = c in
-    let t = r.before.before.before in
-    no-literal (start t).requires.good represents (text t r.in-Refused.is)
+    let t = c.before.before.before in
+    no-literal (start t).requires.good represents (text t c.in-Refused.is)
 
 returns-3 : tie.Need-returns-else-literals_allowed-t
 returns-3 c table represents =
-    let put = c.before.before.before in
-    let e = put.before.before in
-    let l = e.before.before in
-    let n = l.before in
+    let n = c.before.before.before.before.before.before.before.before in
     let s = start (read n) in
-    literal-taken s.requires.good represents (text (read n) n.in-Read.is) s.requires.few (omega (arith, e.if-literals_allowed-t.false, l.literals_allowed.ensures.0)) (omega (arith, s)) put.put_literal.ensures
+    literal-taken s.requires.good represents (text (read n) n.in-Read.is) s.requires.few (omega (arith, c.if-literals_allowed-t.false, c.literals_allowed.ensures.0)) (omega (arith, s)) c.put_literal.ensures
 
 pub read_literal_spec : {M : Type 1} → statement M
 read_literal_spec =

@@ -12,49 +12,41 @@ use Rattle.vrf_checkpoint.proofs.guids.read_named.Tie as tie
 -- the places before
 abbrev start : tie.After-read_path → tie.Start
 start c =
-    let known = c.before.before.before in
-    known.before.before.before
+    c.before.before.before.before.before.before
 
 abbrev path : tie.After-slice_known-4-1 → tie.After-read_path
 path c = c.before.before.before.before
 
 -- the path that was read
-reads : (c : tie.After-read_path) {p : Path} → c.read_path.result ≡ p → let a = (start c).args in PathBy (path_at a.entry) a.s.now a.c a.m.now c.read_path.new.scratch.1.0 c.read_path.new.scratch.1.1.0 a.entry a.t p
+reads : (c : tie.After-read_path) {p : Path} → c.read_path.result ≡ p → let a = (start c).args in PathBy (path_at a.entry) a.s.now a.c a.m.now c.read_path.new.m c.read_path.new.scratch a.entry a.t p
 reads c e = rw e at c.read_path.ensures
 
-text : (c : tie.In-Of-2) →
-    let p = path c.before.before in
+text : (c : tie.In-Of) →
+    let p = path c.before in
     let a = (start p).args in
     PathOf a.s.now (path_at a.entry (start p).requires.table) a.c a.m.now p.read_path.last.1.1.0 p.read_path.last.1.1.1.0 a.entry c.in-Of.n c.in-Of.t c.in-Of.next
-text c = let p = path c.before.before in reads p c.in-Of.is (start p).requires.table (start p).requires.represents
+text c = let p = path c.before in reads p c.in-Of.is (start p).requires.table (start p).requires.represents
 
 read-end-requires : tie.Need-read_end-requires
 read-end-requires c κs = let of = text c.before in (of.simulates.good, subst IsText (sym of.here) of.is_text)
 
 returns : tie.Need-returns-in-Refused
 returns c table represents =
-    let r = c in
-    let p = path r.before in
+    let p = path c.before in
     let a = (start p).args in
-    no-path a.guid a.outer a.entry table r.in-Refused.r (reads p r.in-Refused.is table represents)
+    no-path a.guid a.outer a.entry table c.in-Refused.r (reads p c.in-Refused.is table represents)
 
 returns-2 : tie.Need-returns-in-Refused-read_end
 returns-2 c table represents =
-    let r = c in
-    let e = r.before.before.before in
-    let n = e.before.before in
-    let p = path n.before.before in
+    let p = path c.before.before.before.before.before.before.before in
     let a = (start p).args in
-    entry-refused a.guid a.outer a.entry table (reads p n.in-Of.is table represents) (rw r.in-Refused-read_end.is at e.read_end.ensures)
+    entry-refused a.guid a.outer a.entry table (reads p c.in-Of.is table represents) (rw c.in-Refused-read_end.is at c.read_end.ensures)
 
 returns-3 : tie.Need-returns-in-To
 returns-3 c table represents =
-    let r = c in
-    let e = r.before.before.before in
-    let n = e.before.before in
-    let p = path n.before.before in
+    let p = path c.before.before.before.before.before.before.before in
     let a = (start p).args in
-    entry-ended a.guid a.outer a.entry table (reads p n.in-Of.is table represents) (rw r.in-To.is at e.read_end.ensures)
+    entry-ended a.guid a.outer a.entry table (reads p c.in-Of.is table represents) (rw c.in-To.is at c.read_end.ensures)
 
 pub read_named_spec : {M : Type 1} → statement M
 read_named_spec =

@@ -13,14 +13,14 @@ use Rattle.vrf_checkpoint.proofs.guids.read_path.Tie as tie
 abbrev start : tie.After-read_u8 → tie.Start
 start c = c.before.before.before.before
 
-abbrev read : tie.In-Value-2 → tie.After-read_u8
+abbrev read : tie.In-Value → tie.After-read_u8
 read c = c.before
 
 kind : (c : tie.After-read_u8) {b : Byte} → c.read_u8.result ≡ b → let a = (start c).args in ByteAnswer a.s.now a.c (read_at a.s.now a.c byte) b
 kind c e = rw e at c.read_u8.ensures
 
 -- the entry, from the kind on
-asked : (c : tie.In-Value-2) → let a = (start (read c)).args in BeforeEntry a.s.now c.in-Value.next a.m.now a.scratch.now a.entry a.t
+asked : (c : tie.In-Value) → let a = (start (read c)).args in BeforeEntry a.s.now c.in-Value.next a.m.now a.scratch.now a.entry a.t
 asked c = let g = kind (read c) c.in-Value.is in counting-on g.first g.count (start (read c)).requires
 
 returns : tie.Need-returns-in-Refused
@@ -28,22 +28,18 @@ returns c table represents = let u = c.before in no_kind (start u).requires.good
 
 returns-2 : tie.Need-returns-in-0
 returns-2 c table represents =
-    let p = c.before.before in
-    let m = p.before.before.before in
-    let k = m in
+    let k = c.before.before.before.before.before in
     let s = start (read k) in
     let g = kind (read k) k.in-Value.is in
-    path-on (place-kind s.requires.good s.args.entry table g m.in-0.is) s.args.m.now p.read_place.new.1.1.1.0 s.args.entry p.read_place.result (p.read_place.ensures table (represents-on g.first g.count refl represents))
+    path-on (place-kind s.requires.good s.args.entry table g c.in-0.is) s.args.m.now c.read_place.new.scratch s.args.entry c.read_place.result (c.read_place.ensures table (represents-on g.first g.count refl represents))
 
 returns-3 : tie.Need-returns-in-1
 returns-3 c table represents =
-    let p = c.before.before.before.before in
-    let m = p.before.before.before in
-    let k = m.before in
+    let k = c.before.before.before.before.before.before.before.before in
     let s = start (read k) in
     let g = kind (read k) k.in-Value.is in
-    let call = p.read_literal in
-    path-on (literal-kind s.requires.good s.args.entry table g m.in-1.is) call.new.1.1.0 call.new.1.1.1.0 s.args.entry call.result (call.ensures table (represents-on g.first g.count refl represents))
+    let call = c.read_literal in
+    path-on (literal-kind s.requires.good s.args.entry table g c.in-1.is) call.new.1.1.0 call.new.1.1.1.0 s.args.entry call.result (call.ensures table (represents-on g.first g.count refl represents))
 
 returns-4 : tie.Need-returns-in_default
 returns-4 c table represents =

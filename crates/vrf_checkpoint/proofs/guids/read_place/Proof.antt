@@ -12,13 +12,13 @@ use Rattle.vrf_checkpoint.proofs.guids.read_place.Tie as tie
 abbrev start : tie.After-read_int_packed → tie.Start
 start c = c.before.before.before.before
 
-abbrev read : tie.In-Value-2 → tie.After-read_int_packed
+abbrev read : tie.In-Value → tie.After-read_int_packed
 read c = c.before
 
 abbrev found : tie.After-reread → tie.Else-t-place
 found c = c.before.before
 
-abbrev place : tie.Else-t-place → tie.In-Value-2
+abbrev place : tie.Else-t-place → tie.In-Value
 place c = c.before.before
 
 -- the place that was read
@@ -36,19 +36,17 @@ returns-2 c table represents = let w = c.before in no_place (start w).requires.g
 
 returns-3 : tie.Need-returns-in-Refused-reread
 returns-3 c table represents =
-    let r = c in
-    let again = r.before.before.before in
+    let again = c.before.before.before in
     let p = place (found again) in
     let s = start (read p) in
-    place_found s.requires.good represents s.args.entry (word (read p) p.in-Value.is) (found again).if-t-place.false (rw r.in-Refused-reread.is at again.reread.ensures)
+    place_found s.requires.good represents s.args.entry (word (read p) p.in-Value.is) (found again).if-t-place.false (rw c.in-Refused-reread.is at again.reread.ensures)
 
 returns-4 : tie.Need-returns-in-Read
 returns-4 c table represents =
-    let n = c.before.before in
-    let again = n.before.before.before in
+    let again = c.before.before.before.before.before in
     let p = place (found again) in
     let s = start (read p) in
-    place-taken s.requires.good represents s.args.entry (word (read p) p.in-Value.is) (found again).if-t-place.false (rw n.in-Read.is at again.reread.ensures) s.requires.few
+    place-taken s.requires.good represents s.args.entry (word (read p) p.in-Value.is) (found again).if-t-place.false (rw c.in-Read.is at again.reread.ensures) s.requires.few
 
 pub read_place_spec : {M : Type 1} → statement M
 read_place_spec =

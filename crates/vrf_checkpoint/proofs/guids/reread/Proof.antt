@@ -11,13 +11,10 @@ use Rattle.vrf_checkpoint.proofs.guids.reread.Tie as tie
 
 returns : tie.Need-returns
 returns c =
-    let after-read-text = c.before.before in
-    let after-literal-at = after-read-text.before.before in
-    let start = after-literal-at.before.before.before.before in
-    let a = start.args in
-    let call = after-read-text.read_text in
+    let a = c.args in
+    let call = c.read_text in
     let at : ℕ → Cursor = λ p. record { first = a.c.first; count = a.c.count; pos = p } in
-    subst (λ (p : ℕ). TextIn a.s.now (at p) (read_at a.s.now (at p) fstring) call.new.1.1.0 call.result) after-literal-at.literal_at.ensures call.ensures
+    subst (λ (p : ℕ). TextIn a.s.now (at p) (read_at a.s.now (at p) fstring) call.new.1.1.0 call.result) c.literal_at.ensures call.ensures
 
 pub reread_spec : {M : Type 1} → statement M
 reread_spec = tie.close (tie.spec (λ c κs. search rules) (λ c κs. search rules) (λ c. search rules) returns)

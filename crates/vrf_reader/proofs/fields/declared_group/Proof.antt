@@ -14,18 +14,17 @@ use Rattle.vrf_reader.proofs.fields.declared_group.Tie as tie
 -- the places before, and the path
 abbrev start : tie.After-read_text → tie.Start
 start c =
-    let known = c.before.before in
-    known.before.before.before
+    c.before.before.before.before.before
 
-abbrev read : tie.In-Read-2 → tie.After-read_text
+abbrev read : tie.In-Read → tie.After-read_text
 read c = c.before.before.before
 
-abbrev named : tie.In-Value-2 → tie.In-Read-2
+abbrev named : tie.In-Value → tie.In-Read
 named c = c.before.before
 
-path : (c : tie.In-Read-2) →
+path : (c : tie.In-Read) →
     let a = (start (read c)).args in
-    TextRead a.s.now a.c (read_at a.s.now a.c fstring) (read c).read_text.new.1.1.0 c.in-Read.n c.in-Read.next
+    TextRead a.s.now a.c (read_at a.s.now a.c fstring) (read c).read_text.new.scratch c.in-Read.n c.in-Read.next
 path c = rw c.in-Read.is at c.read_text.ensures
 
 returns : tie.Need-returns-then-slots-gt-MAX_SLOTS
@@ -36,40 +35,31 @@ returns c =
 
 add-export-group-requires : tie.Need-add_export_group-requires
 add-export-group-requires c κs =
-    let e = c.before.before in
-    let n = named e in
-    ((start (read n)).requires.0, scratch-text fstring-reads (path n), e.if-slots-gt-MAX_SLOTS.false)
+    let n = named c.before.before in
+    ((start (read n)).requires.0, scratch-text fstring-reads (path n), c.if-slots-gt-MAX_SLOTS.false)
 
 returns-2 : tie.Need-returns-in-Refused
 unfolding declared_group
 returns-2 c =
-    let r = c in
-    let t = r.before.before.before in
-    read-stops fstring _ (start t).requires.0 (rw r.in-Refused.is at t.read_text.ensures)
+    let t = c.before.before.before in
+    read-stops fstring _ (start t).requires.0 (rw c.in-Refused.is at t.read_text.ensures)
 
 returns-3 : tie.Need-returns-in-Refused-read_int_packed
 returns-3 c =
-    let r = c in
-    let w = r.before in
-    let n = w.before in
-    no-slots _ (start (read n)).requires.0 (path n) (rw r.in-Refused-read_int_packed.is at w.read_int_packed.ensures)
+    let n = c.before.before in
+    no-slots _ (start (read n)).requires.0 (path n) (rw c.in-Refused-read_int_packed.is at c.read_int_packed.ensures)
 
 returns-4 : tie.Need-returns-in-Refused-add_export_group
 returns-4 c =
-    let r = c in
-    let add = r.before.before.before in
-    let e = add.before.before.before in
-    let m = e in
+    let m = c.before.before.before.before.before.before in
     let n = named m in
-    adding-refused _ (start (read n)).requires.0 (path n) (rw m.in-Value.is at m.read_int_packed.ensures) e.if-slots-gt-MAX_SLOTS.false (rw r.in-Refused-add_export_group.is at add.add_export_group.ensures)
+    adding-refused _ (start (read n)).requires.0 (path n) (rw m.in-Value.is at m.read_int_packed.ensures) c.if-slots-gt-MAX_SLOTS.false (rw c.in-Refused-add_export_group.is at c.add_export_group.ensures)
 
 returns-5 : tie.Need-returns-in-At
 returns-5 c =
-    let add = c.before.before.before in
-    let e = add.before.before.before in
-    let m = e in
+    let m = c.before.before.before.before.before.before in
     let n = named m in
-    group-added _ (start (read n)).requires.0 (path n) (rw m.in-Value.is at m.read_int_packed.ensures) e.if-slots-gt-MAX_SLOTS.false (rw c.in-At.is at add.add_export_group.ensures)
+    group-added _ (start (read n)).requires.0 (path n) (rw m.in-Value.is at m.read_int_packed.ensures) c.if-slots-gt-MAX_SLOTS.false (rw c.in-At.is at c.add_export_group.ensures)
 
 pub declared_group_spec : {M : Type 1} → statement M
 declared_group_spec =

@@ -15,12 +15,7 @@ start c = c.before.before.before.before
 
 field-of-requires : tie.Need-field_of-requires
 field-of-requires c κs =
-    let f = c.before.before in
-    let known = f.before.before.before in
-    let g = known.before.before in
-    let flag = g.before.before.before in
-    let i = flag.before.before in
-    ((rw f.in-To.is at g.Group-of.ensures).good, omega (arith, g.Group-of.auto.1.1.1.0, (start i.before).requires.1))
+    ((rw c.in-To.is at c.Group-of.ensures).good, omega (arith, c.Group-of.auto.1.1.1.0, (start c.before.before.before.before.before.before.before.before.before.before.before.before.before).requires.1))
 
 returns : tie.Need-returns-in-Refused
 unfolding export_entry
@@ -28,31 +23,17 @@ returns c = let w = c.before in read-stops packed _ (start w).requires.0 (rw c.i
 
 returns-2 : tie.Need-returns-in-Refused-read_int_packed
 returns-2 c =
-    let r = c in
-    let w = r.before in
-    let i = w.before in
-    no_flag (start i.before).requires.0 (rw i.in-Value.is at i.read_int_packed.ensures) (rw r.in-Refused-read_int_packed.is at w.read_int_packed-in-Value.ensures)
+    no_flag (start c.before.before.before).requires.0 (rw c.in-Value.is at c.read_int_packed.ensures) (rw c.in-Refused-read_int_packed.is at c.read_int_packed-in-Value.ensures)
 
 returns-3 : tie.Need-returns-in-Refused-group_of
 returns-3 c =
-    let r = c in
-    let known = r.before.before.before in
-    let g = known.before.before in
-    let f = g.before.before.before in
-    let i = f.before.before in
-    let flag = rw f.in-Value-read_int_packed.is at f.read_int_packed-in-Value.ensures in
-    group-refused (start i.before).requires.0 (rw i.in-Value.is at i.read_int_packed.ensures) flag _ (rw r.in-Refused-group_of.is at g.Group-of.ensures)
+    let flag = rw c.in-Value-read_int_packed.is at c.read_int_packed-in-Value.ensures in
+    group-refused (start c.before.before.before.before.before.before.before.before.before.before.before).requires.0 (rw c.in-Value.is at c.read_int_packed.ensures) flag _ (rw c.in-Refused-group_of.is at c.Group-of.ensures)
 
 returns-4 : tie.Need-returns-in-To
 returns-4 c =
-    let field = c.before.before.before.before in
-    let o = field.before.before.before in
-    let known = o.before.before.before in
-    let g = known.before.before in
-    let f = g.before.before.before in
-    let i = f.before.before in
-    let flag = rw f.in-Value-read_int_packed.is at f.read_int_packed-in-Value.ensures in
-    group-then (start i.before).requires.0 (rw i.in-Value.is at i.read_int_packed.ensures) flag (rw o.in-To.is at g.Group-of.ensures) _ (cursor_outcome field.field_of.result) field.field_of.ensures
+    let flag = rw c.in-Value-read_int_packed.is at c.read_int_packed-in-Value.ensures in
+    group-then (start c.before.before.before.before.before.before.before.before.before.before.before.before.before.before.before.before.before.before).requires.0 (rw c.in-Value.is at c.read_int_packed.ensures) flag (rw c.in-To.is at c.Group-of.ensures) _ (cursor_outcome c.field_of.result) c.field_of.ensures
 
 pub export_entry_spec : {M : Type 1} → statement M
 export_entry_spec =

@@ -18,10 +18,8 @@ returns c = let w = c.before in read-stops packed _ (start w).requires.0 (rw c.i
 returns-2 : tie.Need-returns-in-Value
 unfolding exported_field
 returns-2 c =
-    let call = c.before.before.before.before in
-    let h = call.before.before.before in
-    let handle = rw h.in-Value.is at h.read_int_packed.ensures in
-    reads (read-on packed _ (start h.before).requires.0 handle) _ (cursor_outcome call.named_field.result) call.named_field.ensures
+    let handle = rw c.in-Value.is at c.read_int_packed.ensures in
+    reads (read-on packed _ (start c.before.before.before.before.before.before.before.before).requires.0 handle) _ (cursor_outcome c.named_field.result) c.named_field.ensures
 
 pub exported_field_spec : {M : Type 1} → statement M
 exported_field_spec =

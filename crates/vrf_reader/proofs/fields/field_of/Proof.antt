@@ -23,10 +23,7 @@ returns-2 c = let u = c.before in read-stops byte _ (start u).requires.0 (rw c.i
 
 returns-3 : tie.Need-returns-else-has_field-eq0
 returns-3 c =
-    let call = c.before.before.before.before in
-    let e = call.before.before.before in
-    let h = e.before in
-    field-present _ (start h.before).requires.0 (rw h.in-Value.is at h.read_u8.ensures) e.if-has_field-eq0.false _ (cursor_outcome call.exported_field.result) call.exported_field.ensures
+    field-present _ (start c.before.before.before.before.before.before.before.before.before).requires.0 (rw c.in-Value.is at c.read_u8.ensures) c.if-has_field-eq0.false _ (cursor_outcome c.exported_field.result) c.exported_field.ensures
 
 pub field_of_spec : {M : Type 1} → statement M
 field_of_spec =

@@ -16,22 +16,22 @@ use Rattle.vrf_reader.proofs.fields.named_field.Tie as tie
 abbrev start : tie.After-read_u32 → tie.Start
 start c = c.before.before.before.before
 
-abbrev first : tie.After-read_fname → tie.In-Value-2
+abbrev first : tie.After-read_fname → tie.In-Value
 first c = c.before.before
 
-abbrev read : tie.In-Read-2 → tie.After-read_fname
+abbrev read : tie.In-Read → tie.After-read_fname
 read c = c.before.before.before
 
-checksum : (c : tie.In-Value-2) →
-    let a = (start c.before.before).args in
+checksum : (c : tie.In-Value) →
+    let a = (start c.before).args in
     WordAnswer a.s.now a.c (read_at a.s.now a.c word32) (Value c.in-Value.checksum c.in-Value.next)
 checksum c = rw c.in-Value.is at c.read_u32.ensures
 
-name : (c : tie.In-Read-2) →
+name : (c : tie.In-Read) →
     let k = first (read c) in
     let s = (start k.before).args.s.now in
     let d = k.in-Value.next in
-    TextRead s d (read_at s d fname) (read c).read_fname.new.1.1.0 c.in-Read.n c.in-Read.end
+    TextRead s d (read_at s d fname) (read c).read_fname.new.scratch c.in-Read.n c.in-Read.end
 name c = rw c.in-Read.is at c.read_fname.ensures
 
 set-field-on-group-requires : tie.Need-set_field_on_group-requires
@@ -44,31 +44,26 @@ returns c = let w = c.before in read-stops word32 _ (start w).requires.0 (rw c.i
 
 returns-2 : tie.Need-returns-in-Refused-read_fname
 returns-2 c =
-    let r = c in
-    let f = r.before.before.before in
-    no_name _ _ (start (first f).before).requires.0 (checksum (first f)) (rw r.in-Refused-read_fname.is at f.read_fname.ensures)
+    let f = c.before.before.before in
+    no_name _ _ (start (first f).before).requires.0 (checksum (first f)) (rw c.in-Refused-read_fname.is at f.read_fname.ensures)
 
 returns-3 : tie.Need-returns-in-Refused-set_field_on_group
 returns-3 c =
-    let r = c in
-    let set = r.before.before.before in
-    let n = set.before.before in
+    let n = c.before.before.before.before.before in
     let k = first (read n) in
-    field-refused _ _ (start k.before).requires.0 (checksum k) (name n) (rw r.in-Refused-set_field_on_group.is at set.set_field_on_group.ensures)
+    field-refused _ _ (start k.before).requires.0 (checksum k) (name n) (rw c.in-Refused-set_field_on_group.is at c.set_field_on_group.ensures)
 
 returns-4 : tie.Need-returns-in-Placed
 returns-4 c =
-    let set = c.before.before.before in
-    let n = set.before.before in
+    let n = c.before.before.before.before.before in
     let k = first (read n) in
-    field-set _ _ (start k.before).requires.0 (checksum k) (name n) (rw c.in-Placed.is at set.set_field_on_group.ensures)
+    field-set _ _ (start k.before).requires.0 (checksum k) (name n) (rw c.in-Placed.is at c.set_field_on_group.ensures)
 
 returns-5 : tie.Need-returns-in-NotPlaced
 returns-5 c =
-    let set = c.before.before.before in
-    let n = set.before.before in
+    let n = c.before.before.before.before.before in
     let k = first (read n) in
-    field-set _ _ (start k.before).requires.0 (checksum k) (name n) (rw c.in-NotPlaced.is at set.set_field_on_group.ensures)
+    field-set _ _ (start k.before).requires.0 (checksum k) (name n) (rw c.in-NotPlaced.is at c.set_field_on_group.ensures)
 
 pub named_field_spec : {M : Type 1} → statement M
 named_field_spec =

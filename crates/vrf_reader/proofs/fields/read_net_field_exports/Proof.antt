@@ -8,9 +8,7 @@ use Rattle.vrf_reader.proofs.fields.read_net_field_exports.Tie as tie
 
 read-run-requires : tie.Need-read_run-requires
 read-run-requires c κs =
-    let at-slice-known2 = c.before.before in
-    let start = at-slice-known2.before.before.before in
-    record { good = start.requires.0; wide = start.requires.1; within = λ e. absurd (true≢false (sym e)) }
+    record { good = c.requires.0; wide = c.requires.1; within = λ e. absurd (true≢false (sym e)) }
 
 returns : tie.Need-returns
 unfolding fields_run

@@ -19,9 +19,8 @@ returns c =
 
 read-payload-requires : tie.Need-read_payload-requires
 read-payload-requires c κs =
-    let n = c.before.before.before in
-    let p = (start n.before).requires in
-    let size = rw n.in-Value.is at n.read_u32.ensures in
+    let p = (start c.before.before.before.before).requires in
+    let size = rw c.in-Value.is at c.read_u32.ensures in
     (p.0, (p.1.0, same-window p.1.1 size.first size.count))
 
 returns-2 : tie.Need-returns-in-Refused
@@ -30,21 +29,11 @@ returns-2 c = let w = c.before in read-stops word32 _ (start w).requires.0 (rw c
 
 returns-3 : tie.Need-returns-in-Refused-read_payload
 returns-3 c =
-    let r = c in
-    let known = r.before.before.before in
-    let p = known.before.before in
-    let e = p.before.before.before in
-    let n = e.before in
-    entry-refused (start n.before).requires.0 (rw n.in-Value.is at n.read_u32.ensures) e.if-size-ge2147483648.false _ (rw r.in-Refused-read_payload.is at p.read_payload.ensures)
+    entry-refused (start c.before.before.before.before.before.before.before.before.before.before).requires.0 (rw c.in-Value.is at c.read_u32.ensures) c.if-size-ge2147483648.false _ (rw c.in-Refused-read_payload.is at c.read_payload.ensures)
 
 returns-4 : tie.Need-returns-in-Of
 returns-4 c =
-    let r = c in
-    let known = r.before.before.before in
-    let p = known.before.before in
-    let e = p.before.before.before in
-    let n = e.before in
-    entry_read (start n.before).requires.0 (rw n.in-Value.is at n.read_u32.ensures) e.if-size-ge2147483648.false _ (rw r.in-Of.is at p.read_payload.ensures)
+    entry_read (start c.before.before.before.before.before.before.before.before.before.before).requires.0 (rw c.in-Value.is at c.read_u32.ensures) c.if-size-ge2147483648.false _ (rw c.in-Of.is at c.read_payload.ensures)
 
 pub guid_entry_spec : {M : Type 1} → statement M
 guid_entry_spec =

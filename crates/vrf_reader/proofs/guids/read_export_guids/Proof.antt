@@ -6,9 +6,7 @@ use Rattle.vrf_reader.proofs.guids.read_export_guids.Tie as tie
 
 read-run-requires : tie.Need-read_run-requires
 read-run-requires c κs =
-    let at-slice-known2 = c.before.before in
-    let start = at-slice-known2.before.before.before in
-    record { good = start.requires.0; wide = start.requires.1.0; within = λ _. start.requires.1.1 }
+    record { good = c.requires.0; wide = c.requires.1.0; within = λ _. c.requires.1.1 }
 
 returns : tie.Need-returns
 unfolding guid_run

@@ -10,10 +10,10 @@ use Rattle.vrf_reader.proofs.guids.read_payload.Tie as tie
 abbrev start : tie.After-sub_reader → tie.Start
 start c = c.before.before.before.before
 
-abbrev opened : tie.After-load_object → tie.In-Inner-2
+abbrev opened : tie.After-load_object → tie.In-Inner
 opened c = c.before.before.before
 
-window : (c : tie.In-Inner-2) → let a = (start c.before).args in Inside a.s.now a.c a.size c.in-Inner.at c.in-Inner.next
+window : (c : tie.In-Inner) → let a = (start c.before).args in Inside a.s.now a.c a.size c.in-Inner.at c.in-Inner.next
 window c =
     let s = start c.before in
     let sub = rw c.in-Inner.is at c.sub_reader.ensures in
@@ -22,11 +22,8 @@ window c =
 returns : tie.Need-returns-then-left-ne0
 unfolding object_at
 returns c =
-    let left = c.before in
-    let g = left.before in
-    let known = g.before.before.before in
-    let l = known.before.before in
-    payload-trailing _ _ (window (opened l)) _ (rw g.in-Of.is at l.load_object.ensures) left.whole_bytes-left.ensures c.if-left-ne0.true
+    let l = c.before.before.before.before.before.before.before in
+    payload-trailing _ _ (window (opened l)) _ (rw c.in-Of.is at l.load_object.ensures) c.whole_bytes-left.ensures c.if-left-ne0.true
 
 returns-2 : tie.Need-returns-in-Refused
 returns-2 c = let w = c.before in payload-short _ _ (start w).requires.1.1 (start w).requires.0 (rw c.in-Refused.is at w.sub_reader.ensures)
@@ -34,19 +31,14 @@ returns-2 c = let w = c.before in payload-short _ _ (start w).requires.1.1 (star
 returns-3 : tie.Need-returns-in-Refused-load_object
 unfolding object_at
 returns-3 c =
-    let r = c in
-    let known = r.before.before.before in
-    let l = known.before.before in
-    payload-refused _ _ (window (opened l)) _ (rw r.in-Refused-load_object.is at l.load_object.ensures)
+    let l = c.before.before.before.before.before in
+    payload-refused _ _ (window (opened l)) _ (rw c.in-Refused-load_object.is at l.load_object.ensures)
 
 returns-4 : tie.Need-returns-else-left-ne0
 unfolding object_at
 returns-4 c =
-    let left = c.before in
-    let g = left.before in
-    let known = g.before.before.before in
-    let l = known.before.before in
-    payload-whole _ _ (window (opened l)) _ (rw g.in-Of.is at l.load_object.ensures) left.whole_bytes-left.ensures c.if-left-ne0.false
+    let l = c.before.before.before.before.before.before.before in
+    payload-whole _ _ (window (opened l)) _ (rw c.in-Of.is at l.load_object.ensures) c.whole_bytes-left.ensures c.if-left-ne0.false
 
 pub read_payload_spec : {M : Type 1} → statement M
 read_payload_spec =

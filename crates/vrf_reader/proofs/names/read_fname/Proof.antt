@@ -9,9 +9,7 @@ use Rattle.vrf_reader.proofs.names.read_fname.Tie as tie
 
 returns : tie.Need-returns-then-kind-eq0
 returns c =
-    let call = c.before.before in
-    let k = call.before.before.before in
-    text-kind (rw k.in-Value.is at k.read_u8.ensures) _ call.read_text_name.result call.if-kind-eq0.true call.read_text_name.ensures
+    text-kind (rw c.in-Value.is at c.read_u8.ensures) _ c.read_text_name.result c.if-kind-eq0.true c.read_text_name.ensures
 
 returns-2 : tie.Need-returns-in-Refused
 unfolding fname
@@ -19,9 +17,7 @@ returns-2 c = refused-first _ _ byte _ (rw c.in-Refused.is at c.read_u8.ensures)
 
 returns-3 : tie.Need-returns-else-kind-eq0
 returns-3 c =
-    let call = c.before.before in
-    let k = call.before.before.before in
-    index-kind (rw k.in-Value.is at k.read_u8.ensures) _ call.read_index_name.result call.if-kind-eq0.false call.read_index_name.ensures
+    index-kind (rw c.in-Value.is at c.read_u8.ensures) _ c.read_index_name.result c.if-kind-eq0.false c.read_index_name.ensures
 
 pub read_fname_spec : {M : Type 1} → statement M
 read_fname_spec =

@@ -17,11 +17,7 @@ returns c = refused-first _ _ packed _ (rw c.in-Refused.is at c.read_int_packed.
 
 returns-2 : tie.Need-returns-in-Value
 returns-2 c =
-    let call = c.before.before.before in
-    let i = call.before.before in
-    let w = i.before in
-    let start = w.before.before.before in
-    index_in _ _ start.requires call.render_index.result c.named.ensures (omega arith) (rw i.in-Value.is at w.read_int_packed.ensures) call.render_index.ensures
+    index_in _ _ c.requires c.render_index.result c.named.ensures (omega arith) (rw c.in-Value.is at c.read_int_packed.ensures) c.render_index.ensures
 
 pub read_index_name_spec : {M : Type 1} → statement M
 read_index_name_spec =

@@ -15,12 +15,8 @@ returns c = refused-first _ _ int32 _ (rw c.in-Refused.is at c.read_i32.ensures)
 
 returns-2 : tie.Need-returns-in-Value
 returns-2 c =
-    let call = c.before.before.before in
-    let told = call.before.before in
-    let n = told in
-    let w = n.before in
-    let same = to_z-of_z (record { sfits = told.in-Value.known_told-in-Value-1-own.given.0.1 }) in
-    numbered-in _ _ w.requires.0 call.render_fname.result c.named.ensures _ (rw n.in-Value.is at w.read_i32.ensures) same call.render_fname.ensures
+    let same = to_z-of_z (record { sfits = c.in-Value.known_told-in-Value-1-own.given.0.1 }) in
+    numbered-in _ _ c.requires.0 c.render_fname.result c.named.ensures _ (rw c.in-Value.is at c.read_i32.ensures) same c.render_fname.ensures
 
 pub read_number_spec : {M : Type 1} → statement M
 read_number_spec =

@@ -6,9 +6,7 @@ use Rattle.vrf_reader.proofs.names.read_text.Tie as tie
 
 returns : tie.Need-returns
 returns c =
-    let after-read-fstring = c.before.before in
-    let start = after-read-fstring.before.before.before.before in
-    text_in _ _ start.args.scratch.now _ start.requires after-read-fstring.read_fstring.result after-read-fstring.read_fstring.ensures
+    text_in _ _ c.args.scratch.now _ c.requires c.read_fstring.result c.read_fstring.ensures
 
 pub read_text_spec : {M : Type 1} → statement M
 read_text_spec = tie.close (tie.spec (λ c κs. search rules) (λ c. search rules) returns)

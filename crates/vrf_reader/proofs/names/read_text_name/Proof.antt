@@ -10,24 +10,17 @@ use Rattle.vrf_reader.proofs.names.read_text_name.Tie as tie
 
 read-number-requires : tie.Need-read_number-requires
 read-number-requires c κs =
-    let at_n = c.before in
-    let after-read-text = at_n.before.before.before in
-    (omega arith, (rw at_n.in-Read.is at after-read-text.read_text.ensures).fits)
+    (omega arith, (rw c.in-Read.is at c.read_text.ensures).fits)
 
 returns : tie.Need-returns-in-Refused
 unfolding text_name
 returns c =
-    let at-r = c in
-    let after-read-text = at-r.before.before.before in
-    refused-first _ _ fstring _ (rw at-r.in-Refused.is at after-read-text.read_text.ensures)
+    refused-first _ _ fstring _ (rw c.in-Refused.is at c.read_text.ensures)
 
 returns-2 : tie.Need-returns-in-Read
 returns-2 c =
-    let after-read-number = c.before.before in
-    let at_n = after-read-number.before.before in
-    let after-read-text = at_n.before.before.before in
-    let base = rw at_n.in-Read.is at after-read-text.read_text.ensures in
-    name-after base _ after-read-number.read_number.result after-read-number.read_number.ensures
+    let base = rw c.in-Read.is at c.read_text.ensures in
+    name-after base _ c.read_number.result c.read_number.ensures
 
 pub read_text_name_spec : {M : Type 1} → statement M
 read_text_name_spec =

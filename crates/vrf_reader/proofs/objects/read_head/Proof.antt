@@ -5,31 +5,22 @@ use Rattle.vrf_reader.proofs.objects.read_head.Statement.{statement}
 use Rattle.vrf_reader.proofs.objects.read_head.Tie as tie
 
 returns : tie.Need-returns-then-guid-eq0
-returns c = let g = c.before in head-zero _ (rw g.in-Value.is at g.read_int_packed.ensures) c.if-guid-eq0.true
+returns c = head-zero _ (rw c.in-Value.is at c.read_int_packed.ensures) c.if-guid-eq0.true
 
 returns-2 : tie.Need-returns-then-flags-eq1
 returns-2 c =
-    let f = c.before.before in
-    let e = f.before in
-    let g = e.before in
-    head-path _ (rw g.in-Value.is at g.read_int_packed.ensures) e.if-guid-eq0.false (rw c.in-Value-read_flags.is at f.read-Flags.ensures) c.if-flags-eq1.true
+    head-path _ (rw c.in-Value.is at c.read_int_packed.ensures) c.if-guid-eq0.false (rw c.in-Value-read_flags.is at c.read-Flags.ensures) c.if-flags-eq1.true
 
 returns-3 : tie.Need-returns-in-Refused
 returns-3 c = head-refused _ (rw c.in-Refused.is at c.read_int_packed.ensures)
 
 returns-4 : tie.Need-returns-in-Refused-read_flags
 returns-4 c =
-    let f = c.before in
-    let e = f.before in
-    let g = e.before in
-    head-flagless _ (rw g.in-Value.is at g.read_int_packed.ensures) e.if-guid-eq0.false _ (rw c.in-Refused-read_flags.is at f.read-Flags.ensures)
+    head-flagless _ (rw c.in-Value.is at c.read_int_packed.ensures) c.if-guid-eq0.false _ (rw c.in-Refused-read_flags.is at c.read-Flags.ensures)
 
 returns-5 : tie.Need-returns-else-flags-eq1
 returns-5 c =
-    let f = c.before.before in
-    let e = f.before in
-    let g = e.before in
-    head-ends _ (rw g.in-Value.is at g.read_int_packed.ensures) e.if-guid-eq0.false (rw c.in-Value-read_flags.is at f.read-Flags.ensures) c.if-flags-eq1.false
+    head-ends _ (rw c.in-Value.is at c.read_int_packed.ensures) c.if-guid-eq0.false (rw c.in-Value-read_flags.is at c.read-Flags.ensures) c.if-flags-eq1.false
 
 pub read_head_spec : {M : Type 1} → statement M
 read_head_spec =

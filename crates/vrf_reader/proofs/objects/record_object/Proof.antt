@@ -14,18 +14,17 @@ use Rattle.vrf_reader.proofs.objects.record_object.Tie as tie
 -- the places before, and the path
 abbrev start : tie.After-read_text → tie.Start
 start c =
-    let known = c.before.before in
-    known.before.before.before
+    c.before.before.before.before.before
 
-abbrev read : tie.In-Read-2 → tie.After-read_text
+abbrev read : tie.In-Read → tie.After-read_text
 read c = c.before.before.before
 
-abbrev named : tie.In-To-2 → tie.In-Read-2
+abbrev named : tie.In-To → tie.In-Read
 named c = c.before.before
 
-path : (c : tie.In-Read-2) →
+path : (c : tie.In-Read) →
     let a = (start (read c)).args in
-    TextRead a.s.now a.c (read_at a.s.now a.c fstring) (read c).read_text.new.1.1.0 c.in-Read.n c.in-Read.next
+    TextRead a.s.now a.c (read_at a.s.now a.c fstring) (read c).read_text.new.scratch c.in-Read.n c.in-Read.next
 path c = rw c.in-Read.is at c.read_text.ensures
 
 set-net-guid-path-requires : tie.Need-set_net_guid_path-requires
@@ -34,31 +33,25 @@ set-net-guid-path-requires c κs = let n = named c.before in ((start (read n)).r
 returns : tie.Need-returns-in-Refused
 unfolding recorded
 returns c =
-    let r = c in
-    let t = r.before.before.before in
-    read-stops fstring _ (start t).requires.0 (rw r.in-Refused.is at t.read_text.ensures)
+    let t = c.before.before.before in
+    read-stops fstring _ (start t).requires.0 (rw c.in-Refused.is at t.read_text.ensures)
 
 returns-2 : tie.Need-returns-in-Refused-skip_checksum
 returns-2 c =
-    let r = c in
-    let k = r.before in
-    let n = k.before in
-    record-sumless _ _ _ (start (read n)).requires.0 (path n) _ (rw r.in-Refused-skip_checksum.is at k.skip_checksum.ensures)
+    let n = c.before.before in
+    record-sumless _ _ _ (start (read n)).requires.0 (path n) _ (rw c.in-Refused-skip_checksum.is at c.skip_checksum.ensures)
 
 returns-3 : tie.Need-returns-in-Refused-set_net_guid_path
 returns-3 c =
-    let r = c in
-    let set = r.before.before.before in
-    let k = set.before.before in
+    let k = c.before.before.before.before.before in
     let n = named k in
-    record-refused _ _ _ (start (read n)).requires.0 (path n) (rw k.in-To.is at k.skip_checksum.ensures) (rw r.in-Refused-set_net_guid_path.is at set.set_net_guid_path.ensures)
+    record-refused _ _ _ (start (read n)).requires.0 (path n) (rw k.in-To.is at k.skip_checksum.ensures) (rw c.in-Refused-set_net_guid_path.is at c.set_net_guid_path.ensures)
 
 returns-4 : tie.Need-returns-in-Done
 returns-4 c =
-    let set = c.before.before.before in
-    let k = set.before.before in
+    let k = c.before.before.before.before.before in
     let n = named k in
-    record-set _ _ _ (start (read n)).requires.0 (path n) (rw k.in-To.is at k.skip_checksum.ensures) (rw c.in-Done.is at set.set_net_guid_path.ensures)
+    record-set _ _ _ (start (read n)).requires.0 (path n) (rw k.in-To.is at k.skip_checksum.ensures) (rw c.in-Done.is at c.set_net_guid_path.ensures)
 
 pub record_object_spec : {M : Type 1} → statement M
 record_object_spec =

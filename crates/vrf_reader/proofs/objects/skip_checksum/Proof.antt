@@ -6,13 +6,11 @@ use Rattle.vrf_reader.proofs.objects.skip_checksum.Tie as tie
 
 returns : tie.Need-returns-in-Refused
 returns c =
-    let w = c.before in
-    checksum-refused _ w.if-flags-eq1.true (rw c.in-Refused.is at w.read_u32.ensures)
+    checksum-refused _ c.if-flags-eq1.true (rw c.in-Refused.is at c.read_u32.ensures)
 
 returns-2 : tie.Need-returns-in-Value
 returns-2 c =
-    let w = c.before in
-    checksum-read _ w.if-flags-eq1.true (rw c.in-Value.is at w.read_u32.ensures)
+    checksum-read _ c.if-flags-eq1.true (rw c.in-Value.is at c.read_u32.ensures)
 
 pub skip_checksum_spec : {M : Type 1} → statement M
 skip_checksum_spec = tie.close (tie.spec (λ c κs. search rules) (λ c. search rules) (λ c. search rules) returns returns-2 (λ c. checksum-none _ c.if-flags-eq1.false))

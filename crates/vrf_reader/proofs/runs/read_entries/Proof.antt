@@ -21,26 +21,16 @@ loop-holds c = (none_read c.requires.good, refl)
 
 read-entry-requires : tie.Need-read_entry-requires invariant-loop decreases-loop
 read-entry-requires c κs =
-    let at-loop = c.before.before.before in
-    let start = at-loop.before.before.before.before in
-    let run = at-loop.loop-i.invariant.0.simulates in
-    record { good = run.good; wide = omega (arith, at-loop.loop-i.invariant.1, start.requires.wide); within = λ e. same-window (start.requires.within e) run.first run.count }
+    let run = c.loop-i.invariant.0.simulates in
+    record { good = run.good; wide = omega (arith, c.loop-i.invariant.1, c.requires.wide); within = λ e. same-window (c.requires.within e) run.first run.count }
 
 returns : tie.Need-returns-in-Refused invariant-loop decreases-loop
 returns c =
-    let r = c in
-    let known = r.before.before.before in
-    let entry = known.before.before in
-    let t = entry.before.before.before in
-    one-refused t.loop-i.invariant.0 t.loop-i-test.true _ (rw r.in-Refused.is at entry.read_entry.ensures)
+    one-refused c.loop-i.invariant.0 c.loop-i-test.true _ (rw c.in-Refused.is at c.read_entry.ensures)
 
 loop-again : tie.Need-loop-i-preserved invariant-loop decreases-loop
 loop-again c =
-    let next = c in
-    let known = next.before.before.before in
-    let entry = known.before.before in
-    let t = entry.before.before.before in
-    (one-more t.loop-i.invariant.0 t.loop-i-test.true (rw next.in-To.is at entry.read_entry.ensures), search rules)
+    (one-more c.loop-i.invariant.0 c.loop-i-test.true (rw c.in-To.is at c.read_entry.ensures), search rules)
 
 pub read_entries_spec : {M : Type 1} → statement M
 read_entries_spec =

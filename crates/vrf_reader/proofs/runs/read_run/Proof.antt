@@ -14,9 +14,8 @@ start c = c.before.before.before.before
 
 read-entries-requires : tie.Need-read_entries-requires
 read-entries-requires c κs =
-    let n = c.before.before in
-    let p = (start n.before).requires in
-    let count = rw n.in-Value.is at n.read_int_packed.ensures in
+    let p = (start c.before.before.before).requires in
+    let count = rw c.in-Value.is at c.read_int_packed.ensures in
     record { good = p.good; wide = p.wide; within = λ e. same-window (p.within e) count.first count.count }
 
 returns : tie.Need-returns-in-Refused
@@ -25,19 +24,11 @@ returns c = let w = c.before in read-stops number _ (start w).requires.good (rw 
 
 returns-2 : tie.Need-returns-in-Refused-read_entries
 returns-2 c =
-    let r = c in
-    let known = r.before.before.before in
-    let e = known.before.before in
-    let n = e.before.before.before in
-    run-refused _ (start n.before).requires.good (rw n.in-Value.is at n.read_int_packed.ensures) _ (rw r.in-Refused-read_entries.is at e.read_entries.ensures)
+    run-refused _ (start c.before.before.before.before.before.before.before.before.before).requires.good (rw c.in-Value.is at c.read_int_packed.ensures) _ (rw c.in-Refused-read_entries.is at c.read_entries.ensures)
 
 returns-3 : tie.Need-returns-in-To
 returns-3 c =
-    let r = c in
-    let known = r.before.before.before in
-    let e = known.before.before in
-    let n = e.before.before.before in
-    run-read _ (start n.before).requires.good (rw n.in-Value.is at n.read_int_packed.ensures) (rw r.in-To.is at e.read_entries.ensures)
+    run-read _ (start c.before.before.before.before.before.before.before.before.before).requires.good (rw c.in-Value.is at c.read_int_packed.ensures) (rw c.in-To.is at c.read_entries.ensures)
 
 pub read_run_spec : {M : Type 1} → statement M
 read_run_spec =

@@ -16,8 +16,7 @@ add-export-group-requires c κs = (search admitted-good, search admitted-text, o
 returns-2 : tie.Need-returns-in-Refused
 unfolding run if_text_accepted
 returns-2 c =
-    let checks = c.before in
-    step-refused at_place _ checks.slice_known-1.given checks.check_book_text.ensures c.in-Refused.is refl
+    step-refused at_place _ c.slice_known-1.given c.check_book_text.ensures c.in-Refused.is refl
 
 returns-3 : tie.Need-returns-else-slots-gt65536
 returns-3 c = search (added-directly, arith)

@@ -12,8 +12,7 @@ set-field-on-group-requires c κs = (search admitted-good, search admitted-text)
 returns : tie.Need-returns-in-Refused
 unfolding run if_text_accepted
 returns c =
-    let checks = c.before in
-    step-refused field_placed _ checks.slice_known-1.given checks.check_book_text.ensures c.in-Refused.is refl
+    step-refused field_placed _ c.slice_known-1.given c.check_book_text.ensures c.in-Refused.is refl
 
 returns-2 : tie.Need-returns-in-Accepted
 unfolding run if_text_accepted

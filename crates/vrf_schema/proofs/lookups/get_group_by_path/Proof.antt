@@ -13,8 +13,7 @@ find-path-place-requires c κs = (search admitted-good, omega (arith, (admitted-
 returns : tie.Need-returns-in-Refused
 unfolding if_text_accepted look_groups look
 returns c =
-    let checks = c.before in
-    look-refused _ checks.shared_slice_known-1.given checks.check_book_text.ensures c.in-Refused.is refl
+    look-refused _ c.shared_slice_known-1.given c.check_book_text.ensures c.in-Refused.is refl
 
 returns-2 : tie.Need-returns-in-Accepted
 unfolding if_text_accepted look_groups look

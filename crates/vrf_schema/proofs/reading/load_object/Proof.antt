@@ -16,22 +16,15 @@ load-object-requires c κs = (search window-good, omega arith)
 returns : tie.Need-returns-in-Refused
 unfolding run read_window
 returns c =
-    let checks = c.before in
-    let start = checks.before.before.before in
-    window-refused ran (object_at start.args.depth start.args.exporting) _ refl checks.slice_known-1.given checks.check_book_window.ensures c.in-Refused.is
+    window-refused ran (object_at c.args.depth c.args.exporting) _ refl c.slice_known-1.given c.check_book_window.ensures c.in-Refused.is
 
 returns-2 : tie.Need-returns-in-Window
 unfolding run read_window object_at
 returns-2 c =
-    let after = c.before.before.before.before in
-    let left = after.before.before.before in
-    let told = left.before in
-    let checks = told.before in
-    let start = checks.before.before.before in
-    let call = after.load_object in
-    let a = start.args in
-    run-read (object_at a.depth a.exporting) _ refl checks.slice_known-1.given checks.check_book_window.ensures told.in-Window.is call.result
-    (subst (λ (n : ℕ). Refines a.window.now (object n a.exporting) told.in-Window.c a.book.now call.new.1.1.0 (number_outcome call.result)) left.depth_left-left.ensures call.ensures) c.ended.ensures
+    let call = c.load_object in
+    let a = c.args in
+    run-read (object_at a.depth a.exporting) _ refl c.slice_known-1.given c.check_book_window.ensures c.in-Window.is call.result
+    (subst (λ (n : ℕ). Refines a.window.now (object n a.exporting) c.in-Window.c a.book.now call.new.1.1.0 (number_outcome call.result)) c.depth_left-left.ensures call.ensures) c.ended.ensures
 
 pub load_object_spec : {M : Type 1} → statement M
 load_object_spec =

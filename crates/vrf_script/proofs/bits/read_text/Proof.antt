@@ -5,13 +5,11 @@ use Rattle.vrf_script.proofs.bits.read_text.Tie as tie
 
 returns : tie.Need-returns-then-named
 returns c =
-    let after-read-fname = c.before.before in
-    text-within _ _ _ _ _ after-read-fname.read_fname.result (search rules) after-read-fname.read_fname.ensures
+    text-within _ _ _ _ _ c.read_fname.result (search rules) c.read_fname.ensures
 
 returns-2 : tie.Need-returns
 returns-2 c =
-    let after-read-text = c.before.before in
-    text-within _ _ _ _ _ after-read-text.read_text.result (search rules) after-read-text.read_text.ensures
+    text-within _ _ _ _ _ c.read_text.result (search rules) c.read_text.ensures
 
 pub read_text_spec : {M : Type 1} → statement M
 read_text_spec =

@@ -7,9 +7,7 @@ use Rattle.vrf_script.proofs.bits.text_in.Tie as tie
 
 part-text-value-end : tie.Need-slice_bounds-text_value-end
 part-text-value-end c =
-    let at_n = c in
-    let after-read-text = at_n.before.before.before.before in
-    omega (arith, subst (TextWithin _) at_n.in-Read.is after-read-text.read_text.ensures)
+    omega (arith, subst (TextWithin _) c.in-Read.is c.read_text.ensures)
 
 pub text_in_spec : {M : Type 1} → statement M
 text_in_spec =

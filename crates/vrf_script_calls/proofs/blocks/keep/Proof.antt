@@ -5,16 +5,11 @@ use Rattle.vrf_script_calls.proofs.blocks.keep.Tie as tie
 
 move-part-requires : tie.Need-move_part-requires
 move-part-requires c κs =
-    let at-answer = c.before in
-    let start = at-answer.before.before in
-    omega (arith, subst (WroteIn start.args.n) at-answer.in-Length.is start.requires.1)
+    omega (arith, subst (WroteIn c.args.n) c.in-Length.is c.requires.1)
 
 returns-2 : tie.Need-returns-in-Length
 returns-2 c =
-    let back = c.before.before.before.before in
-    let at-answer = back in
-    let start = at-answer.before.before in
-    omega (arith, subst (WroteIn start.args.n) at-answer.in-Length.is start.requires.1)
+    omega (arith, subst (WroteIn c.args.n) c.in-Length.is c.requires.1)
 
 pub keep_spec : {M : Type 1} → statement M
 keep_spec =

@@ -6,8 +6,7 @@ use Rattle.vrf_store.proofs.counters.step_renamed.Tie as tie
 
 returns : tie.Need-returns
 returns c =
-    let known = c.before.before.before.before in
-    counted-renamed known.args.m.now (λ i. (known.slice_known-1.given i).fits) known.requires c.step.ensures
+    counted-renamed c.args.m.now (λ i. (c.slice_known-1.given i).fits) c.requires c.step.ensures
 
 pub step_renamed_spec : {M : Type 1} → statement M
 step_renamed_spec = tie.close (tie.spec (λ c κs. search rules) (λ c. search rules) returns)

@@ -15,21 +15,17 @@ cap c = (held c).before.before.before.before
 
 sub-put32 : tie.Need-overflow_sub-total
 sub-put32 c =
-    let back = c.before.before.before.before in
-    let passed = back.before.before.before.before in
+    let passed = c.before.before.before.before.before.before.before.before in
     let start = (cap passed).before.before in
     let within = dropped-held start.requires.0 _ start.requires.1 (cap passed).fields_allowed-cap.ensures.0 passed.fields_at-from.ensures (held passed).fields-n.ensures passed.pass_rows-kept.auto.t passed.pass_rows-kept.ensures in
     omega (arith, within, (held passed).held-total.ensures)
 
 returns : tie.Need-returns
 returns c =
-    let total = c.before.before in
-    let back = total.before.before.before.before in
-    let counted = back.before in
-    let passed = counted.before.before.before.before in
+    let passed = c.before.before.before.before.before.before.before.before.before.before.before in
     let start = (cap passed).before.before in
     drop-fields start.requires.0 _ start.requires.1 (cap passed).fields_allowed-cap.ensures.0 passed.fields_at-from.ensures (held passed).fields-n.ensures passed.pass_rows-kept.auto.t passed.pass_rows-kept.ensures
-    (held passed).held-total.ensures counted.put32.ensures total.put32-2.ensures
+    (held passed).held-total.ensures c.put32.ensures c.put32-2.ensures
 
 pub drop_fields_spec : {M : Type 1} → statement M
 drop_fields_spec =

@@ -12,21 +12,16 @@ decreases-loop t₀ cap place n kept₀ e₀ t kept e = n - e
 
 loop-holds : tie.Need-loop-e-init invariant-loop decreases-loop
 loop-holds c =
-    let after-zero-words = c.before.before in
-    (omega arith, omega (arith, after-zero-words.zero_words.auto.m, after-zero-words.requires), pass-start _ _ _)
+    (omega arith, omega (arith, c.zero_words.auto.m, c.requires), pass-start _ _ _)
 
 loop-again : tie.Need-loop-e-preserved invariant-loop decreases-loop
 loop-again c =
-    let after-pass-row = c.before.before in
-    let at-loop = after-pass-row.before.before.before in
-    (omega arith, omega (arith, after-pass-row.pass_row-kept.auto.t, at-loop.loop-e.invariant.1), pass_step at-loop.loop-e.invariant.2 after-pass-row.pass_row-kept.ensures)
+    (omega arith, omega (arith, c.pass_row-kept.auto.t, c.loop-e.invariant.1), pass_step c.loop-e.invariant.2 c.pass_row-kept.ensures)
 
 returns : tie.Need-returns invariant-loop decreases-loop
 returns c =
-    let at-loop = c.before in
-    let after-zero-words = at-loop.before.before.before in
-    let all : at-loop.loop-e.e ≡ after-zero-words.args.n = omega arith in
-    at-loop.loop-e.invariant.2.state ∙ rw (after-zero-words.zero_words.ensures, all)
+    let all : c.loop-e.e ≡ c.args.n = omega arith in
+    c.loop-e.invariant.2.state ∙ rw (c.zero_words.ensures, all)
 
 pub pass_rows_spec : {M : Type 1} → statement M
 pass_rows_spec =

@@ -9,21 +9,16 @@ use Rattle.vrf_store.proofs.groups.buckets_of.Tie as tie
 
 row-text-requires : tie.Need-row_text-path-requires
 row-text-requires c κs =
-    let after-group-rows = c.before in
-    let start = after-group-rows.before.before.before in
-    rw (after-group-rows.group_rows-rows.ensures, c.texts.ensures) (row_inside start.requires, path_inside start.requires)
+    rw (c.group_rows-rows.ensures, c.texts.ensures) (row_inside c.requires, path_inside c.requires)
 
 get64-requires : tie.Need-get64-requires
 get64-requires c κs =
-    let after-group-rows = c.before.before in
-    omega (arith, ap length after-group-rows.group_rows-rows.ensures, row_inside after-group-rows.requires)
+    omega (arith, ap length c.group_rows-rows.ensures, row_inside c.requires)
 
 -- the path is short
 short : (c : tie.After-row_text-path) → length c.row_text-path.result.now ≤ 4096
 short c =
-    let texts = c.before in
-    let rows = texts.before in
-    rw (c.row_text-path.ensures, rows.group_rows-rows.ensures, texts.texts.ensures) (path-short rows.requires)
+    rw (c.row_text-path.ensures, c.group_rows-rows.ensures, c.texts.ensures) (path-short c.requires)
 
 returns : tie.Need-returns
 unfolding key key_numbered bucket_of
@@ -37,5 +32,4 @@ buckets_of_spec =
     (λ c κs. search rules) row-text-requires (λ c. search rules) get64-requires (λ c. search rules)
     (λ c κs. search rules) (λ c κs. omega (arith, short c.before.before)) (λ c κs. search rules)
     (λ c κs. short c.before.before.before.before) (λ c κs. search rules)
-    (λ c κs. let aliased = c.before.before.before.before in
-    short aliased.before.before) (λ c κs. search rules) returns)
+    (λ c κs. short c.before.before.before.before.before.before) (λ c κs. search rules) returns)

@@ -6,13 +6,7 @@ use Rattle.vrf_store.proofs.groups.clear_heads.Tie as tie
 
 returns : tie.Need-returns
 returns c =
-    let after-zero-words3 = c.before.before in
-    let after-zero-words2 = after-zero-words3.before.before.before.before in
-    let after-zero-words = after-zero-words2.before.before.before.before in
-    let after-groups-allowed = after-zero-words.before.before in
-    let after-guids-allowed = after-groups-allowed.before.before in
-    let start = after-guids-allowed.before in
-    clear-all start.args.m.now after-guids-allowed.guids_allowed-g.ensures.0 after-groups-allowed.groups_allowed-r.ensures.0 start.requires after-zero-words.zero_words.ensures after-zero-words2.zero_words-2.ensures after-zero-words3.zero_words-3.ensures
+    clear-all c.args.m.now c.guids_allowed-g.ensures.0 c.groups_allowed-r.ensures.0 c.requires c.zero_words.ensures c.zero_words-2.ensures c.zero_words-3.ensures
 
 pub clear_heads_spec : {M : Type 1} → statement M
 clear_heads_spec =

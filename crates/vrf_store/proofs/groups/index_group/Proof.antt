@@ -10,8 +10,7 @@ use Rattle.vrf_store.proofs.groups.index_group.Tie as tie
 
 abbrev start : tie.After-push_key → tie.Start
 start c =
-    let buckets = c.before.before in
-    buckets.before.before
+    c.before.before.before.before
 
 -- the buckets, and the place after each entry, seen from the one after it
 buckets : (c : tie.After-push_key) → BucketsOf (store_of (start c).args.m.now) (start c).args.g c.buckets_of-b.result
@@ -25,9 +24,8 @@ second c = c.before.before.before.before
 
 push-key-requires : tie.Need-push_key-requires
 push-key-requires c κs =
-    let start = c.before.before.before in
-    let x = start.args in
-    pushable 1 (λ r. r + 1) x.g start.requires (unwritten x.m.now) (omega (arith, start.requires.low)) c.buckets_of-b.ensures.key (key_below (store_of x.m.now) x.g)
+    let x = c.args in
+    pushable 1 (λ r. r + 1) x.g c.requires (unwritten x.m.now) (omega (arith, c.requires.low)) c.buckets_of-b.ensures.key (key_below (store_of x.m.now) x.g)
 
 push-path-requires : tie.Need-push_path-requires
 push-path-requires c κs =
@@ -50,20 +48,17 @@ push-path-requires-3 c κs =
 
 push-leaf-requires : tie.Need-push_leaf-requires
 push-leaf-requires c κs =
-    let core = c.before.before.before in
-    let default = core.before.before.before.before in
+    let default = c.before.before.before.before.before.before.before in
     let own = second default in
     let s = start (first own) in
-    pushable 1 (λ r. 2 * r + 1) s.args.g s.requires (after (after (after (first own).push_key.ensures own.push_path.ensures) default.push_path-2.ensures) core.push_path-3.ensures) (omega (arith, s.requires.low)) (buckets (first own)).leaf (leaf-below (store_of s.args.m.now) s.args.g)
+    pushable 1 (λ r. 2 * r + 1) s.args.g s.requires (after (after (after (first own).push_key.ensures own.push_path.ensures) default.push_path-2.ensures) c.push_path-3.ensures) (omega (arith, s.requires.low)) (buckets (first own)).leaf (leaf-below (store_of s.args.m.now) s.args.g)
 
 returns : tie.Need-returns
 returns c =
-    let leaf = c.before.before in
-    let core = leaf.before.before.before.before in
-    let default = core.before.before.before.before in
+    let default = c.before.before.before.before.before.before.before.before.before.before in
     let own = second default in
     let known = (first own).before.before.before.before in
-    group-joined known.requires (λ k. omega (arith, known.slice_known-1.given k)) (group-written (buckets (first own)) (first own).push_key.ensures own.push_path.ensures default.push_path-2.ensures core.push_path-3.ensures leaf.push_leaf.ensures)
+    group-joined known.requires (λ k. omega (arith, known.slice_known-1.given k)) (group-written (buckets (first own)) (first own).push_key.ensures own.push_path.ensures default.push_path-2.ensures c.push_path-3.ensures c.push_leaf.ensures)
 
 pub index_group_spec : {M : Type 1} → statement M
 index_group_spec =

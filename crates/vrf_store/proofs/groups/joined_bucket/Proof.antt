@@ -14,10 +14,8 @@ returns c = rw (← c.leaf_claim-found.ensures.1, c.if-found-eq-AMBIGUOUS.true)
 
 returns-2 : tie.Need-returns
 returns-2 c =
-    let after-leaf-claim = c.before.before in
-    let back = after-leaf-claim.before.before.before.before in
-    let x = back.args in
-    let r = after-leaf-claim.leaf_claim-found in
+    let x = c.args in
+    let r = c.leaf_claim-found in
     ap some r.ensures.0 ∙ not-shared r.result.claim (leaf_bucket x.b x.l.now) c.if-found-eq-AMBIGUOUS.false ∙ ap (λ (v : Claim). unless_shared v (leaf_bucket x.b x.l.now)) r.ensures.1
 
 pub joined_bucket_spec : {M : Type 1} → statement M

@@ -6,10 +6,7 @@ use Rattle.vrf_store.proofs.groups.leaf_bucket_in.Tie as tie
 
 leaf-bucket-of-requires : tie.Need-leaf_bucket_of-requires
 leaf-bucket-of-requires c κs =
-    let texts = c.before.before in
-    let rows = texts.before in
-    let counted = rows.before in
-    leaves-walked counted.requires rows.group_rows.ensures texts.texts.ensures c.leaf_links.ensures c.leaf_heads.ensures counted.leaf_buckets-b.ensures
+    leaves-walked c.requires c.group_rows.ensures c.texts.ensures c.leaf_links.ensures c.leaf_heads.ensures c.leaf_buckets-b.ensures
 
 pub leaf_bucket_in_spec : {M : Type 1} → statement M
 leaf_bucket_in_spec =

@@ -12,17 +12,16 @@ use Rattle.vrf_store.proofs.groups.leaf_bucket_of.Tie as tie
 
 abbrev start : tie.After-row_text-path → tie.Start
 start c =
-    let back = c.before.before.before.before in
-    back.before
+    c.before.before.before.before.before
 
 abbrev claims : tie.After-row_text-path → List ℕ → Claim
 claims c = let x = (start c).args in claim_of x.rows.now x.x.now x.links.now x.heads.now x.b x.g
 
 row-text-requires : tie.Need-row_text-path-requires
-row-text-requires c κs = let s = c.before.before.before.before in (omega (arith, s.requires.rows), s.requires.texts s.args.g (omega arith))
+row-text-requires c κs = (omega (arith, c.requires.rows), c.requires.texts c.args.g (omega arith))
 
 -- the leaf that was found
-found : (c : tie.In-At-2) → LeafAnswer c.row_text-path.result.now (At c.in-At.i)
+found : (c : tie.In-At) → LeafAnswer c.row_text-path.result.now (At c.in-At.i)
 found c = rw c.in-At.is at c.leaf_at.ensures
 
 joined-bucket-requires : tie.Need-joined_bucket-requires

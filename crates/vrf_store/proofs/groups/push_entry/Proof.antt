@@ -6,35 +6,25 @@ use Rattle.vrf_store.proofs.groups.push_entry.Tie as tie
 
 get32-requires : tie.Need-get32-link-requires
 get32-requires c κs =
-    let at_b = c in
-    let one = rw at_b.in-Of.is at at_b.requires.2 in
+    let one = rw c.in-Of.is at c.requires.2 in
     omega (arith, one)
 
 put32-requires-2 : tie.Need-put32-requires-in-Of
 put32-requires-2 c κs =
-    let after-put32 = c.before.before.before in
-    let back = after-put32.before.before.before in
-    let at_b = back in
-    let start = at_b.before.before in
-    let one = rw at_b.in-Of.is at start.requires.2 in
-    omega (arith, one, start.requires.0, after-put32.put32.auto.s)
+    let one = rw c.in-Of.is at c.requires.2 in
+    omega (arith, one, c.requires.0, c.put32.auto.s)
 
 returns : tie.Need-returns-in-Of
 returns c =
-    let back = c.before.before.before.before in
-    let back2 = back.before.before.before.before in
-    let at_b = back2.before in
-    let start = at_b.before.before in
-    let x = start.args in
-    let known = at_b.in-Of.given in
-    let one = rw known.1 at start.requires.2 in
-    rw known.1 (cc (entry-written x.m.now x.at x.n x.k start.requires.0 x.i start.requires.1 known.0.0 one x.p))
+    let x = c.args in
+    let known = c.in-Of.given in
+    let one = rw known.1 at c.requires.2 in
+    rw known.1 (cc (entry-written x.m.now x.at x.n x.k c.requires.0 x.i c.requires.1 known.0.0 one x.p))
 
 returns-2 : tie.Need-returns-in_default
 returns-2 c =
-    let start = c.before.before in
-    let x = start.args in
-    rw c.in_default.is (entry_absent x.m.now x.at x.n x.k start.requires.0 x.i x.p)
+    let x = c.args in
+    rw c.in_default.is (entry_absent x.m.now x.at x.n x.k c.requires.0 x.i x.p)
 
 pub push_entry_spec : {M : Type 1} → statement M
 push_entry_spec =

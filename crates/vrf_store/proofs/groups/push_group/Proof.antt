@@ -16,8 +16,7 @@ start c =
 
 abbrev row : tie.After-put32-2 → tie.After-put_group
 row c =
-    let one = c.before.before.before.before in
-    one.before.before.before.before
+    c.before.before.before.before.before.before.before.before
 
 -- the store after the writes
 written : (c : tie.After-put32-2) →
@@ -25,9 +24,8 @@ written : (c : tie.After-put32-2) →
     let m = x.m.now in
     WrittenStore m c.put32-2.new.s (with_group_row (store_of m) (header_of m).groups x.index x.at x.len x.slots (suc (header_of m).groups) ((header_of m).held + x.len))
 written c =
-    let one = c.before.before.before.before in
     let s = start (row c) in
-    push-written _ _ _ _ _ s.requires s.fits.index.fits (counted (row c)).groups-n.ensures (counted (row c)).held.ensures (row c).put_group.ensures one.put32.ensures c.put32-2.ensures
+    push-written _ _ _ _ _ s.requires s.fits.index.fits (counted (row c)).groups-n.ensures (counted (row c)).held.ensures (row c).put_group.ensures c.put32.ensures c.put32-2.ensures
 
 index-group-requires : tie.Need-index_group-requires
 index-group-requires c κs =
@@ -37,10 +35,9 @@ index-group-requires c κs =
 
 returns : tie.Need-returns
 returns c =
-    let indexed = c.before.before in
-    let two = indexed.before.before.before.before in
+    let two = c.before.before.before.before.before.before in
     let s = start (row two) in
-    push-stepped _ _ _ _ _ s.requires s.fits.index.fits (counted (row two)).groups-n.ensures (written two) indexed.index_group.ensures
+    push-stepped _ _ _ _ _ s.requires s.fits.index.fits (counted (row two)).groups-n.ensures (written two) c.index_group.ensures
 
 pub push_group_spec : {M : Type 1} → statement M
 push_group_spec =

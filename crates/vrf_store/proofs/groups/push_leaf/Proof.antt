@@ -6,15 +6,11 @@ use Rattle.vrf_store.proofs.groups.push_leaf.Tie as tie
 
 push-entry-requires : tie.Need-push_entry-requires
 push-entry-requires c κs =
-    let back = c.before.before.before.before in
-    (omega arith, omega arith, rw c.groups_allowed-r.ensures.0 back.requires.below)
+    (omega arith, omega arith, rw c.groups_allowed-r.ensures.0 c.requires.below)
 
 returns : tie.Need-returns
 returns c =
-    let entered = c.before.before in
-    let groups = entered.before.before in
-    let guids = groups.before.before in
-    leaf-written _ _ _ _ _ _ guids.guids_allowed-g.ensures.0 groups.groups_allowed-r.ensures.0 guids.requires entered.push_entry.ensures
+    leaf-written _ _ _ _ _ _ c.guids_allowed-g.ensures.0 c.groups_allowed-r.ensures.0 c.requires c.push_entry.ensures
 
 pub push_leaf_spec : {M : Type 1} → statement M
 push_leaf_spec =

@@ -6,13 +6,9 @@ use Rattle.vrf_store.proofs.groups.put_group.Tie as tie
 
 returns : tie.Need-returns
 returns c =
-    let after-put-row = c.before.before in
-    let after-guids-allowed = after-put-row.before.before in
-    let after-groups-allowed = after-guids-allowed.before.before in
-    let start = after-groups-allowed.before in
-    let x = start.args in
-    let row = after-put-row.put_row in
-    row_written x.e x.index x.at x.len x.slots after-guids-allowed.guids_allowed.ensures.0 after-groups-allowed.groups_allowed-cap.ensures.0 start.requires.0 start.requires.1 (record { long = row.auto.0; made = row.ensures })
+    let x = c.args in
+    let row = c.put_row in
+    row_written x.e x.index x.at x.len x.slots c.guids_allowed.ensures.0 c.groups_allowed-cap.ensures.0 c.requires.0 c.requires.1 (record { long = row.auto.0; made = row.ensures })
 
 pub put_group_spec : {M : Type 1} → statement M
 put_group_spec =

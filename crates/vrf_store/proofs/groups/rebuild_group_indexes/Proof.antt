@@ -16,30 +16,20 @@ loop-holds c = (omega arith, joined-refl c.clear_heads.new.m 0)
 
 index-group-requires : tie.Need-index_group-requires invariant-loop decreases-loop
 index-group-requires c κs =
-    let at-loop = c.before.before in
-    let after-clear-heads = at-loop.before.before.before in
-    let after-groups = after-clear-heads.before.before in
-    let start = after-groups.before.before in
-    let l = at-loop.loop-g in
-    next-indexable l.g start.requires.0 start.requires.1 (joined-trans after-clear-heads.clear_heads.ensures l.invariant.1) (omega (arith, after-groups.groups-n.ensures))
+    let l = c.loop-g in
+    next-indexable l.g c.requires.0 c.requires.1 (joined-trans c.clear_heads.ensures l.invariant.1) (omega (arith, c.groups-n.ensures))
 
 loop-again : tie.Need-loop-g-preserved invariant-loop decreases-loop
 loop-again c =
-    let after-index-group = c.before.before in
-    (omega arith, joined-trans after-index-group.loop-g.invariant.1 after-index-group.index_group.ensures)
+    (omega arith, joined-trans c.loop-g.invariant.1 c.index_group.ensures)
 
 same_length : tie.Need-shape_of-m invariant-loop decreases-loop
 same_length c =
-    let at-loop = c.before in
-    at-loop.loop-g.invariant.1.long ∙ at-loop.clear_heads.ensures.long
+    c.loop-g.invariant.1.long ∙ c.clear_heads.ensures.long
 
 returns : tie.Need-returns invariant-loop decreases-loop
 returns c =
-    let at-loop = c.before in
-    let after-clear-heads = at-loop.before.before.before in
-    let after-groups = after-clear-heads.before.before in
-    let start = after-groups.before.before in
-    rebuilt start.requires.0 start.requires.1 (joined-trans after-clear-heads.clear_heads.ensures at-loop.loop-g.invariant.1) (omega (arith, after-groups.groups-n.ensures))
+    rebuilt c.requires.0 c.requires.1 (joined-trans c.clear_heads.ensures c.loop-g.invariant.1) (omega (arith, c.groups-n.ensures))
 
 pub rebuild_group_indexes_spec : {M : Type 1} → statement M
 rebuild_group_indexes_spec =

@@ -9,9 +9,8 @@ set-row-requires c κs = let pre = c.requires in (pre.0, replace-handles pre.0 p
 
 returns : tie.Need-returns
 returns c =
-    let after-set-row = c.before.before in
-    let pre = after-set-row.requires in
-    stepped-as after-set-row.set_row.ensures (replace-content pre.0 pre.1)
+    let pre = c.requires in
+    stepped-as c.set_row.ensures (replace-content pre.0 pre.1)
 
 pub replace_group_spec : {M : Type 1} → statement M
 replace_group_spec = tie.close (tie.spec set-row-requires (λ c. search rules) returns)

@@ -10,8 +10,7 @@ use Rattle.vrf_store.proofs.groups.set_row.Tie as tie
 
 abbrev start : tie.After-group_rows → tie.Start
 start c =
-    let back = c.before.before.before in
-    back.before
+    c.before.before.before
 
 text-len-requires : tie.Need-text_len-requires
 text-len-requires c κs = let s = start c in rw c.group_rows.ensures (row_in s.requires.0.good.valid s.args.e s.requires.0.known)
@@ -28,15 +27,13 @@ new c = let x = c.args in let m = x.m.now in with_group_row (store_of m) x.e x.i
 
 abbrev rows : tie.After-put32 → tie.After-group_rows
 rows c =
-    let put = c.before.before.before.before in
-    put.before.before.before
+    c.before.before.before.before.before.before.before
 
 written : (c : tie.After-put32) → WrittenStore (start (rows c)).args.m.now c.put32.new.s (new (start (rows c)))
 written c =
-    let put = c.before.before.before.before in
     let s = start (rows c) in
     let x = s.args in
-    set-written x.m.now x.e x.index x.at x.len x.slots s.requires.0 s.fits.index.fits s.requires.1 (rows c).held.ensures (put.text_len.ensures ∙ ap (λ (r : List ℕ). len r x.e) (rows c).group_rows.ensures) put.put_group.ensures c.put32.ensures
+    set-written x.m.now x.e x.index x.at x.len x.slots s.requires.0 s.fits.index.fits s.requires.1 (rows c).held.ensures (c.text_len.ensures ∙ ap (λ (r : List ℕ). len r x.e) (rows c).group_rows.ensures) c.put_group.ensures c.put32.ensures
 
 rebuild-group-indexes-requires : tie.Need-rebuild_group_indexes-requires
 rebuild-group-indexes-requires c κs =
@@ -47,11 +44,10 @@ rebuild-group-indexes-requires c κs =
 
 returns : tie.Need-returns
 returns c =
-    let rebuilt = c.before.before in
-    let put = rebuilt.before.before.before.before in
+    let put = c.before.before.before.before.before.before in
     let s = start (rows put) in
     let x = s.args in
-    set-stepped x.m.now x.e x.index x.at x.len x.slots s.requires.0 s.fits.index.fits s.requires.1 (written put) rebuilt.rebuild_group_indexes.ensures
+    set-stepped x.m.now x.e x.index x.at x.len x.slots s.requires.0 s.fits.index.fits s.requires.1 (written put) c.rebuild_group_indexes.ensures
 
 pub set_row_spec : {M : Type 1} → statement M
 set_row_spec =

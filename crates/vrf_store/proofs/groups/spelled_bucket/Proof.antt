@@ -7,14 +7,11 @@ use Rattle.vrf_store.proofs.groups.spelled_bucket.Tie as tie
 
 spell-requires : tie.Need-spell-n-requires
 spell-requires c κs =
-    let start = c.before.before in
-    omega (arith, key-short start.args.path.now start.args.key, start.requires)
+    omega (arith, key-short c.args.path.now c.args.key, c.requires)
 
 text-bucket-requires : tie.Need-text_bucket-requires
 text-bucket-requires c κs =
-    let after-spell = c.before.before in
-    let start = after-spell.before.before.before in
-    rw after-spell.spell-n.ensures.bytes (omega (arith, key-short start.args.path.now start.args.key, start.requires))
+    rw c.spell-n.ensures.bytes (omega (arith, key-short c.args.path.now c.args.key, c.requires))
 
 returns : tie.Need-returns
 returns c = c.text_bucket.ensures ∙ ap (text_bucket _) c.spell-n.ensures.bytes

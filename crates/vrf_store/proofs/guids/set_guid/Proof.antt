@@ -7,32 +7,19 @@ use Rattle.vrf_store.proofs.guids.set_guid.Tie as tie
 
 text-len-requires : tie.Need-text_len-requires
 text-len-requires c κs =
-    let back = c.before.before.before.before in
-    let start = back in
-    rw c.guid_rows.ensures (row_in start.requires.good.valid start.args.e start.requires.known)
+    rw c.guid_rows.ensures (row_in c.requires.good.valid c.args.e c.requires.known)
 
 sub-total : tie.Need-overflow_sub-total
 sub-total c =
-    let after-guid-rows = c.before in
-    let after-held = after-guid-rows.before.before in
-    let back = after-held.before.before in
-    let start = back.before in
-    rw (c.text_len.ensures, after-guid-rows.guid_rows.ensures, after-held.held.ensures) (path-held start.requires.good.valid start.args.e start.requires.known)
+    rw (c.text_len.ensures, c.guid_rows.ensures, c.held.ensures) (path-held c.requires.good.valid c.args.e c.requires.known)
 
 returns : tie.Need-returns
 returns c =
-    let after-put32 = c.before.before in
-    let after-put-text = after-put32.before.before.before.before in
-    let after-text-len = after-put-text.before.before in
-    let after-guid-rows = after-text-len.before in
-    let after-held = after-guid-rows.before.before in
-    let after-guids-allowed = after-held.before.before in
-    let start = after-guids-allowed in
-    let args = start.args in
-    let row = after-put-text.put_text in
-    set-guid args.m.now args.e args.at args.len args.outer start.requires start.ranges.outer.fits
-    after-guids-allowed.guids_allowed-cap.ensures.0 (rw (after-held.held.ensures, after-text-len.text_len.ensures, after-guid-rows.guid_rows.ensures))
-    (record { long = row.auto.0; made = row.ensures }) after-put32.put32.ensures
+    let args = c.args in
+    let row = c.put_text in
+    set-guid args.m.now args.e args.at args.len args.outer c.requires c.ranges.outer.fits
+    c.guids_allowed-cap.ensures.0 (rw (c.held.ensures, c.text_len.ensures, c.guid_rows.ensures))
+    (record { long = row.auto.0; made = row.ensures }) c.put32.ensures
 
 pub set_guid_spec : {M : Type 1} → statement M
 set_guid_spec =

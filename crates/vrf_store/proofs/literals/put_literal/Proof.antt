@@ -6,10 +6,7 @@ use Rattle.vrf_store.proofs.literals.put_literal.Tie as tie
 
 returns : tie.Need-returns
 returns c =
-    let after-put32 = c.before.before in
-    let after-literals-at = after-put32.before.before in
-    let start = after-literals-at.before.before in
-    literal-put start.requires.0 start.args.i start.args.position start.requires.1 after-literals-at.literals_at-at.ensures after-put32.put32.ensures
+    literal-put c.requires.0 c.args.i c.args.position c.requires.1 c.literals_at-at.ensures c.put32.ensures
 
 pub put_literal_spec : {M : Type 1} → statement M
 put_literal_spec =

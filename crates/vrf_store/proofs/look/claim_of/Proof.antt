@@ -7,20 +7,10 @@ use Rattle.vrf_store.proofs.look.claim_of.Tie as tie
 
 first-claim-requires : tie.Need-first_claim-requires
 first-claim-requires c κs =
-    let after-leaf-links = c.before in
-    let after-texts = after-leaf-links.before in
-    let after-group-rows = after-texts.before in
-    let back = after-group-rows.before.before.before.before in
-    let s = back.before.before.before.before in
-    leaf-walk s.requires.0.valid after-group-rows.group_rows-rows.ensures after-texts.texts-x.ensures c.groups.ensures s.requires.1 after-leaf-links.leaf_links.ensures
+    leaf-walk c.requires.0.valid c.group_rows-rows.ensures c.texts-x.ensures c.groups.ensures c.requires.1 c.leaf_links.ensures
 
 returns : tie.Need-returns
-returns c = cc (let back = c.before.before.before.before in
-    let after-front-start = back.before in
-    let after-leaf-start = after-front-start.before in
-    let back2 = after-leaf-start.before.before.before.before in
-    let s = back2.before.before in
-    first_found s.requires.0.valid s.requires.1 after-front-start.front_start-p.ensures after-leaf-start.leaf_start-q.ensures)
+returns c = cc (first_found c.requires.0.valid c.requires.1 c.front_start-p.ensures c.leaf_start-q.ensures)
 
 pub claim_of_spec : {M : Type 1} → statement M
 claim_of_spec =

@@ -9,23 +9,18 @@ use Rattle.vrf_store.proofs.look.field_checksum.Tie as tie
 
 row-info-requires : tie.Need-row_info-requires
 row-info-requires c κs =
-    let at-e = c.before in
-    let found = at-e.before in
-    let valid = found.requires.valid in
-    field_row valid c.field_rows.ensures (slot-row-below valid _ _ found.slot_row.ensures at-e.in-At.is)
+    let valid = c.requires.valid in
+    field_row valid c.field_rows.ensures (slot-row-below valid _ _ c.slot_row.ensures c.in-At.is)
 
 returns : tie.Need-returns-in-At
 unfolding slot_checksum field_at
 returns c =
-    let at-e = c.before.before in
-    let found = at-e.before in
-    rw (slot-filled found.requires.valid _ _ found.slot_row.ensures at-e.in-At.is) cc
+    rw (slot-filled c.requires.valid _ _ c.slot_row.ensures c.in-At.is) cc
 
 returns-2 : tie.Need-returns-in-Nowhere
 unfolding slot_checksum
 returns-2 c =
-    let found = c.before in
-    rw (slot-empty found.requires.valid _ _ found.slot_row.ensures c.in-Nowhere.is)
+    rw (slot-empty c.requires.valid _ _ c.slot_row.ensures c.in-Nowhere.is)
 
 pub field_checksum_spec : {M : Type 1} → statement M
 field_checksum_spec =

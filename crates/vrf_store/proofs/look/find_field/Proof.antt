@@ -6,8 +6,7 @@ use Rattle.vrf_store.proofs.look.find_field.Tie as tie
 
 find-key-requires : tie.Need-find_key-requires
 find-key-requires c κs =
-    let heads = c.before.before in
-    omega (arith, ap length heads.field_rows.ensures, ap length heads.field_heads.ensures)
+    omega (arith, ap length c.field_rows.ensures, ap length c.field_heads.ensures)
 
 returns : tie.Need-returns
 unfolding slot_key

@@ -6,14 +6,11 @@ use Rattle.vrf_store.proofs.look.find_guid.Tie as tie
 
 find-key-requires : tie.Need-find_key-requires
 find-key-requires c κs =
-    let heads = c.before.before in
-    omega (arith, ap length heads.guid_rows.ensures, ap length heads.guid_heads.ensures)
+    omega (arith, ap length c.guid_rows.ensures, ap length c.guid_heads.ensures)
 
 returns : tie.Need-returns
 returns c =
-    let back = c.before.before.before.before in
-    let start = back.before.before in
-    cc (guid-found start.requires.valid start.args.guid)
+    cc (guid-found c.requires.valid c.args.guid)
 
 pub find_guid_spec : {M : Type 1} → statement M
 find_guid_spec =

@@ -6,14 +6,11 @@ use Rattle.vrf_store.proofs.look.find_index.Tie as tie
 
 find-key-requires : tie.Need-find_key-requires
 find-key-requires c κs =
-    let heads = c.before.before in
-    omega (arith, ap length heads.group_rows.ensures, ap length heads.group_heads.ensures)
+    omega (arith, ap length c.group_rows.ensures, ap length c.group_heads.ensures)
 
 returns : tie.Need-returns
 returns c =
-    let back = c.before.before.before.before in
-    let start = back.before.before in
-    cc (index-found start.requires.valid start.args.index)
+    cc (index-found c.requires.valid c.args.index)
 
 pub find_index_spec : {M : Type 1} → statement M
 find_index_spec =

@@ -7,10 +7,10 @@ use Rattle.vrf_store.proofs.look.front_start.Statement.{statement}
 use Rattle.vrf_store.proofs.look.front_start.Tie as tie
 
 returns : tie.Need-returns-then-n-name
-returns c = let s = c.before.before.before in s.requires.3 ∙ ap (text_start (store_of s.args.m.now).leaf_heads (Layout.leaf_buckets (allowances_of s.args.m.now))) (sym (take_all s.args.n s.args.name.now (omega (arith, c.if-n-name.true))))
+returns c = c.requires.3 ∙ ap (text_start (store_of c.args.m.now).leaf_heads (Layout.leaf_buckets (allowances_of c.args.m.now))) (sym (take_all c.args.n c.args.name.now (omega (arith, c.if-n-name.true))))
 
 leaf-start-requires : tie.Need-leaf_start-requires
-leaf-start-requires c κs = let s = c.before.before.before in (s.requires.0, rw length-take (omega arith))
+leaf-start-requires c κs = (c.requires.0, rw length-take (omega arith))
 
 pub front_start_spec : {M : Type 1} → statement M
 front_start_spec =

@@ -8,8 +8,7 @@ use Rattle.vrf_store.proofs.look.get_gameplay_tag_name.Tie as tie
 returns : tie.Need-returns-in-At
 unfolding gameplay_tag then_lookup tag_group_path
 returns c =
-    let at_place = c.before in
-    let there = sym at_place.find_path_place.ensures ∙ ap entry at_place.in-At.is in
+    let there = sym c.find_path_place.ensures ∙ ap entry c.in-At.is in
     rw there c.if_filled.ensures
 
 returns-2 : tie.Need-returns-in-Nowhere

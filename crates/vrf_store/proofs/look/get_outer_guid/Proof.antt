@@ -9,10 +9,8 @@ use Rattle.vrf_store.proofs.look.get_outer_guid.Tie as tie
 returns : tie.Need-returns-in-At
 unfolding outer_guid then_lookup
 returns c =
-    let after-guid-outer = c.before in
-    let at_i = after-guid-outer.before in
-    let there = sym at_i.find_guid.ensures ∙ ap entry at_i.in-At.is in
-    rw (there, outer-place, ← after-guid-outer.guid_outer.ensures) c.unless_zero.ensures
+    let there = sym c.find_guid.ensures ∙ ap entry c.in-At.is in
+    rw (there, outer-place, ← c.guid_outer.ensures) c.unless_zero.ensures
 
 returns-2 : tie.Need-returns-in-Nowhere
 unfolding outer_guid then_lookup

@@ -8,8 +8,7 @@ use Rattle.vrf_store.proofs.look.get_outer_path.Tie as tie
 returns : tie.Need-returns-in-Is
 unfolding outer_path then_lookup
 returns c =
-    let at-outer = c.before in
-    let there = sym at-outer.get_outer_guid.ensures ∙ ap number_found at-outer.in-Is.is in
+    let there = sym c.get_outer_guid.ensures ∙ ap number_found c.in-Is.is in
     rw there c.find_guid.ensures
 
 returns-2 : tie.Need-returns-in-Nothing

@@ -13,24 +13,19 @@ row-key-requires c κs = group-row c.requires.valid c.group_rows.ensures (omega 
 
 cast-result : tie.Need-overflow_cast-result
 cast-result c =
-    let after-group-rows = c.before in
-    let start = after-group-rows.before.before.before.before in
-    let i = start.args.i in
-    let same = c.row_key.ensures ∙ ap (λ (r : List ℕ). key r i) after-group-rows.group_rows.ensures in
-    omega (arith, (start.requires.valid.groups i (omega arith)).0)
+    let i = c.args.i in
+    let same = c.row_key.ensures ∙ ap (λ (r : List ℕ). key r i) c.group_rows.ensures in
+    omega (arith, (c.requires.valid.groups i (omega arith)).0)
 
 returns : tie.Need-returns-then-i-groups
 unfolding group_by
 returns c =
-    let back = c.before.before.before.before in
-    let start = back.before in
-    let there = group-at (store_of start.args.m.now) 0 start.args.i (λ (g : Group). g.index) (omega arith) in
+    let there = group-at (store_of c.args.m.now) 0 c.args.i (λ (g : Group). g.index) (omega arith) in
     cc
 
 returns-2 : tie.Need-returns
 returns-2 c =
-    let start = c.before.before.before in
-    sym (group-past (store_of start.args.m.now) 0 start.args.i (λ (g : Group). g.index) (omega arith))
+    sym (group-past (store_of c.args.m.now) 0 c.args.i (λ (g : Group). g.index) (omega arith))
 
 pub group_index_spec : {M : Type 1} → statement M
 group_index_spec =

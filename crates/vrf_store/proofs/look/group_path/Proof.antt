@@ -9,22 +9,17 @@ use Rattle.vrf_store.proofs.look.group_path.Tie as tie
 
 row-text-requires : tie.Need-row_text-requires
 row-text-requires c κs =
-    let after-group-rows = c.before in
-    let start = after-group-rows.before.before.before.before in
-    (group-row start.requires.valid after-group-rows.group_rows.ensures (omega arith), group-text start.requires.valid after-group-rows.group_rows.ensures c.texts.ensures (omega arith))
+    (group-row c.requires.valid c.group_rows.ensures (omega arith), group-text c.requires.valid c.group_rows.ensures c.texts.ensures (omega arith))
 
 returns : tie.Need-returns-then-i-groups
 unfolding group_by
 returns c =
-    let back = c.before.before.before.before in
-    let start = back.before.before in
-    let there = group-at (store_of start.args.m.now) [] start.args.i (λ (g : Group). g.path) (omega arith) in
+    let there = group-at (store_of c.args.m.now) [] c.args.i (λ (g : Group). g.path) (omega arith) in
     cc
 
 returns-2 : tie.Need-returns
 returns-2 c =
-    let start = c.before.before.before.before in
-    sym (group-past (store_of start.args.m.now) [] start.args.i (λ (g : Group). g.path) (omega arith))
+    sym (group-past (store_of c.args.m.now) [] c.args.i (λ (g : Group). g.path) (omega arith))
 
 pub group_path_spec : {M : Type 1} → statement M
 group_path_spec =

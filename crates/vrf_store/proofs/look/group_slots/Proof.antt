@@ -15,18 +15,15 @@ row-info-requires c κs = group-row c.requires.valid c.group_rows.ensures (omega
 returns : tie.Need-returns-then-i-groups
 unfolding group_by
 returns c =
-    let back = c.before.before.before.before in
-    let start = back.before in
-    let s = store_of start.args.m.now in
-    let i = start.args.i in
+    let s = store_of c.args.m.now in
+    let i = c.args.i in
     let there = group-at s 0 i (λ (g : Group). length g.slots) (omega arith) in
     let many = length-up_to (slot_by s s.header.fields i) (info s.group_rows i) in
     cc
 
 returns-2 : tie.Need-returns
 returns-2 c =
-    let start = c.before.before.before in
-    sym (group-past (store_of start.args.m.now) 0 start.args.i (λ (g : Group). length g.slots) (omega arith))
+    sym (group-past (store_of c.args.m.now) 0 c.args.i (λ (g : Group). length g.slots) (omega arith))
 
 pub group_slots_spec : {M : Type 1} → statement M
 group_slots_spec =

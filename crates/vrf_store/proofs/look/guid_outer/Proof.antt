@@ -13,15 +13,12 @@ row-info-requires c κs = guid-row c.requires.valid c.guid_rows.ensures (omega a
 returns : tie.Need-returns-then-i-guids
 unfolding guid_at
 returns c =
-    let back = c.before.before.before.before in
-    let start = back.before in
-    let there = guid-at (store_of start.args.m.now) 0 start.args.i (λ (g : Guid). g.outer) (omega arith) in
+    let there = guid-at (store_of c.args.m.now) 0 c.args.i (λ (g : Guid). g.outer) (omega arith) in
     cc
 
 returns-2 : tie.Need-returns
 returns-2 c =
-    let start = c.before.before.before in
-    sym (guid-past (store_of start.args.m.now) 0 start.args.i (λ (g : Guid). g.outer) (omega arith))
+    sym (guid-past (store_of c.args.m.now) 0 c.args.i (λ (g : Guid). g.outer) (omega arith))
 
 pub guid_outer_spec : {M : Type 1} → statement M
 guid_outer_spec =

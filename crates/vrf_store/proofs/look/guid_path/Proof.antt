@@ -9,22 +9,17 @@ use Rattle.vrf_store.proofs.look.guid_path.Tie as tie
 
 row-text-requires : tie.Need-row_text-requires
 row-text-requires c κs =
-    let after-guid-rows = c.before in
-    let start = after-guid-rows.before.before.before.before in
-    (guid-row start.requires.valid after-guid-rows.guid_rows.ensures (omega arith), guid-text start.requires.valid after-guid-rows.guid_rows.ensures c.texts.ensures (omega arith))
+    (guid-row c.requires.valid c.guid_rows.ensures (omega arith), guid-text c.requires.valid c.guid_rows.ensures c.texts.ensures (omega arith))
 
 returns : tie.Need-returns-then-i-guids
 unfolding guid_at
 returns c =
-    let back = c.before.before.before.before in
-    let start = back.before.before in
-    let there = guid-at (store_of start.args.m.now) [] start.args.i (λ (g : Guid). g.path) (omega arith) in
+    let there = guid-at (store_of c.args.m.now) [] c.args.i (λ (g : Guid). g.path) (omega arith) in
     cc
 
 returns-2 : tie.Need-returns
 returns-2 c =
-    let start = c.before.before.before.before in
-    sym (guid-past (store_of start.args.m.now) [] start.args.i (λ (g : Guid). g.path) (omega arith))
+    sym (guid-past (store_of c.args.m.now) [] c.args.i (λ (g : Guid). g.path) (omega arith))
 
 pub guid_path_spec : {M : Type 1} → statement M
 guid_path_spec =

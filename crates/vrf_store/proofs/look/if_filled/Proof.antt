@@ -9,14 +9,12 @@ use Rattle.vrf_store.proofs.look.if_filled.Tie as tie
 returns : tie.Need-returns-in-At
 unfolding if_filled field_at
 returns c =
-    let found = c.before in
-    rw (slot-filled found.requires.valid _ _ found.slot_row.ensures c.in-At.is)
+    rw (slot-filled c.requires.valid _ _ c.slot_row.ensures c.in-At.is)
 
 returns-2 : tie.Need-returns-in-Nowhere
 unfolding if_filled
 returns-2 c =
-    let found = c.before in
-    rw (slot-empty found.requires.valid _ _ found.slot_row.ensures c.in-Nowhere.is)
+    rw (slot-empty c.requires.valid _ _ c.slot_row.ensures c.in-Nowhere.is)
 
 pub if_filled_spec : {M : Type 1} → statement M
 if_filled_spec = tie.close (tie.spec (λ c κs. search rules) (λ c. search rules) (λ c. search rules) returns returns-2)

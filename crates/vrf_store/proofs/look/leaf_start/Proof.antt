@@ -7,18 +7,13 @@ use Rattle.vrf_store.proofs.look.leaf_start.Tie as tie
 
 get32-requires : tie.Need-get32-requires
 get32-requires c κs =
-    let after-leaf-heads = c.before in
-    let after-leaf-buckets = after-leaf-heads.before in
-    let s = after-leaf-buckets.before.before.before in
-    let b = after-leaf-buckets.leaf_buckets-b in
-    omega (arith, ap length after-leaf-heads.leaf_heads.ensures, s.requires.0.valid.shaped.leaf_heads, c.text_bucket.ensures, b.ensures, text_bucket-lt b.result s.args.base.now (omega (arith, b.ensures)))
+    let b = c.leaf_buckets-b in
+    omega (arith, ap length c.leaf_heads.ensures, c.requires.0.valid.shaped.leaf_heads, c.text_bucket.ensures, b.ensures, text_bucket-lt b.result c.args.base.now (omega (arith, b.ensures)))
 
 returns : tie.Need-returns
 unfolding text_start
 returns c =
-    let after-text-bucket = c.before in
-    let after-leaf-heads = after-text-bucket.before in
-    cc (c.get32.ensures, after-text-bucket.text_bucket.ensures, after-leaf-heads.leaf_heads.ensures, after-leaf-heads.leaf_buckets-b.ensures)
+    cc (c.get32.ensures, c.text_bucket.ensures, c.leaf_heads.ensures, c.leaf_buckets-b.ensures)
 
 pub leaf_start_spec : {M : Type 1} → statement M
 leaf_start_spec =

@@ -11,46 +11,27 @@ returns c = rw (lt-ltb 1000000 c.args.guids c.if-guids-gt1000000.true)
 returns-2 : tie.Need-returns-then-groups-gt100000
 unfolding above_top
 returns-2 c =
-    let at-if1 = c.before in
-    let start = at-if1.before in
-    rw (le-ltb 1000000 start.args.guids at-if1.if-guids-gt1000000.false, lt-ltb 100000 start.args.groups c.if-groups-gt100000.true)
+    rw (le-ltb 1000000 c.args.guids c.if-guids-gt1000000.false, lt-ltb 100000 c.args.groups c.if-groups-gt100000.true)
 
 returns-3 : tie.Need-returns-then-fields-gt1000000
 unfolding above_top
 returns-3 c =
-    let at-if2 = c.before in
-    let at-if1 = at-if2.before in
-    let start = at-if1.before in
-    rw (le-ltb 1000000 start.args.guids at-if1.if-guids-gt1000000.false, le-ltb 100000 start.args.groups at-if2.if-groups-gt100000.false, lt-ltb 1000000 start.args.fields c.if-fields-gt1000000.true)
+    rw (le-ltb 1000000 c.args.guids c.if-guids-gt1000000.false, le-ltb 100000 c.args.groups c.if-groups-gt100000.false, lt-ltb 1000000 c.args.fields c.if-fields-gt1000000.true)
 
 returns-4 : tie.Need-returns-then-text-gt67108864
 unfolding above_top
 returns-4 c =
-    let at-if3 = c.before in
-    let at-if2 = at-if3.before in
-    let at-if1 = at-if2.before in
-    let start = at-if1.before in
-    rw (le-ltb 1000000 start.args.guids at-if1.if-guids-gt1000000.false, le-ltb 100000 start.args.groups at-if2.if-groups-gt100000.false, le-ltb 1000000 start.args.fields at-if3.if-fields-gt1000000.false, lt-ltb 67108864 start.args.text c.if-text-gt67108864.true)
+    rw (le-ltb 1000000 c.args.guids c.if-guids-gt1000000.false, le-ltb 100000 c.args.groups c.if-groups-gt100000.false, le-ltb 1000000 c.args.fields c.if-fields-gt1000000.false, lt-ltb 67108864 c.args.text c.if-text-gt67108864.true)
 
 returns-5 : tie.Need-returns-then-literals-gt1000000
 unfolding above_top
 returns-5 c =
-    let at-if4 = c.before in
-    let at-if3 = at-if4.before in
-    let at-if2 = at-if3.before in
-    let at-if1 = at-if2.before in
-    let start = at-if1.before in
-    rw (le-ltb 1000000 start.args.guids at-if1.if-guids-gt1000000.false, le-ltb 100000 start.args.groups at-if2.if-groups-gt100000.false, le-ltb 1000000 start.args.fields at-if3.if-fields-gt1000000.false, le-ltb 67108864 start.args.text at-if4.if-text-gt67108864.false, lt-ltb 1000000 start.args.literals c.if-literals-gt1000000.true)
+    rw (le-ltb 1000000 c.args.guids c.if-guids-gt1000000.false, le-ltb 100000 c.args.groups c.if-groups-gt100000.false, le-ltb 1000000 c.args.fields c.if-fields-gt1000000.false, le-ltb 67108864 c.args.text c.if-text-gt67108864.false, lt-ltb 1000000 c.args.literals c.if-literals-gt1000000.true)
 
 returns-6 : tie.Need-returns
 unfolding above_top
 returns-6 c =
-    let at-if4 = c.before in
-    let at-if3 = at-if4.before in
-    let at-if2 = at-if3.before in
-    let at-if1 = at-if2.before in
-    let start = at-if1.before in
-    rw (le-ltb 1000000 start.args.guids at-if1.if-guids-gt1000000.false, le-ltb 100000 start.args.groups at-if2.if-groups-gt100000.false, le-ltb 1000000 start.args.fields at-if3.if-fields-gt1000000.false, le-ltb 67108864 start.args.text at-if4.if-text-gt67108864.false, le-ltb 1000000 start.args.literals c.if-literals-gt1000000.false)
+    rw (le-ltb 1000000 c.args.guids c.if-guids-gt1000000.false, le-ltb 100000 c.args.groups c.if-groups-gt100000.false, le-ltb 1000000 c.args.fields c.if-fields-gt1000000.false, le-ltb 67108864 c.args.text c.if-text-gt67108864.false, le-ltb 1000000 c.args.literals c.if-literals-gt1000000.false)
 
 pub above_top_spec : {M : Type 1} → statement M
 above_top_spec = tie.close (tie.spec returns returns-2 returns-3 returns-4 returns-5 returns-6)

@@ -6,14 +6,11 @@ use Rattle.vrf_store.proofs.open.clear_book.Tie as tie
 
 zero-heads-requires : tie.Need-zero_heads-requires
 zero-heads-requires c κs =
-    let after-zero-words = c.before.before.before in
-    emptied-enough after-zero-words.requires after-zero-words.zero_words.ensures
+    emptied-enough c.requires c.zero_words.ensures
 
 returns : tie.Need-returns
 returns c =
-    let after-zero-heads = c.before.before in
-    let after-zero-words = after-zero-heads.before.before.before.before in
-    cleared after-zero-words.requires after-zero-words.zero_words.ensures after-zero-heads.zero_heads.ensures
+    cleared c.requires c.zero_words.ensures c.zero_heads.ensures
 
 pub clear_book_spec : {M : Type 1} → statement M
 clear_book_spec = tie.close (tie.spec (λ c κs. search rules) zero-heads-requires (λ c. search rules) returns)

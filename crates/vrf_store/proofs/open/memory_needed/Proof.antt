@@ -6,22 +6,15 @@ use Rattle.vrf_store.proofs.open.memory_needed.Tie as tie
 
 returns : tie.Need-returns-then-above_top-gt0
 returns c =
-    let after-above-top = c.before in
-    let start = after-above-top.before in
-    sym (needed-above (record { guids = start.args.guids; groups = start.args.groups; fields = start.args.fields; text = start.args.text; literals = start.args.literals }) after-above-top.above_top.ensures c.if-above_top-gt0.true)
+    sym (needed-above (record { guids = c.args.guids; groups = c.args.groups; fields = c.args.fields; text = c.args.text; literals = c.args.literals }) c.above_top.ensures c.if-above_top-gt0.true)
 
 needed-requires : tie.Need-needed-requires
 needed-requires c κs =
-    let after-above-top = c.before in
-    let start = after-above-top.before in
-    within-tops (record { guids = start.args.guids; groups = start.args.groups; fields = start.args.fields; text = start.args.text; literals = start.args.literals }) after-above-top.above_top.ensures c.if-above_top-gt0.false
+    within-tops (record { guids = c.args.guids; groups = c.args.groups; fields = c.args.fields; text = c.args.text; literals = c.args.literals }) c.above_top.ensures c.if-above_top-gt0.false
 
 returns-2 : tie.Need-returns
 returns-2 c =
-    let at-if1 = c.before in
-    let after-above-top = at-if1.before in
-    let start = after-above-top.before in
-    c.needed.ensures ∙ sym (needed-within (record { guids = start.args.guids; groups = start.args.groups; fields = start.args.fields; text = start.args.text; literals = start.args.literals }) after-above-top.above_top.ensures at-if1.if-above_top-gt0.false)
+    c.needed.ensures ∙ sym (needed-within (record { guids = c.args.guids; groups = c.args.groups; fields = c.args.fields; text = c.args.text; literals = c.args.literals }) c.above_top.ensures c.if-above_top-gt0.false)
 
 pub memory_needed_spec : {M : Type 1} → statement M
 memory_needed_spec = tie.close (tie.spec (λ c κs. search rules) returns needed-requires returns-2)

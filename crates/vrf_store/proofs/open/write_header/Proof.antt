@@ -6,16 +6,9 @@ use Rattle.vrf_store.proofs.open.write_header.Tie as tie
 
 returns : tie.Need-returns
 returns c =
-    let after-zero-words = c.before.before in
-    let after-put325 = after-zero-words.before.before.before.before in
-    let after-put324 = after-put325.before.before.before.before in
-    let after-put323 = after-put324.before.before.before.before in
-    let after-put322 = after-put323.before.before.before.before in
-    let after-put32 = after-put322.before.before.before.before in
-    let start = after-put32.before.before.before in
-    let x = start.args in
-    written-header (record { guids = x.guids; groups = x.groups; fields = x.fields; text = x.text; literals = x.literals }) x.m.now start.requires start.ranges.guids.fits start.ranges.groups.fits start.ranges.fields.fits start.ranges.text.fits start.ranges.literals.fits
-    after-put32.put32.ensures after-put322.put32-2.ensures after-put323.put32-3.ensures after-put324.put32-4.ensures after-put325.put32-5.ensures after-zero-words.zero_words.ensures
+    let x = c.args in
+    written-header (record { guids = x.guids; groups = x.groups; fields = x.fields; text = x.text; literals = x.literals }) x.m.now c.requires c.ranges.guids.fits c.ranges.groups.fits c.ranges.fields.fits c.ranges.text.fits c.ranges.literals.fits
+    c.put32.ensures c.put32-2.ensures c.put32-3.ensures c.put32-4.ensures c.put32-5.ensures c.zero_words.ensures
 
 pub write_header_spec : {M : Type 1} → statement M
 write_header_spec =

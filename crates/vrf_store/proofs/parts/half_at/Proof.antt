@@ -8,19 +8,14 @@ use Rattle.vrf_store.proofs.parts.half_at.Tie as tie
 returns : tie.Need-returns-then-half-eq0
 unfolding half_at
 returns c =
-    let after-half = c.before in
-    let after-texts-at = after-half.before in
-    let first = eq-eqb (word after-texts-at.args.m.now 10) 0 (sym after-half.half.ensures ∙ c.if-half-eq0.true) in
-    rw first after-texts-at.texts_at-at.ensures
+    let first = eq-eqb (word c.args.m.now 10) 0 (sym c.half.ensures ∙ c.if-half-eq0.true) in
+    rw first c.texts_at-at.ensures
 
 returns-2 : tie.Need-returns
 unfolding half_at
 returns-2 c =
-    let at-if1 = c.before in
-    let after-half = at-if1.before in
-    let after-texts-at = after-half.before in
-    let second = ne_eqb (word after-texts-at.args.m.now 10) 0 (λ e. at-if1.if-half-eq0.false (after-half.half.ensures ∙ e)) in
-    rw second (ap₂ ◌+◌ after-texts-at.texts_at-at.ensures c.text_allowed.ensures.0)
+    let second = ne_eqb (word c.args.m.now 10) 0 (λ e. c.if-half-eq0.false (c.half.ensures ∙ e)) in
+    rw second (ap₂ ◌+◌ c.texts_at-at.ensures c.text_allowed.ensures.0)
 
 pub half_at_spec : {M : Type 1} → statement M
 half_at_spec =

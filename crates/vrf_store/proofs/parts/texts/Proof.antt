@@ -9,11 +9,9 @@ use Rattle.vrf_store.proofs.parts.texts.Tie as tie
 
 -- the half ends inside the memory
 within : (c : tie.After-text_allowed) →
-    let start = c.before.before.before in
-    half_at (allowances_of start.args.m.now) (header_of start.args.m.now).half + (allowances_of start.args.m.now).text ≤ Layout.need (allowances_of start.args.m.now)
+    half_at (allowances_of c.args.m.now) (header_of c.args.m.now).half + (allowances_of c.args.m.now).text ≤ Layout.need (allowances_of c.args.m.now)
 within c =
-    let start = c.before.before.before in
-    half-within (allowances_of start.args.m.now) (header_of start.args.m.now).half
+    half-within (allowances_of c.args.m.now) (header_of c.args.m.now).half
 
 returns : tie.Need-returns
 unfolding part

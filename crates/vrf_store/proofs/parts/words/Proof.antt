@@ -8,8 +8,7 @@ use Rattle.vrf_store.proofs.parts.words.Tie as tie
 returns : tie.Need-returns
 unfolding words part
 returns c =
-    let start = c.before in
-    ap (λ (k : ℕ). take k (drop (4 * start.args.i) start.args.m.now)) (let e : 4 * start.args.i + 4 * start.args.n - 4 * start.args.i ≡ 4 * start.args.n = omega arith in e)
+    ap (λ (k : ℕ). take k (drop (4 * c.args.i) c.args.m.now)) (let e : 4 * c.args.i + 4 * c.args.n - 4 * c.args.i ≡ 4 * c.args.n = omega arith in e)
 
 pub words_spec : {M : Type 1} → statement M
 words_spec =

@@ -8,23 +8,17 @@ use Rattle.vrf_store.proofs.texts.append_text.Tie as tie
 
 add_at : tie.Need-overflow_add-at
 add_at c =
-    let back = c.before.before.before.before in
-    let m = back.args.m.now in
+    let m = c.args.m.now in
     omega (arith, half-within (allowances_of m) (header_of m).half)
 
 put-part-requires : tie.Need-put_part-requires
 put-part-requires c κs =
-    let back = c.before.before.before.before in
-    let m = back.args.m.now in
+    let m = c.args.m.now in
     omega (arith, half-within (allowances_of m) (header_of m).half)
 
 returns : tie.Need-returns
 returns c =
-    let after-put32 = c.before.before in
-    let put = after-put32.before.before.before.before in
-    let found = put.before.before in
-    let after-used = found.before.before in
-    append-written _ _ _ _ _ _ after-used.requires after-used.used-a.ensures found.half_at.ensures put.put_part.ensures after-put32.put32.ensures
+    append-written _ _ _ _ _ _ c.requires c.used-a.ensures c.half_at.ensures c.put_part.ensures c.put32.ensures
 
 pub append_text_spec : {M : Type 1} → statement M
 append_text_spec =

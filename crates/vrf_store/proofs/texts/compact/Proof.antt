@@ -41,42 +41,31 @@ move-texts-requires c κs = first-movable (start c.before).requires (found c.bef
 
 move-texts-requires-2 : tie.Need-move_texts-second-requires
 move-texts-requires-2 c κs =
-    let one = c.before.before.before in
-    let read = one.before.before in
-    second-movable (start read).requires (found read) one.move_texts-first.ensures
+    let read = c.before.before.before.before.before in
+    second-movable (start read).requires (found read) c.move_texts-first.ensures
 
 move-texts-requires-3 : tie.Need-move_texts-end-requires
 move-texts-requires-3 c κs =
-    let two = c.before.before.before in
-    let one = two.before.before.before.before in
-    let read = one.before.before in
-    third-movable (start read).requires (found read) one.move_texts-first.ensures two.move_texts-second.ensures
+    let read = c.before.before.before.before.before.before.before.before.before in
+    third-movable (start read).requires (found read) c.move_texts-first.ensures c.move_texts-second.ensures
 
 -- no call changes the length
 long : (c : tie.After-move_texts-end) → 128 ≤ length c.move_texts-end.new.m
 long c =
-    let two = c.before.before.before.before in
-    let one = two.before.before.before.before in
-    omega (arith, one.move_texts-first.ensures.long, two.move_texts-second.ensures.long, c.move_texts-end.ensures.long, (start one.before.before).requires.enough)
+    omega (arith, c.move_texts-first.ensures.long, c.move_texts-second.ensures.long, c.move_texts-end.ensures.long, (start c.before.before.before.before.before.before.before.before.before.before).requires.enough)
 
 put32-requires : tie.Need-put32-requires
 put32-requires c κs = omega (arith, long c.before.before.before)
 
 put32-requires-2 : tie.Need-put32-requires-2
 put32-requires-2 c κs =
-    let four = c.before.before.before in
-    omega (arith, long four.before.before.before.before, four.put32.auto.s)
+    omega (arith, long c.before.before.before.before.before.before.before, c.put32.auto.s)
 
 returns : tie.Need-returns
 returns c =
-    let five = c.before.before in
-    let four = five.before.before.before.before in
-    let three = four.before.before.before.before in
-    let two = three.before.before.before.before in
-    let one = two.before.before.before.before in
-    let read = one.before.before in
+    let read = c.before.before.before.before.before.before.before.before.before.before.before.before.before.before.before.before.before.before.before.before in
     let guids = (counted read).before.before.before.before in
-    compact-written (start read).requires (found read) one.move_texts-first.ensures two.move_texts-second.ensures three.move_texts-end.ensures _ _ _ guids.half-other.ensures four.put32.ensures five.put32-2.ensures
+    compact-written (start read).requires (found read) c.move_texts-first.ensures c.move_texts-second.ensures c.move_texts-end.ensures _ _ _ guids.half-other.ensures c.put32.ensures c.put32-2.ensures
 
 pub compact_spec : {M : Type 1} → statement M
 compact_spec =

@@ -9,9 +9,7 @@ returns c = search rules
 
 returns-2 : tie.Need-returns
 returns-2 c =
-    let after-compact = c.before.before in
-    let back = after-compact.before.before.before.before in
-    space-made after-compact.compact.ensures back.requires.1
+    space-made c.compact.ensures c.requires.1
 
 pub make_space_spec : {M : Type 1} → statement M
 make_space_spec =

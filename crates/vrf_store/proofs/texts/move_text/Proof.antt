@@ -7,9 +7,7 @@ use Rattle.vrf_store.proofs.texts.move_text.Tie as tie
 
 move-part-requires : tie.Need-move_part-requires
 move-part-requires c κs =
-    let after-get322 = c.before in
-    let after-get32 = after-get322.before.before in
-    (search rules, search rules, rw (after-get32.get32-at.ensures, after-get322.get32-len.ensures) after-get32.requires.apart)
+    (search rules, search rules, rw (c.get32-at.ensures, c.get32-len.ensures) c.requires.apart)
 
 returns : tie.Need-returns
 unfolding move_text

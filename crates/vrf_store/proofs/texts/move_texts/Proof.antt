@@ -14,16 +14,11 @@ decreases-loop m₀ rows n from to used end₀ e₀ m end e = n - e
 
 move-text-requires : tie.Need-move_text-end-requires invariant-loop decreases-loop
 move-text-requires c κs =
-    let at-loop-test = c.before in
-    let at-loop = at-loop-test.before in
-    next-fitting _ _ _ _ _ _ _ _ at-loop.requires _ _ at-loop-test.loop-e-test.true at-loop.loop-e.invariant.1
+    next-fitting _ _ _ _ _ _ _ _ c.requires _ _ c.loop-e-test.true c.loop-e.invariant.1
 
 loop-again : tie.Need-loop-e-preserved invariant-loop decreases-loop
 loop-again c =
-    let after-move-text = c.before.before in
-    let at-loop-test = after-move-text.before.before in
-    let at-loop = at-loop-test.before in
-    (search rules, moved-next _ _ _ _ _ _ _ _ at-loop.requires _ _ at-loop-test.loop-e-test.true at-loop.loop-e.invariant.1 _ _ after-move-text.move_text-end.ensures.0 after-move-text.move_text-end.ensures.1)
+    (search rules, moved-next _ _ _ _ _ _ _ _ c.requires _ _ c.loop-e-test.true c.loop-e.invariant.1 _ _ c.move_text-end.ensures.0 c.move_text-end.ensures.1)
 
 same_length : tie.Need-shape_of-m invariant-loop decreases-loop
 same_length c = c.loop-e.invariant.1.long

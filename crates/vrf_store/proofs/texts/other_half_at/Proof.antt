@@ -8,21 +8,18 @@ use Rattle.vrf_store.proofs.texts.other_half_at.Tie as tie
 
 add-result : tie.Need-overflow_add-result
 add-result c =
-    let back = c.before.before.before.before in
-    let m = back.args.m.now in
+    let m = c.args.m.now in
     omega (arith, half-within (allowances_of m) (header_of m).half)
 
 returns : tie.Need-returns-then-half-eq0
 returns c =
-    let first = c.before in
-    let m = first.args.m.now in
-    omega (arith, half-following (allowances_of m) (header_of m).half (sym first.half.ensures ∙ first.if-half-eq0.true))
+    let m = c.args.m.now in
+    omega (arith, half-following (allowances_of m) (header_of m).half (sym c.half.ensures ∙ c.if-half-eq0.true))
 
 -- the other half is the first
 first : (c : tie.Else-half-eq0) → let m = c.args.m.now in half_at (allowances_of m) (1 - (header_of m).half) + (allowances_of m).text ≡ half_at (allowances_of m) (header_of m).half
 first c =
-    let start = c.before.before.before.before in
-    half-before (allowances_of start.args.m.now) _ (λ q. c.if-half-eq0.false (c.half.ensures ∙ q)) start.requires.1
+    half-before (allowances_of c.args.m.now) _ (λ q. c.if-half-eq0.false (c.half.ensures ∙ q)) c.requires.1
 
 pub other_half_at_spec : {M : Type 1} → statement M
 other_half_at_spec =

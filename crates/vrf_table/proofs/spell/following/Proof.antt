@@ -6,9 +6,7 @@ use Rattle.vrf_table.proofs.spell.following.Tie as tie
 
 returns : tie.Need-returns
 returns c =
-    let after_lower = c.before in
-    let start = after_lower.before.before in
-    part-following start.args.t.now start.args.k after_lower.lower-from.result after_lower.lower-from.ensures
+    part-following c.args.t.now c.args.k c.lower-from.result c.lower-from.ensures
 
 pub following_spec : {M : Type 1} → statement M
 following_spec =

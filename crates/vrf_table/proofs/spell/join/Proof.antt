@@ -6,11 +6,8 @@ use Rattle.vrf_table.proofs.spell.join.Tie as tie
 
 returns : tie.Need-returns
 returns c =
-    let after-put-part2 = c.before.before in
-    let after-put-part = after-put-part2.before.before.before.before in
-    let back = after-put-part.before.before.before.before in
-    let x = back.args in
-    joined x.a.now x.b.now after-put-part.put_part.ensures after-put-part2.put_part-2.ensures (omega arith) (omega arith)
+    let x = c.args in
+    joined x.a.now x.b.now c.put_part.ensures c.put_part-2.ensures (omega arith) (omega arith)
 
 pub join_spec : {M : Type 1} → statement M
 join_spec =

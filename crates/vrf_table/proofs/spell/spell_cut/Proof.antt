@@ -9,46 +9,29 @@ slice-aggregate-put-part c = rw length-take (omega (arith, c.lower-n.ensures))
 
 put-part-requires : tie.Need-put_part-requires
 put-part-requires c κs =
-    let after_lower = c.before.before in
-    let start = after_lower.before.before in
-    let fits = simp length-append at start.requires in
-    omega (arith, ap length (cut-front start.args.path.now start.args.at _ after_lower.lower-n.ensures), fits)
+    let fits = simp length-append at c.requires in
+    omega (arith, ap length (cut-front c.args.path.now c.args.at _ c.lower-n.ensures), fits)
 
 slice-write-scratch : tie.Need-bounds-scratch-n
 slice-write-scratch c =
-    let after-put-part = c.before.before in
-    let after_lower = after-put-part.before.before.before in
-    let start = after_lower.before.before in
-    let fits = simp length-append at start.requires in
-    omega (arith, ap length (cut-front start.args.path.now start.args.at _ after_lower.lower-n.ensures), length-take after_lower.lower-n.result start.args.path.now, after_lower.lower-n.ensures, fits, after-put-part.put_part.auto.m)
+    let fits = simp length-append at c.requires in
+    omega (arith, ap length (cut-front c.args.path.now c.args.at _ c.lower-n.ensures), length-take c.lower-n.result c.args.path.now, c.lower-n.ensures, fits, c.put_part.auto.m)
 
 put-part-requires-2 : tie.Need-put_part-requires-2
 put-part-requires-2 c κs =
-    let after-following = c.before in
-    let after-put-part = after-following.before.before.before.before in
-    let after_lower = after-put-part.before.before.before in
-    let x = after_lower.before.before in
-    let t = x.args.path.now in
-    let fits = simp length-append at x.requires in
-    let front = ap length (cut-front t x.args.at _ after_lower.lower-n.ensures) in
-    let rest = ap length (after-following.following-rest.ensures ∙ cut-following t x.args.at _ after_lower.lower-n.ensures) in
-    rw length-set (omega (arith, front, length-take after_lower.lower-n.result t, after_lower.lower-n.ensures, rest, fits, after-put-part.put_part.auto.m))
+    let t = c.args.path.now in
+    let fits = simp length-append at c.requires in
+    let front = ap length (cut-front t c.args.at _ c.lower-n.ensures) in
+    let rest = ap length (c.following-rest.ensures ∙ cut-following t c.args.at _ c.lower-n.ensures) in
+    rw length-set (omega (arith, front, length-take c.lower-n.result t, c.lower-n.ensures, rest, fits, c.put_part.auto.m))
 
 same_length : tie.Need-shape_of-scratch
 same_length c =
-    let after-put-part2 = c.before.before in
-    let back = after-put-part2.before.before.before.before in
-    let after-put-part = back.before.before in
-    after-put-part2.put_part-2.auto.m ∙ length-set {A = ℕ} after-put-part.put_part.new.m after-put-part.lower-n.result 47 ∙ after-put-part.put_part.auto.m
+    c.put_part-2.auto.m ∙ length-set {A = ℕ} c.put_part.new.m c.lower-n.result 47 ∙ c.put_part.auto.m
 
 returns : tie.Need-returns
 returns c =
-    let after-put-part2 = c.before.before in
-    let after-following = after-put-part2.before.before in
-    let after-put-part = after-following.before.before.before.before in
-    let after_lower = after-put-part.before.before.before in
-    let x = after_lower.before.before in
-    cut-written x.args.path.now x.args.at _ after_lower.lower-n.ensures after-put-part.put_part.ensures after-following.following-rest.ensures after-put-part2.put_part-2.ensures x.requires
+    cut-written c.args.path.now c.args.at _ c.lower-n.ensures c.put_part.ensures c.following-rest.ensures c.put_part-2.ensures c.requires
 
 pub spell_cut_spec : {M : Type 1} → statement M
 spell_cut_spec =

@@ -23,25 +23,18 @@ first-with-key-requires c κs = let p = (start c).requires in (p.0, p.1, p.2, om
 
 clash-alias-requires : tie.Need-clash_alias-second-requires
 clash-alias-requires c κs =
-    let first = c.before.before in
-    let p = (start first.before).requires in
-    (p.0, p.1, omega (arith, first.first_with_key-first.ensures.within, p.2), short first.before, omega arith)
+    let p = (start c.before.before.before).requires in
+    (p.0, p.1, omega (arith, c.first_with_key-first.ensures.within, p.2), short c.before.before.before, omega arith)
 
 clash-alias-requires-2 : tie.Need-clash_alias-requires
 clash-alias-requires-2 c κs =
-    let second = c.before.before.before.before in
-    let first = second.before.before.before in
-    let p = (start first.before).requires in
-    (p.0, p.1, omega (arith, second.clash_alias-second.ensures.within, first.first_with_key-first.ensures.within, p.2), short first.before, omega arith)
+    let p = (start c.before.before.before.before.before.before.before.before).requires in
+    (p.0, p.1, omega (arith, c.clash_alias-second.ensures.within, c.first_with_key-first.ensures.within, p.2), short c.before.before.before.before.before.before.before.before, omega arith)
 
 returns : tie.Need-returns
 returns c =
-    let third = c.before.before in
-    let after-core-alias = third.before in
-    let second = after-core-alias.before.before.before.before in
-    let first = second.before.before.before in
-    let s = start first.before in
-    narrowed-keys (store_of s.args.m.now) s.args.h (path-is first.before) second.default_object_alias.ensures.text after-core-alias.core_alias.ensures.text first.first_with_key-first.ensures second.clash_alias-second.ensures third.clash_alias.ensures
+    let s = start c.before.before.before.before.before.before.before.before.before.before.before in
+    narrowed-keys (store_of s.args.m.now) s.args.h (path-is c.before.before.before.before.before.before.before.before.before.before.before) c.default_object_alias.ensures.text c.core_alias.ensures.text c.first_with_key-first.ensures c.clash_alias-second.ensures c.clash_alias.ensures
 
 pub clash_after_spec : {M : Type 1} → statement M
 clash_after_spec =

@@ -18,16 +18,13 @@ store c = store_of c.args.m.now
 clash-after-requires : tie.Need-clash_after-least-requires invariant-loop decreases-loop
 clash-after-requires c κs =
     let at-loop = c.before.before in
-    let after-groups = at-loop.before in
-    let below : at-loop.loop-h.least ≤ (store at-loop).header.groups = omega (arith, after-groups.groups-n.ensures, at-loop.loop-h.invariant.0.within) in
-    let p = after-groups.requires in
+    let below : at-loop.loop-h.least ≤ (store at-loop).header.groups = omega (arith, at-loop.groups-n.ensures, at-loop.loop-h.invariant.0.within) in
+    let p = at-loop.requires in
     (p.0, omega arith, below, omega (arith, at-loop.loop-h.invariant.1, p.1))
 
 loop-again : tie.Need-loop-h-preserved invariant-loop decreases-loop
 loop-again c =
-    let after-clash-after = c.before.before in
-    let at-loop = after-clash-after.before.before.before in
-    (sought-step at-loop.loop-h.invariant.0 after-clash-after.clash_after-least.ensures, omega (arith, at-loop.loop-h.invariant.1))
+    (sought-step c.loop-h.invariant.0 c.clash_after-least.ensures, omega (arith, c.loop-h.invariant.1))
 
 pub first_clash_in_spec : {M : Type 1} → statement M
 first_clash_in_spec =

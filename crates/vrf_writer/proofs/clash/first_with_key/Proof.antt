@@ -6,16 +6,11 @@ use Rattle.vrf_writer.proofs.clash.first_with_key.Tie as tie
 
 returns : tie.Need-returns-then-r-to
 returns c =
-    let p = c.before in
-    let l = p.before in
-    narrowed-less l.keyed_end.ensures l.lower-to.ensures p.first_path-r.ensures (omega arith)
+    narrowed-less c.keyed_end.ensures c.lower-to.ensures c.first_path-r.ensures (omega arith)
 
 returns-2 : tie.Need-returns
 returns-2 c =
-    let p = c.before in
-    let l = p.before in
-    let k = l.before in
-    narrowed-not k.keyed_end.ensures l.lower-to.ensures p.first_path-r.ensures k.requires.2 (omega arith)
+    narrowed-not c.keyed_end.ensures c.lower-to.ensures c.first_path-r.ensures c.requires.2 (omega arith)
 
 pub first_with_key_spec : {M : Type 1} → statement M
 first_with_key_spec =

@@ -6,9 +6,7 @@ use Rattle.vrf_writer.proofs.clash.is_key_of.Tie as tie
 
 returns : tie.Need-returns-then-d-ne9
 returns c =
-    let d = c.before.before.before in
-    let s = d.before.before.before in
-    sym (far-key s.args.path.now s.args.k.now d.apart-d.ensures c.if-d-ne0.true c.if-d-ne6.true c.if-d-ne9.true)
+    sym (far-key c.args.path.now c.args.k.now c.apart-d.ensures c.if-d-ne0.true c.if-d-ne6.true c.if-d-ne9.true)
 
 pub is_key_of_spec : {M : Type 1} → statement M
 is_key_of_spec = tie.close (tie.spec (λ c κs. search rules) returns (λ c κs. search rules) (λ c. search rules))

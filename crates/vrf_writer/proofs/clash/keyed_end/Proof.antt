@@ -46,11 +46,11 @@ inside c = omega (arith, c.loop-p.invariant.within, c.if-limit-e.false, c.loop-p
 
 path-is : (c : tie.After-row_text invariant-loop decreases-loop) →
     let at-loop = c.before.before.before in
-    c.row_text.result.now ≡ text (store at-loop).group_rows (store at-loop).texts ((at-loop.loop.p - 1) / 3)
+    c.row_text.result.now ≡ text (store at-loop).group_rows (store at-loop).texts ((at-loop.loop-p.p - 1) / 3)
 path-is c =
     let at-loop = c.before.before.before in
     let after-texts = (links at-loop).before in
-    c.row_text.ensures ∙ ap₂ (λ (r y : List ℕ). text r y ((at-loop.loop.p - 1) / 3)) after-texts.group_rows-rows.ensures after-texts.texts-x.ensures
+    c.row_text.ensures ∙ ap₂ (λ (r y : List ℕ). text r y ((at-loop.loop-p.p - 1) / 3)) after-texts.group_rows-rows.ensures after-texts.texts-x.ensures
 
 -- the walk has ended: no group after h has the path
 ended : (c : tie.At-loop-p invariant-loop decreases-loop) → (c.loop-p.p ≤ 3 * ((entry c).args.h + 1)) ⊎ (c.loop-p.limit < c.loop-p.p) → Keyed (store c) (entry c).args.k.now ((entry c).args.h + 1)
@@ -58,20 +58,18 @@ ended c e = keyed-from (store c) (entry c).args.k.now c.loop-p.invariant ((entry
 
 get32-requires : tie.Need-get32-p-requires invariant-loop decreases-loop
 get32-requires c κs =
-    let b = c.before.before in
-    let after-texts = b.before.before in
+    let after-texts = c.before.before.before.before in
     let s = start after-texts in
-    let fits = path-walk s.requires.0.valid after-texts.group_rows-rows.ensures after-texts.texts-x.ensures refl b.path_buckets.ensures b.path_links-links.ensures c.path_heads.ensures s.requires.1 in
-    omega (arith, c.text_bucket-bucket.ensures, text_bucket-lt b.path_buckets.result s.args.k.now fits.3, fits.2)
+    let fits = path-walk s.requires.0.valid after-texts.group_rows-rows.ensures after-texts.texts-x.ensures refl c.path_buckets.ensures c.path_links-links.ensures c.path_heads.ensures s.requires.1 in
+    omega (arith, c.text_bucket-bucket.ensures, text_bucket-lt c.path_buckets.result s.args.k.now fits.3, fits.2)
 
 loop-holds : tie.Need-loop-p-init invariant-loop decreases-loop
 unfolding text_start
 loop-holds c =
-    let after-path-heads = c.before.before in
     let after-path-buckets = buckets c.before in
     let s = start after-path-buckets.before.before in
-    let bucket = after-path-heads.text_bucket-bucket.ensures ∙ ap (λ (b : ℕ). text_bucket b s.args.k.now) after-path-buckets.path_buckets.ensures in
-    walking_start (store_of s.args.m.now) s.args.k.now s.requires.0.valid (c.get32-p.ensures ∙ ap₂ word after-path-heads.path_heads.ensures bucket) (omega (arith, c.groups-limit.ensures))
+    let bucket = c.text_bucket-bucket.ensures ∙ ap (λ (b : ℕ). text_bucket b s.args.k.now) after-path-buckets.path_buckets.ensures in
+    walking_start (store_of s.args.m.now) s.args.k.now s.requires.0.valid (c.get32-p.ensures ∙ ap₂ word c.path_heads.ensures bucket) (omega (arith, c.groups-limit.ensures))
 
 row-text-requires : tie.Need-row_text-requires invariant-loop decreases-loop
 row-text-requires c κs =
@@ -88,20 +86,17 @@ returns-2 c =
 
 get32-requires-2 : tie.Need-get32-p-requires-in-loop-p invariant-loop decreases-loop
 get32-requires-2 c κs =
-    let at-if1 = c.before.before.before in
-    let l = at-if1.before.before in
+    let l = c.before.before.before.before.before in
     let v = (entry l).requires.0.valid in
-    omega (arith, ap length (links l).path_links-links.ensures, v.shaped.path_links, v.header.groups, l.loop-p.invariant.within, at-if1.if-limit-e.false)
+    omega (arith, ap length (links l).path_links-links.ensures, v.shaped.path_links, v.header.groups, l.loop-p.invariant.within, c.if-limit-e.false)
 
 loop-again : tie.Need-loop-p-preserved invariant-loop decreases-loop
 loop-again c =
-    let after-is-key-of = c.before.before in
-    let after-row-text = after-is-key-of.before in
-    let at-if1 = after-row-text.before in
-    let l = at-if1.before.before in
+    let after-row-text = c.before.before.before in
+    let l = after-row-text.before.before.before in
     let k = (entry l).args.k.now in
-    let away = ap (λ (t : List ℕ). has_key t k) (sym (path-is after-row-text)) ∙ sym after-is-key-of.is_key_of.ensures ∙ c.if-is_key_of.false in
-    walking-step (store l) k l.loop-p.invariant (omega arith) (omega (arith, at-if1.if-limit-e.false)) away (c.get32-p-in-loop-p.ensures ∙ ap (λ (w : List ℕ). word w (l.loop-p.p - 1)) (links l).path_links-links.ensures)
+    let away = ap (λ (t : List ℕ). has_key t k) (sym (path-is after-row-text)) ∙ sym c.is_key_of.ensures ∙ c.if-is_key_of.false in
+    walking-step (store l) k l.loop-p.invariant (omega arith) (omega (arith, after-row-text.if-limit-e.false)) away (c.get32-p-in-loop-p.ensures ∙ ap (λ (w : List ℕ). word w (l.loop-p.p - 1)) (links l).path_links-links.ensures)
 
 pub keyed_end_spec : {M : Type 1} → statement M
 keyed_end_spec =

@@ -9,18 +9,12 @@ use Rattle.vrf_writer.proofs.groups.find_slot.Tie as tie
 
 row-key-requires : tie.Need-row_key-requires
 row-key-requires c κs =
-    let after-fields = c.before.before in
-    let start = after-fields.before.before in
-    field_row start.requires.valid c.field_rows.ensures (omega (arith, after-fields.fields.ensures))
+    field_row c.requires.valid c.field_rows.ensures (omega (arith, c.fields.ensures))
 
 returns : tie.Need-returns-then-row_key-place
 unfolding slot_key
 returns c =
-    let k = c.before in
-    let after-field-rows = k.before in
-    let after-fields = after-field-rows.before.before in
-    let s = after-fields.before.before in
-    row-found s.requires.valid (omega (arith, after-fields.fields.ensures)) (ap (λ (r : List ℕ). key r s.args.next) (sym after-field-rows.field_rows.ensures) ∙ sym k.row_key.ensures ∙ c.if-row_key-place.true)
+    row-found c.requires.valid (omega (arith, c.fields.ensures)) (ap (λ (r : List ℕ). key r c.args.next) (sym c.field_rows.ensures) ∙ sym c.row_key.ensures ∙ c.if-row_key-place.true)
 
 pub find_slot_spec : {M : Type 1} → statement M
 find_slot_spec =

@@ -110,6 +110,6 @@ put_field_spec =
     (λ c. omega (arith, under-space (second c.before.before), under-long (second c.before.before)))
     (λ c. omega (arith, under-space (second c.before.before))) (λ c. omega (arith, under-space (second c.before.before)))
     (λ c. search rules) (λ c κs. search rules) row-text-requires put-name-requires
-    (λ c. let n = c.before.before in omega (arith, c, last-space (second (word2 n.before)) (ap name_code (name-is n.before)) n.put_name.ensures))
-    (λ c. let n = c.before.before in last-long (second (word2 n.before)) (ap name_code (name-is n.before)) n.put_name.ensures)
-    (λ c. let n = c.before.before in last-put (second (word2 n.before)) (ap name_code (name-is n.before)) n.put_name.ensures))
+    (λ c. omega (arith, c, last-space (second (word2 c.before.before.before)) (ap name_code (name-is c.before.before.before)) c.put_name.ensures))
+    (λ c. last-long (second (word2 c.before.before.before)) (ap name_code (name-is c.before.before.before)) c.put_name.ensures)
+    (λ c. last-put (second (word2 c.before.before.before)) (ap name_code (name-is c.before.before.before)) c.put_name.ensures))

@@ -23,26 +23,19 @@ loop-holds c = sent-start (fits-as (groups-code (store c) c.groups-n.ensures) c.
 
 put-group-requires : tie.Need-put_group-at-requires invariant-loop decreases-loop
 put-group-requires c κs =
-    let at-loop = c.before.before in
-    let after-groups = at-loop.before in
-    (after-groups.requires.0, omega (arith, after-groups.groups-n.ensures), last-lent (sent-under at-loop.loop-g.invariant (omega arith)) refl)
+    (c.requires.0, omega (arith, c.groups-n.ensures), last-lent (sent-under c.loop-g.invariant (omega arith)) refl)
 
 add_at : tie.Need-overflow_add-at invariant-loop decreases-loop
 add_at c =
-    let after-put-group = c.before.before in
-    let at-loop = after-put-group.before.before.before in
-    omega (arith, c, sent-space (sent-step at-loop.loop-g.invariant (omega arith) after-put-group.put_group-at.ensures))
+    omega (arith, c, sent-space (sent-step c.loop-g.invariant (omega arith) c.put_group-at.ensures))
 
 loop-again : tie.Need-loop-g-preserved invariant-loop decreases-loop
 loop-again c =
-    let after-put-group = c.before.before in
-    let at-loop = after-put-group.before.before.before in
-    sent-step at-loop.loop-g.invariant (omega arith) after-put-group.put_group-at.ensures
+    sent-step c.loop-g.invariant (omega arith) c.put_group-at.ensures
 
 returns : tie.Need-returns invariant-loop decreases-loop
 returns c =
-    let at-loop = c.before in
-    writes_as (groups-code (store at-loop.before) at-loop.groups-n.ensures) (sent-end at-loop.loop-g.invariant (omega arith))
+    writes_as (groups-code (store c.before.before) c.groups-n.ensures) (sent-end c.loop-g.invariant (omega arith))
 
 pub put_groups_spec : {M : Type 1} → statement M
 put_groups_spec =

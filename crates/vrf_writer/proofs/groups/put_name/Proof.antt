@@ -14,8 +14,7 @@ blank : (c : tie.Start) → PartlyWritten (name_code c.args.t.now) c.args.out.no
 blank c = name-start c.args.t.now c.args.out.now c.requires.0
 
 first : (c : tie.After-put_text-at) →
-    let start = c.before.before.before.before in
-    PartlyWritten (name_code start.args.t.now) start.args.out.now (back_from (set start.args.out.now 0 0) 1 c.put_text-at.new.out) (1 + c.put_text-at.result) (encode_word32 0)
+    PartlyWritten (name_code c.args.t.now) c.args.out.now (back_from (set c.args.out.now 0 0) 1 c.put_text-at.new.out) (1 + c.put_text-at.result) (encode_word32 0)
 first c =
     let start = c.before.before.before.before in
     under_next (encode_text start.args.t.now) (encode_word32 0) (under-byte 0 (blank start)) refl c.put_text-at.ensures

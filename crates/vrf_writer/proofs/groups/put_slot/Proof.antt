@@ -12,29 +12,27 @@ use Rattle.vrf_writer.proofs.groups.put_slot.Tie as tie
 abbrev code : tie.Start → List ℕ
 code c = encode_slot c.args.slot (or_empty (field_at (store_of c.args.m.now)) (entry c.args.found))
 
-row_is : (c : tie.In-At-2) → entry c.args.found ≡ some c.in-At.e
+row_is : (c : tie.In-At) → entry c.args.found ≡ some c.in-At.e
 row_is c = ap entry c.in-At.is
 
-code_is : (c : tie.In-At-2) →
-    let start = c.before.before.before.before in
+code_is : (c : tie.In-At) →
+    let start = c.before.before.before in
     encode_slot start.args.slot (field_at (store_of start.args.m.now) c.in-At.e) ≡ code start
-code_is c = let s = c.before.before.before.before in slot-field (store_of s.args.m.now) s.args.slot (row_is c)
+code_is c = slot-field (store_of c.args.m.now) c.args.slot (row_is c)
 
 zero_is : (c : tie.In-Nowhere) →
-    let start = c.before.before.before.before in
+    let start = c.before.before.before in
     PartlyWritten (code start) start.args.out.now start.args.out.now 0 (0 ∷ [])
-zero_is c = let s = c.before.before.before.before in under-start (sym (slot-none (store_of s.args.m.now) s.args.slot (ap entry c.in-Nowhere.is))) s.requires.2
+zero_is c = under-start (sym (slot-none (store_of c.args.m.now) c.args.slot (ap entry c.in-Nowhere.is))) c.requires.2
 
 put-field-requires : tie.Need-put_field-requires
 put-field-requires c κs =
     let f = c.before in
-    let s = f.before.before.before in
-    (s.requires.0, s.requires.1 f.in-At.e (row_is f), fits-as (code_is f) s.requires.2)
+    (f.requires.0, f.requires.1 f.in-At.e (row_is f), fits-as (code_is f) f.requires.2)
 
 returns : tie.Need-returns-in-At
 returns c =
-    let p = c.before.before in
-    writes_as (code_is p.before.before) p.put_field.ensures
+    writes_as (code_is c.before.before.before.before) c.put_field.ensures
 
 pub put_slot_spec : {M : Type 1} → statement M
 put_slot_spec =

@@ -28,12 +28,11 @@ code_is : (c : tie.After-group_slots-n invariant-loop decreases-loop) →
     let at-start = c.before.before.before in
     encode_all (code at-start) (up_to (λ (q : ℕ). q) c.group_slots-n.result) ≡ encode_slots 0 (group_at (store_of at-start.args.m.now) at-start.args.place).slots
 code_is c =
-    let at-start = c.before.before.before in
-    group-slots-code (store_of at-start.args.m.now) at-start.args.place at-start.requires.1 c.group_slots-n.ensures
+    group-slots-code (store_of c.args.m.now) c.args.place c.requires.1 c.group_slots-n.ensures
 
 slot_is : (c : tie.After-find_slot-found invariant-loop decreases-loop) →
     let at-loop = c.before.before in
-    encode_slot at-loop.loop.slot (or_empty (field_at (store_of (start at-loop).args.m.now)) (entry c.find_slot-found.result)) ≡ code (start at-loop) at-loop.loop.slot
+    encode_slot at-loop.loop-slot.slot (or_empty (field_at (store_of (start at-loop).args.m.now)) (entry c.find_slot-found.result)) ≡ code (start at-loop) at-loop.loop-slot.slot
 slot_is c = let s = start c.before.before in slot-code s.requires.0.valid s.args.place c.loop-slot.slot c.find_slot-found.ensures
 
 stepped : (c : tie.After-put_slot-at invariant-loop decreases-loop) →

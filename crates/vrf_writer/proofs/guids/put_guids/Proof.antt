@@ -20,38 +20,26 @@ decreases-loop out₀ m rows x n at₀ i₀ out at i = n - i
 
 -- the bytes of the records are those of the book's GUID table
 code_is : (c : tie.After-guids-n invariant-loop decreases-loop) →
-    let after-guid-rows = c.before.before in
-    let s = after-guid-rows.before.before.before in
-    encode_all encode_guid (up_to (guid_in after-guid-rows.guid-rows.result.now c.texts-x.result.now) c.guids-n.result) ≡ encode_all encode_guid (held s.args.m.now).guids
+    encode_all encode_guid (up_to (guid_in c.guid_rows-rows.result.now c.texts-x.result.now) c.guids-n.result) ≡ encode_all encode_guid (held c.args.m.now).guids
 code_is c =
-    let after-guid-rows = c.before.before in
-    let s = after-guid-rows.before.before.before in
-    guids-code (store_of s.args.m.now) after-guid-rows.guid-rows.ensures c.texts-x.ensures c.guids-n.ensures
+    guids-code (store_of c.args.m.now) c.guid_rows-rows.ensures c.texts-x.ensures c.guids-n.ensures
 
 loop-holds : tie.Need-loop-i-init invariant-loop decreases-loop
 loop-holds c =
-    let r = c.before.before in
-    sent-start (fits-as (code_is c) r.requires.1)
+    sent-start (fits-as (code_is c) c.requires.1)
 
 put-guid-requires : tie.Need-put_guid-at-requires invariant-loop decreases-loop
 put-guid-requires c κs =
-    let at-loop = c.before.before in
-    let after-texts = at-loop.before.before in
-    let after-guid-rows = after-texts.before in
-    let valid = after-guid-rows.requires.0.valid in
-    (guid-good valid after-texts.texts-x.ensures after-guid-rows.guid_rows-rows.ensures (omega (arith, at-loop.guids-n.ensures)), last-lent (sent-under at-loop.loop-i.invariant (omega arith)) refl)
+    let valid = c.requires.0.valid in
+    (guid-good valid c.texts-x.ensures c.guid_rows-rows.ensures (omega (arith, c.guids-n.ensures)), last-lent (sent-under c.loop-i.invariant (omega arith)) refl)
 
 add_at : tie.Need-overflow_add-at invariant-loop decreases-loop
 add_at c =
-    let after-put-guid = c.before.before in
-    let at-loop = after-put-guid.before.before.before in
-    omega (arith, sent-space (sent-step at-loop.loop-i.invariant (omega arith) after-put-guid.put_guid-at.ensures))
+    omega (arith, sent-space (sent-step c.loop-i.invariant (omega arith) c.put_guid-at.ensures))
 
 loop-again : tie.Need-loop-i-preserved invariant-loop decreases-loop
 loop-again c =
-    let after-put-guid = c.before.before in
-    let at-loop = after-put-guid.before.before.before in
-    sent-step at-loop.loop-i.invariant (omega arith) after-put-guid.put_guid-at.ensures
+    sent-step c.loop-i.invariant (omega arith) c.put_guid-at.ensures
 
 pub put_guids_spec : {M : Type 1} → statement M
 put_guids_spec =

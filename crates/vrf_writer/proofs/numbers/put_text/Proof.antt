@@ -18,9 +18,7 @@ space c = let x = c.args in text_space x.t.now x.out.now (λ z. omega (arith, z)
 
 returns : tie.Need-returns-then-n-eq0
 returns c =
-    let after-put-word = c.before.before in
-    let empty = after-put-word.before.before in
-    empty-put empty.args.t.now (omega arith) after-put-word.put_word.ensures
+    empty-put c.args.t.now (omega arith) c.put_word.ensures
 
 returns-2 : tie.Need-returns
 returns-2 c =

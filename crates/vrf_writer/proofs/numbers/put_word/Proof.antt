@@ -6,8 +6,7 @@ use Rattle.vrf_writer.proofs.numbers.put_word.Tie as tie
 
 returns : tie.Need-returns
 returns c =
-    let p = c.before.before in
-    word-put p.args.n p.put32.ensures
+    word-put c.args.n c.put32.ensures
 
 pub put_word_spec : {M : Type 1} → statement M
 put_word_spec = tie.close (tie.spec (λ c κs. search rules) (λ c. search rules) returns)

@@ -17,13 +17,12 @@ small : (c : tie.At-loop-e invariant-loop decreases-loop) → c.loop-e.sum ≤ 4
 small c = summed-short c.loop-e.invariant 4115 (λ e k. field-short c.requires.valid e (omega (arith, k, c.fields-n.ensures)))
 
 field-len-requires : tie.Need-field_len-sum-requires invariant-loop decreases-loop
-field-len-requires c κs = let after-fields = c.before.before in (after-fields.requires, omega (arith, after-fields.fields-n.ensures))
+field-len-requires c κs = (c.requires, omega (arith, c.fields-n.ensures))
 
 add-sum : tie.Need-overflow_add-sum invariant-loop decreases-loop
 add-sum c =
     let at-loop = c.before.before in
-    let after-fields = at-loop.before in
-    omega (arith, small at-loop, field-short after-fields.requires.valid at-loop.loop-e.e (omega (arith, after-fields.fields-n.ensures)), c.field_len-sum.ensures)
+    omega (arith, small at-loop, field-short at-loop.requires.valid at-loop.loop-e.e (omega (arith, at-loop.fields-n.ensures)), c.field_len-sum.ensures)
 
 pub fields_len_spec : {M : Type 1} → statement M
 fields_len_spec =

@@ -28,7 +28,7 @@ path-is : (c : tie.After-group_path) → c.group_path.result.now ≡ (its (start
 path-is c = let s = start c in c.group_path.ensures ∙ group-at (store_of s.args.m.now) [] s.args.g (λ g. g.path) s.requires.1
 
 slots-are : (c : tie.After-group_slots-slots) → c.group_slots-slots.result ≡ length (its c.before.before).slots
-slots-are c = let s = c.before.before in c.group_slots-slots.ensures ∙ group-at (store_of s.args.m.now) 0 s.args.g (λ g. length g.slots) s.requires.1
+slots-are c = c.group_slots-slots.ensures ∙ group-at (store_of c.args.m.now) 0 c.args.g (λ g. length g.slots) c.requires.1
 
 short : (c : tie.Start) → length (its c).path ≤ 4096
 unfolding group_by

@@ -18,13 +18,12 @@ small : (c : tie.At-loop-g invariant-loop decreases-loop) → c.loop-g.sum ≤ 6
 small c = summed-short c.loop-g.invariant 69647 (λ e k. group-short c.requires.valid e (omega (arith, k, c.groups-n.ensures)))
 
 group-len-requires : tie.Need-group_len-sum-requires invariant-loop decreases-loop
-group-len-requires c κs = let after-groups = c.before.before in (after-groups.requires, omega (arith, after-groups.groups-n.ensures))
+group-len-requires c κs = (c.requires, omega (arith, c.groups-n.ensures))
 
 add-sum : tie.Need-overflow_add-sum invariant-loop decreases-loop
 add-sum c =
     let at-loop = c.before.before in
-    let after-groups = at-loop.before in
-    omega (arith, small at-loop, group-short after-groups.requires.valid at-loop.loop-g.g (omega (arith, after-groups.groups-n.ensures)), c.group_len-sum.ensures)
+    omega (arith, small at-loop, group-short at-loop.requires.valid at-loop.loop-g.g (omega (arith, at-loop.groups-n.ensures)), c.group_len-sum.ensures)
 
 pub groups_len_spec : {M : Type 1} → statement M
 groups_len_spec =

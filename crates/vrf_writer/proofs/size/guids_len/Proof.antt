@@ -25,8 +25,7 @@ its c = guid_in c.guid_rows-rows.result.now c.texts-x.result.now
 
 good : (c : tie.After-guids-n invariant-loop decreases-loop) {e : ℕ} → e < c.guids-n.result → GuidRow c.guid_rows-rows.result.now c.texts-x.result.now e
 good c h =
-    let after-guid-rows = c.before.before in
-    guid-good after-guid-rows.requires.valid c.texts-x.ensures after-guid-rows.guid_rows-rows.ensures (omega (arith, h, c.guids-n.ensures))
+    guid-good c.requires.valid c.texts-x.ensures c.guid_rows-rows.ensures (omega (arith, h, c.guids-n.ensures))
 
 -- the sums before an iteration, and after the loop
 few : (c : tie.At-loop-i invariant-loop decreases-loop) → c.loop-i.keys + c.loop-i.outers + c.loop-i.paths + 2 * c.loop-i.i ≤ 4113 * c.loop-i.i
@@ -37,8 +36,7 @@ abbrev it : tie.In-loop-i invariant-loop decreases-loop → Guid
 it c = its c.before.before c.loop-i.i
 
 its-good : (c : tie.In-loop-i invariant-loop decreases-loop) →
-    let after-texts = c.before.before.before in
-    GuidRow after-texts.guid_rows-rows.result.now after-texts.texts.result.now c.loop-i.i
+    GuidRow c.guid_rows-rows.result.now c.texts-x.result.now c.loop-i.i
 its-good c = good c.before.before (omega arith)
 
 abbrev turn : tie.After-packed_len-keys invariant-loop decreases-loop → tie.In-loop-i invariant-loop decreases-loop
@@ -71,8 +69,7 @@ loop-again c =
 returns : tie.Need-returns invariant-loop decreases-loop
 returns c =
     let g = c.before.before in
-    let after-guid-rows = g.before.before in
-    let code = guids-code (store_of after-guid-rows.args.m.now) after-guid-rows.guid_rows-rows.ensures g.texts-x.ensures g.guids-n.ensures in
+    let code = guids-code (store_of g.args.m.now) g.guid_rows-rows.ensures g.texts-x.ensures g.guids-n.ensures in
     omega (arith, summed-end c.loop-i.invariant (omega arith) refl, c.loop-i.invariant.within, all-length encode_guid (its g) g.guids-n.result, ap length code)
 
 pub guids_len_spec : {M : Type 1} → statement M

@@ -22,17 +22,15 @@ fits c =
 
 returns : tie.Need-returns-then-space-n
 returns c =
-    let after-block-len = c.before.before in
-    let after-longest = after-block-len.before.before.before in
+    let after-longest = c.before.before.before.before.before in
     let s = start after-longest in
-    writes-long (held s.args.m.now) s.requires.1 after-block-len.block_len-n.ensures c.too_long.ensures (omega (arith, after-longest.longest-space.ensures, c.if-space-n.true)) refl
+    writes-long (held s.args.m.now) s.requires.1 c.block_len-n.ensures c.too_long.ensures (omega (arith, after-longest.longest-space.ensures, c.if-space-n.true)) refl
 
 returns-2 : tie.Need-returns
 returns-2 c =
-    let after-put-block = c.before.before in
-    let at-if1 = after-put-block.before.before in
+    let at-if1 = c.before.before.before.before in
     let s = start at-if1.before.before in
-    let p = after-put-block.put_block.ensures in
+    let p = c.put_block.ensures in
     writes-all (held s.args.m.now) s.requires.1 p.count (omega (arith, fits at-if1, p.count)) p.bytes
 
 pub write_clear_spec : {M : Type 1} → statement M
