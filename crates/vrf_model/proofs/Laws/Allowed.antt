@@ -125,12 +125,12 @@ module _ {A : Type 0} where
 keeps-times : (n : ℕ) {r : Parser (Unit {0})} → ReaderKeeps r → ReaderKeeps (times n r)
 unfolding times
 keeps-times zero h = keeps-return tt
-keeps-times (suc n) h = h and_then λ _. keeps-times n h
+keeps-times (suc n) h = h and-then λ _. keeps-times n h
 
 keeps-sum : (n i : ℕ) {r : ℕ → Parser ℕ} → ((k : ℕ) → ReaderKeeps (r k)) → ReaderKeeps (sum_from n i r)
 unfolding sum_from
 keeps-sum zero i h = keeps-return 0
-keeps-sum (suc n) i h = h i and_then λ a. keeps-sum n (i + 1) h and_then λ b. keeps-return (a + b)
+keeps-sum (suc n) i h = h i and-then λ a. keeps-sum n (i + 1) h and-then λ b. keeps-return (a + b)
 
 -- ---- runs
 
@@ -142,18 +142,18 @@ known-keeps index c (some i) = refl
 entry-keeps : ReaderKeeps export_entry
 unfolding export_entry group_of declared_group exported_field
 entry-keeps =
-    keeps-read _ and_then λ index. keeps-read _ and_then λ flag.
+    keeps-read _ and-then λ index. keeps-read _ and-then λ flag.
     (keeps-cond (eqb flag 0) (keeps-step _ (λ c. known-keeps index c (index_place index c.groups)))
     (keeps-cond (eqb flag 1)
-    (keeps-read _ and_then λ path. keeps-read _ and_then λ slots. keeps-cond (ltb 65536 slots) (keeps-fail 22 slots 0) (keeps-step _ (λ c. add_group-keeps c path index slots)) and_then λ place. keeps-return tt)
-    (keeps-fail 21 index flag))) and_then λ _.
-    keeps-read _ and_then λ hasField.
+    (keeps-read _ and-then λ path. keeps-read _ and-then λ slots. keeps-cond (ltb 65536 slots) (keeps-fail 22 slots 0) (keeps-step _ (λ c. add_group-keeps c path index slots)) and-then λ place. keeps-return tt)
+    (keeps-fail 21 index flag))) and-then λ _.
+    keeps-read _ and-then λ hasField.
     keeps-cond (eqb hasField 0) (keeps-return tt)
-    (keeps-read _ and_then λ handle. keeps-read _ and_then λ checksum. keeps-read _ and_then λ name. keeps-step _ (λ c. set_field-keeps c index handle checksum name) and_then λ placed. keeps-return tt)
+    (keeps-read _ and-then λ handle. keeps-read _ and-then λ checksum. keeps-read _ and-then λ name. keeps-step _ (λ c. set_field-keeps c index handle checksum name) and-then λ placed. keeps-return tt)
 
 run-keeps : {entry : Parser (Unit {0})} → ReaderKeeps entry → ReaderKeeps (run_of entry)
 unfolding run_of
-run-keeps h = keeps-read _ and_then λ n. keeps-times n h and_then λ _. keeps-return n
+run-keeps h = keeps-read _ and-then λ n. keeps-times n h and-then λ _. keeps-return n
 
 pub fields_run-keeps : ReaderKeeps fields_run
 unfolding fields_run
@@ -165,18 +165,18 @@ flags-keep exporting guid = keeps-cond (exporting || eqb guid 1) (keeps-read _) 
 
 checksum-keeps : (flags : ℕ) → ReaderKeeps (skip_checksum flags)
 unfolding skip_checksum
-checksum-keeps flags = keeps-cond (eqb (flags / 4 % 2) 1) (keeps-read _ and_then λ checksum. keeps-return tt) (keeps-return tt)
+checksum-keeps flags = keeps-cond (eqb (flags / 4 % 2) 1) (keeps-read _ and-then λ checksum. keeps-return tt) (keeps-return tt)
 
 object-keeps : (left : ℕ) (exporting : Bool) → ReaderKeeps (object left exporting)
 unfolding object object_with_outer object_after object_path
 object-keeps zero exporting = keeps-fail 26 16 0
 object-keeps (suc left) exporting =
-    keeps-read _ and_then λ guid.
+    keeps-read _ and-then λ guid.
     keeps-cond (eqb guid 0) (keeps-return 0)
-    (flags-keep exporting guid and_then λ flags.
+    (flags-keep exporting guid and-then λ flags.
     keeps-cond (eqb (flags % 2) 1)
-    (object-keeps left exporting and_then λ outer. keeps-read _ and_then λ path. checksum-keeps flags and_then λ _.
-    keeps-step _ (λ c. set_guid-keeps c guid path outer) and_then λ _. keeps-return guid)
+    (object-keeps left exporting and-then λ outer. keeps-read _ and-then λ path. checksum-keeps flags and-then λ _.
+    keeps-step _ (λ c. set_guid-keeps c guid path outer) and-then λ _. keeps-return guid)
     (keeps-return guid))
 
 pub object_at-keeps : (depth : ℕ) (exporting : Bool) → ReaderKeeps (object_at depth exporting)
@@ -189,8 +189,8 @@ guid_run-keeps = run-keeps entry
   where
     entry : ReaderKeeps guid_entry
     entry =
-        keeps-read _ and_then λ size.
-        keeps-cond (leb (2 ^ 31) size) (keeps-fail 24 size 0) (keeps-read _ and_then λ payload. keeps-inner (object_at-keeps 0 true) payload) and_then λ guid.
+        keeps-read _ and-then λ size.
+        keeps-cond (leb (2 ^ 31) size) (keeps-fail 24 size 0) (keeps-read _ and-then λ payload. keeps-inner (object_at-keeps 0 true) payload) and-then λ guid.
         keeps-return tt
 
 -- ---- blocks
@@ -207,8 +207,8 @@ taken n c = by_cond (StepKeeps c) (ltb c.allowed.literals n) (λ _. refl) (λ _.
 pub by_table-keeps : RuleKeeps by_table
 unfolding by_table resolved literal
 by_table-keeps = record {
-  place = λ entry t. keeps-read _ and_then λ place. keeps-cond (ltb place (length t.paths)) (keeps-return _) (keeps-fail 33 entry place);
-  text = λ t. keeps-read _ and_then λ path. keeps-step _ (taken (t.literals + 1)) and_then λ _. keeps-return _;
+  place = λ entry t. keeps-read _ and-then λ place. keeps-cond (ltb place (length t.paths)) (keeps-return _) (keeps-fail 33 entry place);
+  text = λ t. keeps-read _ and-then λ path. keeps-step _ (taken (t.literals + 1)) and-then λ _. keeps-return _;
 }
 
 module _ {rule : PathRule} (h : RuleKeeps rule) where
@@ -216,9 +216,9 @@ module _ {rule : PathRule} (h : RuleKeeps rule) where
   unfolding block_guids block_guid path_of_kind
   guids-keep zero entry t = keeps-return t
   guids-keep (suc n) entry t =
-      (keeps-read _ and_then λ guid. keeps-read _ and_then λ outer. keeps-read _ and_then λ kind.
-      keeps-cond (eqb kind 0) (h.place entry t) (keeps-cond (eqb kind 1) (h.text t) (keeps-fail 32 entry kind)) and_then λ p.
-      keeps-read _ and_then λ flags. keeps-step _ (λ c. set_guid-keeps c guid p.0 outer) and_then λ _. keeps-return p.1) and_then λ t'.
+      (keeps-read _ and-then λ guid. keeps-read _ and-then λ outer. keeps-read _ and-then λ kind.
+      keeps-cond (eqb kind 0) (h.place entry t) (keeps-cond (eqb kind 1) (h.text t) (keeps-fail 32 entry kind)) and-then λ p.
+      keeps-read _ and-then λ flags. keeps-step _ (λ c. set_guid-keeps c guid p.0 outer) and-then λ _. keeps-return p.1) and-then λ t'.
       guids-keep n (entry + 1) t'
 
 add_first-keeps : (path : List ℕ) (index slots : ℕ) (c : Content) → StepKeeps c (add_first path index slots c)
@@ -228,34 +228,34 @@ add_first-keeps path index slots c = by_cond (StepKeeps c) (is_found (index_plac
 slot-keeps : (index slot : ℕ) → ReaderKeeps (block_slot index slot)
 unfolding block_slot block_field same_handle
 slot-keeps index slot =
-    keeps-read _ and_then λ exported.
+    keeps-read _ and-then λ exported.
     keeps-cond (eqb exported 0) (keeps-return 0)
-    (keeps-read _ and_then λ handle. keeps-cond (eqb handle slot) (keeps-return tt) (keeps-fail 35 slot handle) and_then λ _. keeps-read _ and_then λ checksum. keeps-read _ and_then λ name.
-    keeps-step _ (λ c. set_field-keeps c index handle checksum name) and_then λ placed. keeps-return 1)
+    (keeps-read _ and-then λ handle. keeps-cond (eqb handle slot) (keeps-return tt) (keeps-fail 35 slot handle) and-then λ _. keeps-read _ and-then λ checksum. keeps-read _ and-then λ name.
+    keeps-step _ (λ c. set_field-keeps c index handle checksum name) and-then λ placed. keeps-return 1)
 
 group-keeps : ReaderKeeps block_group
 unfolding block_group
 group-keeps =
-    keeps-read _ and_then λ path. keeps-read _ and_then λ index. keeps-read _ and_then λ slots.
-    keeps-cond (ltb 65536 slots) (keeps-fail 31 3 slots) (keeps-step _ (add_first-keeps path index slots)) and_then λ place.
+    keeps-read _ and-then λ path. keeps-read _ and-then λ index. keeps-read _ and-then λ slots.
+    keeps-cond (ltb 65536 slots) (keeps-fail 31 3 slots) (keeps-step _ (add_first-keeps path index slots)) and-then λ place.
     keeps-sum slots 0 (slot-keeps index)
 
 zero-keeps : (at : ℕ) → ReaderKeeps (zero_word at)
 unfolding zero_word
-zero-keeps at = keeps-read _ and_then λ w. keeps-cond (eqb w 0) (keeps-return tt) (keeps-fail 30 at w)
+zero-keeps at = keeps-read _ and-then λ w. keeps-cond (eqb w 0) (keeps-return tt) (keeps-fail 30 at w)
 
 count-keeps : (which top : ℕ) → ReaderKeeps (count_up_to which top)
 unfolding count_up_to
-count-keeps which top = keeps-read _ and_then λ n. keeps-cond (ltb top n) (keeps-fail 31 which n) (keeps-return n)
+count-keeps which top = keeps-read _ and-then λ n. keeps-cond (ltb top n) (keeps-fail 31 which n) (keeps-return n)
 
 end-keeps : (w : ℕ) → ReaderKeeps (block_end w)
 unfolding block_end
-end-keeps w = keeps-read _ and_then λ p. keeps-cond (eqb (p / 8) (w + 8)) (keeps-return _) (keeps-fail 36 (p / 8) (w + 8))
+end-keeps w = keeps-read _ and-then λ p. keeps-cond (eqb (p / 8) (w + 8)) (keeps-return _) (keeps-fail 36 (p / 8) (w + 8))
 
 pub block-keeps : {rule : PathRule} → RuleKeeps rule → ReaderKeeps (block rule)
 unfolding block
 block-keeps h =
-    keeps-read _ and_then λ w. zero-keeps 4 and_then λ z4. zero-keeps 8 and_then λ z8. zero-keeps 12 and_then λ z12.
-    count-keeps 1 1000000 and_then λ guids. guids-keep h guids 0 _ and_then λ t.
-    count-keeps 2 100000 and_then λ groups. keeps-sum groups 0 (λ _. group-keeps) and_then λ fields.
-    end-keeps w and_then λ frame. keeps-return _
+    keeps-read _ and-then λ w. zero-keeps 4 and-then λ z4. zero-keeps 8 and-then λ z8. zero-keeps 12 and-then λ z12.
+    count-keeps 1 1000000 and-then λ guids. guids-keep h guids 0 _ and-then λ t.
+    count-keeps 2 100000 and-then λ groups. keeps-sum groups 0 (λ _. group-keeps) and-then λ fields.
+    end-keeps w and-then λ frame. keeps-return _

@@ -116,7 +116,7 @@ module _ {A : Type 0} (f : A → ℕ) where
   not-before (x ∷ l) a m h = rw (not-before l a m h.1, eqb-turned (f a) (f x) (each-middle l a m (last_place-none _ _ h.0)))
 
   -- one more element at the end, with a new number
-  pub distinct_append : {l : List A} (a : A) → Distinct f l → Without (f a) l → Distinct f (l ++ (a ∷ []))
+  pub distinct_append : (a : A) {l : List A} → Distinct f l → Without (f a) l → Distinct f (l ++ (a ∷ []))
   unfolding last_place
   distinct_append a h nil = (refl, tt)
   distinct_append a h (cons {a = x} {l = l} k t) = (last_place-miss _ a l (eqb-turned (f x) (f a) k) ∙ h.0, distinct_append a h.1 t)
