@@ -9,7 +9,7 @@ returns c =
     let row = c.push_row in
     push-field c.requires.0 (λ i. (c.slice_known-1.given i).fits) _ _ _ _ _ c.requires.1 c.ranges.checksum.fits
     c.fields_allowed-cap.ensures.0 c.fields_at-from.ensures c.fields-n.ensures c.held.ensures
-    (record { long = row.auto.0; made = row.ensures }) c.put32.ensures c.put32-2.ensures
+    (record { long = row.auto.t; made = row.ensures }) c.put32.ensures c.put32-2.ensures
 
 pub push_field_spec : {M : Type 1} → statement M
 push_field_spec =

@@ -21,7 +21,7 @@ returns c =
     let row = c.put_text in
     set-field-row c.requires.0 _ _ _ _ c.requires.1 c.ranges.checksum.fits c.fields_allowed-cap.ensures.0 c.fields_at-from.ensures
     (rw (c.held.ensures, c.text_len.ensures, c.field_rows.ensures))
-    (record { long = row.auto.0; made = row.ensures }) c.put32.ensures
+    (record { long = row.auto.rows; made = row.ensures }) c.put32.ensures
 
 pub set_field_row_spec : {M : Type 1} → statement M
 set_field_row_spec =

@@ -1,6 +1,7 @@
 -- `vrf_store::groups::buckets_of` satisfies its contract: each bucket is computed from the row.
-use Rattle.std.proofs.Common.{◌≤◌, length, ap, arith, rules}
-use Rattle.vrf_table.specs.Table.{key}
+use Rattle.std.proofs.Common.{◌≡◌, ℕ, ◌≤◌, List, length, ap, ap₂, ◌∙◌, arith, rules}
+use Rattle.vrf_store.specs.Store.{store_of}
+use Rattle.vrf_table.specs.Table.{key, text}
 use Rattle.vrf_table.specs.TextIndex.{key_numbered}
 use Rattle.vrf_store.specs.Inner.Groups.{bucket_of}
 use Rattle.vrf_store.proofs.Laws.Groups.Memory.{row_inside, path_inside, path-short}
@@ -22,7 +23,18 @@ short c =
 
 returns : tie.Need-returns
 unfolding key key_numbered bucket_of
-returns c = record { key = cc; own = cc; default = cc; core = cc; leaf = c.leaf_bucket_in.ensures }
+returns c =
+    let s = store_of c.args.m.now in
+    let path : c.row_text-path.result.now ≡ text s.group_rows s.texts c.args.g =
+        c.row_text-path.ensures ∙ ap₂ (λ (r x : List ℕ). text r x c.args.g) c.group_rows-rows.ensures c.texts.ensures in
+    let few = c.groups_allowed-r.ensures.0 in
+    record {
+      key = rw (c.key_bucket.ensures, c.get64.ensures, c.group_rows-rows.ensures, few);
+      own = rw (c.text_bucket.ensures, path, few);
+      default = rw (c.alias_bucket.ensures, c.default_object_alias.ensures.text, path, few);
+      core = rw (c.alias_bucket-2.ensures, c.core_alias.ensures.text, path, few);
+      leaf = c.leaf_bucket_in.ensures;
+    }
 
 pub buckets_of_spec : {M : Type 1} → statement M
 buckets_of_spec =

@@ -57,8 +57,7 @@ returns : tie.Need-returns
 returns c =
     let default = c.before.before.before.before.before.before.before.before.before.before in
     let own = second default in
-    let known = (first own).before.before.before.before in
-    group-joined known.requires (λ k. omega (arith, known.slice_known-1.given k)) (group-written (buckets (first own)) (first own).push_key.ensures own.push_path.ensures default.push_path-2.ensures c.push_path-3.ensures c.push_leaf.ensures)
+    group-joined c.requires (λ k. omega (arith, c.slice_known-1.given k)) (group-written (buckets (first own)) (first own).push_key.ensures own.push_path.ensures default.push_path-2.ensures c.push_path-3.ensures c.push_leaf.ensures)
 
 pub index_group_spec : {M : Type 1} → statement M
 index_group_spec =

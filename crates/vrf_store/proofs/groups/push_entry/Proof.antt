@@ -17,9 +17,8 @@ put32-requires-2 c κs =
 returns : tie.Need-returns-in-Of
 returns c =
     let x = c.args in
-    let known = c.in-Of.given in
-    let one = rw known.1 at c.requires.2 in
-    rw known.1 (cc (entry-written x.m.now x.at x.n x.k c.requires.0 x.i c.requires.1 known.0.0 one x.p))
+    let one = rw c.in-Of.is at c.requires.2 in
+    rw c.in-Of.is (cc (entry-written x.m.now x.at x.n x.k c.requires.0 x.i c.requires.1 c.in-Of.h one x.p))
 
 returns-2 : tie.Need-returns-in_default
 returns-2 c =

@@ -25,19 +25,19 @@ written : (c : tie.After-put32-2) →
     WrittenStore m c.put32-2.new.s (with_group_row (store_of m) (header_of m).groups x.index x.at x.len x.slots (suc (header_of m).groups) ((header_of m).held + x.len))
 written c =
     let s = start (row c) in
-    push-written _ _ _ _ _ s.requires s.fits.index.fits (counted (row c)).groups-n.ensures (counted (row c)).held.ensures (row c).put_group.ensures c.put32.ensures c.put32-2.ensures
+    push-written _ _ _ _ _ s.requires s.ranges.index.fits (counted (row c)).groups-n.ensures (counted (row c)).held.ensures (row c).put_group.ensures c.put32.ensures c.put32-2.ensures
 
 index-group-requires : tie.Need-index_group-requires
 index-group-requires c κs =
     let two = c.before.before.before in
     let s = start (row two) in
-    push-indexable _ _ _ _ _ s.requires s.fits.index.fits (counted (row two)).groups-n.ensures (written two)
+    push-indexable _ _ _ _ _ s.requires s.ranges.index.fits (counted (row two)).groups-n.ensures (written two)
 
 returns : tie.Need-returns
 returns c =
     let two = c.before.before.before.before.before.before in
     let s = start (row two) in
-    push-stepped _ _ _ _ _ s.requires s.fits.index.fits (counted (row two)).groups-n.ensures (written two) c.index_group.ensures
+    push-stepped _ _ _ _ _ s.requires s.ranges.index.fits (counted (row two)).groups-n.ensures (written two) c.index_group.ensures
 
 pub push_group_spec : {M : Type 1} → statement M
 push_group_spec =

@@ -8,7 +8,7 @@ returns : tie.Need-returns
 returns c =
     let x = c.args in
     let row = c.put_row in
-    row_written x.e x.index x.at x.len x.slots c.guids_allowed.ensures.0 c.groups_allowed-cap.ensures.0 c.requires.0 c.requires.1 (record { long = row.auto.0; made = row.ensures })
+    row_written x.e x.index x.at x.len x.slots c.guids_allowed.ensures.0 c.groups_allowed-cap.ensures.0 c.requires.0 c.requires.1 (record { long = row.auto.t; made = row.ensures })
 
 pub put_group_spec : {M : Type 1} → statement M
 put_group_spec =

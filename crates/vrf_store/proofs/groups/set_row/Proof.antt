@@ -33,21 +33,21 @@ written : (c : tie.After-put32) → WrittenStore (start (rows c)).args.m.now c.p
 written c =
     let s = start (rows c) in
     let x = s.args in
-    set-written x.m.now x.e x.index x.at x.len x.slots s.requires.0 s.fits.index.fits s.requires.1 (rows c).held.ensures (c.text_len.ensures ∙ ap (λ (r : List ℕ). len r x.e) (rows c).group_rows.ensures) c.put_group.ensures c.put32.ensures
+    set-written x.m.now x.e x.index x.at x.len x.slots s.requires.0 s.ranges.index.fits s.requires.1 (rows c).held.ensures (c.text_len.ensures ∙ ap (λ (r : List ℕ). len r x.e) (rows c).group_rows.ensures) c.put_group.ensures c.put32.ensures
 
 rebuild-group-indexes-requires : tie.Need-rebuild_group_indexes-requires
 rebuild-group-indexes-requires c κs =
     let put = c.before.before.before in
     let s = start (rows put) in
     let x = s.args in
-    set-ready x.m.now x.e x.index x.at x.len x.slots s.requires.0 s.fits.index.fits s.requires.1 (written put)
+    set-ready x.m.now x.e x.index x.at x.len x.slots s.requires.0 s.ranges.index.fits s.requires.1 (written put)
 
 returns : tie.Need-returns
 returns c =
     let put = c.before.before.before.before.before.before in
     let s = start (rows put) in
     let x = s.args in
-    set-stepped x.m.now x.e x.index x.at x.len x.slots s.requires.0 s.fits.index.fits s.requires.1 (written put) c.rebuild_group_indexes.ensures
+    set-stepped x.m.now x.e x.index x.at x.len x.slots s.requires.0 s.ranges.index.fits s.requires.1 (written put) c.rebuild_group_indexes.ensures
 
 pub set_row_spec : {M : Type 1} → statement M
 set_row_spec =

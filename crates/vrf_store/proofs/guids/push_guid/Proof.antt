@@ -10,7 +10,7 @@ returns c =
     let row = c.push_row in
     push-guid args.m.now args.guid args.at args.len args.outer c.requires (λ i. (c.slice_known-1.given i).fits) c.ranges.guid.fits c.ranges.outer.fits
     c.guids_allowed-cap.ensures.0 c.guids-n.ensures c.held.ensures
-    (record { long = row.auto.0; made = row.ensures }) c.put32.ensures c.put32-2.ensures
+    (record { long = row.auto.t; made = row.ensures }) c.put32.ensures c.put32-2.ensures
 
 pub push_guid_spec : {M : Type 1} → statement M
 push_guid_spec =

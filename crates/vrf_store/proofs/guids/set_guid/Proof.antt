@@ -19,7 +19,7 @@ returns c =
     let row = c.put_text in
     set-guid args.m.now args.e args.at args.len args.outer c.requires c.ranges.outer.fits
     c.guids_allowed-cap.ensures.0 (rw (c.held.ensures, c.text_len.ensures, c.guid_rows.ensures))
-    (record { long = row.auto.0; made = row.ensures }) c.put32.ensures
+    (record { long = row.auto.rows; made = row.ensures }) c.put32.ensures
 
 pub set_guid_spec : {M : Type 1} → statement M
 set_guid_spec =

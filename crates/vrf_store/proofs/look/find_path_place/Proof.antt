@@ -1,5 +1,7 @@
 -- `vrf_store::look::find_path_place` satisfies its contract.
-use Rattle.std.proofs.Common.{ap, rules}
+use Rattle.std.proofs.Common.{◌≡◌, ℕ, List, sym, ap, ◌∙◌, rules}
+use mathlib.Core.Option.{Option}
+use Rattle.vrf_table.specs.TextIndex.{find_path}
 use Rattle.vrf_table.specs.Inner.Answers.{entry}
 use Rattle.vrf_store.proofs.Laws.Memory.WellFormed.{path-walk}
 use Rattle.vrf_store.proofs.Laws.Lookups.{third, path-found}
@@ -10,19 +12,24 @@ find-path-requires : tie.Need-find_path-requires
 find-path-requires c κs =
     path-walk c.requires.0.valid c.group_rows.ensures c.texts.ensures c.groups-n.ensures c.path_buckets-b.ensures c.path_links.ensures c.path_heads.ensures c.requires.1
 
+-- what a search over the parts answers is what the search over the store's parts answers
+found-place : (entries : List ℕ → List ℕ → List ℕ → List ℕ → ℕ → ℕ → Option ℕ) {p f : Option ℕ} {r r' x x' l l' h h' : List ℕ} {b b' n n' : ℕ} →
+    r ≡ r' → x ≡ x' → l ≡ l' → h ≡ h' → b ≡ b' → n ≡ n' → f ≡ entries r x l h b n → p ≡ third (entries r' x' l' h' b' n') → third f ≡ p
+found-place entries er ex el eh eb en ef ep = cc
+
 returns : tie.Need-returns-in-At
 unfolding third
 returns c =
-    let outcome = ap entry c.in-At.is in
-    let place = path-found c.requires.0.valid c.args.k.now in
-    cc
+    let k = c.args.k.now in
+    found-place (λ r x l h b n. find_path r x l h b n k) c.group_rows.ensures c.texts.ensures c.path_links.ensures c.path_heads.ensures c.path_buckets-b.ensures c.groups-n.ensures
+    (sym (ap entry c.in-At.is) ∙ c.find_path.ensures) (path-found c.requires.0.valid k)
 
 returns-2 : tie.Need-returns-in-Nowhere
 unfolding third
 returns-2 c =
-    let outcome = ap entry c.in-Nowhere.is in
-    let place = path-found c.requires.0.valid c.args.k.now in
-    cc
+    let k = c.args.k.now in
+    found-place (λ r x l h b n. find_path r x l h b n k) c.group_rows.ensures c.texts.ensures c.path_links.ensures c.path_heads.ensures c.path_buckets-b.ensures c.groups-n.ensures
+    (sym (ap entry c.in-Nowhere.is) ∙ c.find_path.ensures) (path-found c.requires.0.valid k)
 
 pub find_path_place_spec : {M : Type 1} → statement M
 find_path_place_spec =

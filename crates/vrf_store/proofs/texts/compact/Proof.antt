@@ -4,55 +4,39 @@ use Rattle.vrf_store.proofs.Laws.Texts.Compacted.{CompactionStart, first-movable
 use Rattle.vrf_store.proofs.texts.compact.Statement.{statement}
 use Rattle.vrf_store.proofs.texts.compact.Tie as tie
 
--- the places after the two halves and the counts were read, and the start
-abbrev counted : tie.After-groups_allowed → tie.After-fields-field_count
-counted c = c.before.before.before.before
-
-abbrev halves : tie.After-groups_allowed → tie.After-other_half_at-to
-halves c =
-    let back = (counted c).before.before.before.before in
-    back.before.before.before
-
-abbrev start : tie.After-groups_allowed → tie.Start
-start c =
-    let back = (halves c).before.before in
-    back.before
-
 -- what the code has read
 found : (c : tie.After-groups_allowed) →
-    let groups = (counted c).before.before in
     let groups-at = 33 + 10 * c.guids_allowed.result in
-    CompactionStart (start c).args.m.now (halves c).half_at-from.result (halves c).other_half_at-to.result groups.guids-guid_count.result groups.groups-group_count.result (counted c).fields-field_count.result
+    CompactionStart c.args.m.now c.half_at-from.result c.other_half_at-to.result c.guids-guid_count.result c.groups-group_count.result c.fields-field_count.result
     groups-at (groups-at + 3 + 16 * c.groups_allowed.result)
 found c =
-    let groups = (counted c).before.before in
     record {
-      old-half = (halves c).half_at-from.ensures;
-      new-half = (halves c).other_half_at-to.ensures;
-      guid-count = groups.guids-guid_count.ensures;
-      group-count = groups.groups-group_count.ensures;
-      field-count = (counted c).fields-field_count.ensures;
+      old-half = c.half_at-from.ensures;
+      new-half = c.other_half_at-to.ensures;
+      guid-count = c.guids-guid_count.ensures;
+      group-count = c.groups-group_count.ensures;
+      field-count = c.fields-field_count.ensures;
       group-rows = omega arith;
       field-rows = omega arith;
     }
 
 move-texts-requires : tie.Need-move_texts-first-requires
-move-texts-requires c κs = first-movable (start c.before).requires (found c.before)
+move-texts-requires c κs = first-movable c.requires (found c.before)
 
 move-texts-requires-2 : tie.Need-move_texts-second-requires
 move-texts-requires-2 c κs =
     let read = c.before.before.before.before.before in
-    second-movable (start read).requires (found read) c.move_texts-first.ensures
+    second-movable c.requires (found read) c.move_texts-first.ensures
 
 move-texts-requires-3 : tie.Need-move_texts-end-requires
 move-texts-requires-3 c κs =
     let read = c.before.before.before.before.before.before.before.before.before in
-    third-movable (start read).requires (found read) c.move_texts-first.ensures c.move_texts-second.ensures
+    third-movable c.requires (found read) c.move_texts-first.ensures c.move_texts-second.ensures
 
 -- no call changes the length
 long : (c : tie.After-move_texts-end) → 128 ≤ length c.move_texts-end.new.m
 long c =
-    omega (arith, c.move_texts-first.ensures.long, c.move_texts-second.ensures.long, c.move_texts-end.ensures.long, (start c.before.before.before.before.before.before.before.before.before.before).requires.enough)
+    omega (arith, c.move_texts-first.ensures.long, c.move_texts-second.ensures.long, c.move_texts-end.ensures.long, c.requires.enough)
 
 put32-requires : tie.Need-put32-requires
 put32-requires c κs = omega (arith, long c.before.before.before)
@@ -64,8 +48,7 @@ put32-requires-2 c κs =
 returns : tie.Need-returns
 returns c =
     let read = c.before.before.before.before.before.before.before.before.before.before.before.before.before.before.before.before.before.before.before.before in
-    let guids = (counted read).before.before.before.before in
-    compact-written (start read).requires (found read) c.move_texts-first.ensures c.move_texts-second.ensures c.move_texts-end.ensures _ _ _ guids.half-other.ensures c.put32.ensures c.put32-2.ensures
+    compact-written c.requires (found read) c.move_texts-first.ensures c.move_texts-second.ensures c.move_texts-end.ensures _ _ _ c.half-other.ensures c.put32.ensures c.put32-2.ensures
 
 pub compact_spec : {M : Type 1} → statement M
 compact_spec =
