@@ -1,4 +1,6 @@
 -- `vrf_check::bounds_ok` satisfies its contract.
+use mathlib.Core.Bool.{not}
+use mathlib.Core.Path.{ap}
 use Prim.Native.Nat.{ℕ}
 use native.Mathlib.Omega.{arith}
 use lib.ListN.{length}
@@ -24,14 +26,14 @@ returns c = and-stop _ (lt-leb 128 _ c.if-m-lt128.true)
 
 returns-2 : tie.Need-returns-then-not-tops_ok
 unfolding bounds_ok
-returns-2 c = and-on (le-leb 128 _ c.if-m-lt128.false) (stops c.tops_ok.ensures _ c.if-not-tops_ok.true)
+returns-2 c = and-on (le-leb 128 _ c.if-m-lt128.false) (stops c.tops_ok.ensures _ (ap not c.if-not-tops_ok.true))
 
 returns-3 : tie.Need-returns-then-m-need
 unfolding bounds_ok
 returns-3 c =
     let tops = c.before.before in
     and-on (le-leb 128 _ tops.if-m-lt128.false)
-    (goes_on tops.tops_ok.ensures tops.if-not-tops_ok.false
+    (goes_on tops.tops_ok.ensures (ap not tops.if-not-tops_ok.false)
     (and-stop _ (lt-leb (needed tops) (lent tops) (omega arith))))
 
 returns-4 : tie.Need-returns
@@ -39,7 +41,7 @@ unfolding bounds_ok
 returns-4 c =
     let tops = c.before.before.before in
     and-on (le-leb 128 _ tops.if-m-lt128.false)
-    (goes_on tops.tops_ok.ensures tops.if-not-tops_ok.false
+    (goes_on tops.tops_ok.ensures (ap not tops.if-not-tops_ok.false)
     (and-on (le-leb (needed tops) (lent tops) (omega arith)) c.header_ok.ensures))
 
 pub bounds_ok_spec : {M : Type 1} → statement M

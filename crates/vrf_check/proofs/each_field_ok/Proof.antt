@@ -1,4 +1,6 @@
 -- `vrf_check::each_field_ok` satisfies its contract. The loop invariant: the rows passed so far are good.
+use mathlib.Core.Bool.{not}
+use mathlib.Core.Path.{ap}
 use mathlib.Core.Path.{◌≡◌}
 use mathlib.Core.Bool.{Bool, true}
 use Prim.Native.Nat.{ℕ, ◌-◌, ◌≤◌}
@@ -22,10 +24,10 @@ ok c = let x = c.args in field_row_ok x.groups.now x.g x.rows.now x.heads.now x.
 returns : tie.Need-returns-then-not-field_ok invariant-loop decreases-loop
 returns c =
     let l = c.before.before.before in
-    all-stop (ok l) l.loop-e.e _ c.loop-e-test.true (fails c.field_ok.ensures c.if-not-field_ok.true)
+    all-stop (ok l) l.loop-e.e _ c.loop-e-test.true (fails c.field_ok.ensures (ap not c.if-not-field_ok.true))
 
 loop-again : tie.Need-loop-e-preserved invariant-loop decreases-loop
-loop-again c = let l = c.before.before.before in (omega arith, all-next (ok l) l.loop-e.e (holds c.field_ok.ensures c.if-not-field_ok.false) l.loop-e.invariant.1)
+loop-again c = let l = c.before.before.before in (omega arith, all-next (ok l) l.loop-e.e (holds c.field_ok.ensures (ap not c.if-not-field_ok.false)) l.loop-e.invariant.1)
 
 returns-2 : tie.Need-returns invariant-loop decreases-loop
 returns-2 c = let l = c.loop-e in all-last (ok c.before) l.e _ l.invariant.0 c.loop-e-test.false l.invariant.1

@@ -1,4 +1,6 @@
 -- `vrf_check::each_path_ok` satisfies its contract. The loop invariant: the groups passed so far are good.
+use mathlib.Core.Bool.{not}
+use mathlib.Core.Path.{ap}
 use mathlib.Core.Path.{◌≡◌, sym}
 use mathlib.Core.Bool.{Bool, true}
 use Prim.Native.Nat.{ℕ, ◌-◌, ◌≤◌}
@@ -27,19 +29,19 @@ returns : tie.Need-returns-then-not-keys_ok invariant-loop decreases-loop
 unfolding path_ok
 returns c =
     let l = c.before.before.before in
-    all-stop (ok l) l.loop-g.g _ c.loop-g-test.true (sym (stops c.keys_ok.ensures _ c.if-not-keys_ok.true))
+    all-stop (ok l) l.loop-g.g _ c.loop-g-test.true (sym (stops c.keys_ok.ensures _ (ap not c.if-not-keys_ok.true)))
 
 returns-2 : tie.Need-returns-then-not-leaf_ok invariant-loop decreases-loop
 unfolding path_ok
 returns-2 c =
     let l = c.before.before.before.before.before in
-    all-stop (ok l) l.loop-g.g _ c.loop-g-test.true (sym (goes_on c.keys_ok.ensures c.if-not-keys_ok.false (sym (fails c.leaf_ok.ensures c.if-not-leaf_ok.true))))
+    all-stop (ok l) l.loop-g.g _ c.loop-g-test.true (sym (goes_on c.keys_ok.ensures (ap not c.if-not-keys_ok.false) (sym (fails c.leaf_ok.ensures (ap not c.if-not-leaf_ok.true)))))
 
 loop-again : tie.Need-loop-g-preserved invariant-loop decreases-loop
 unfolding path_ok
 loop-again c =
     let l = c.before.before.before.before.before in
-    (omega arith, all-next (ok l) l.loop-g.g (sym (goes_on c.keys_ok.ensures c.if-not-keys_ok.false (sym (holds c.leaf_ok.ensures c.if-not-leaf_ok.false)))) l.loop-g.invariant.1)
+    (omega arith, all-next (ok l) l.loop-g.g (sym (goes_on c.keys_ok.ensures (ap not c.if-not-keys_ok.false) (sym (holds c.leaf_ok.ensures (ap not c.if-not-leaf_ok.false))))) l.loop-g.invariant.1)
 
 returns-3 : tie.Need-returns invariant-loop decreases-loop
 returns-3 c = let l = c.loop-g in all-last (ok c.before) l.g _ l.invariant.0 c.loop-g-test.false l.invariant.1

@@ -1,4 +1,6 @@
 -- `vrf_check::each_text_ok` satisfies its contract. The loop invariant: the rows passed so far are good.
+use mathlib.Core.Bool.{not}
+use mathlib.Core.Path.{ap}
 use mathlib.Core.Path.{◌≡◌}
 use mathlib.Core.Bool.{Bool, true}
 use Prim.Native.Nat.{ℕ, ◌-◌, ◌≤◌}
@@ -22,10 +24,10 @@ ok c = let x = c.args in text_ok x.used x.x.now x.rows.now
 returns : tie.Need-returns-then-not-text_ok invariant-loop decreases-loop
 returns c =
     let l = c.before.before.before in
-    all-stop (ok l) l.loop-e.e _ c.loop-e-test.true (fails c.text_ok.ensures c.if-not-text_ok.true)
+    all-stop (ok l) l.loop-e.e _ c.loop-e-test.true (fails c.text_ok.ensures (ap not c.if-not-text_ok.true))
 
 loop-again : tie.Need-loop-e-preserved invariant-loop decreases-loop
-loop-again c = let l = c.before.before.before in (omega arith, all-next (ok l) l.loop-e.e (holds c.text_ok.ensures c.if-not-text_ok.false) l.loop-e.invariant.1)
+loop-again c = let l = c.before.before.before in (omega arith, all-next (ok l) l.loop-e.e (holds c.text_ok.ensures (ap not c.if-not-text_ok.false)) l.loop-e.invariant.1)
 
 returns-2 : tie.Need-returns invariant-loop decreases-loop
 returns-2 c = let l = c.loop-e in all-last (ok c.before) l.e _ l.invariant.0 c.loop-e-test.false l.invariant.1

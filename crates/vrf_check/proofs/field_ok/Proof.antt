@@ -1,4 +1,6 @@
 -- `vrf_check::field_ok` satisfies its contract.
+use mathlib.Core.Bool.{not}
+use mathlib.Core.Path.{ap}
 use mathlib.Core.Path.{◌≡◌}
 use native.Mathlib.Omega.{arith}
 use borrow.Author.Rules.{rules}
@@ -10,17 +12,17 @@ use Rattle.vrf_check.proofs.field_ok.Tie as tie
 
 slot : (c : tie.After-slot_ok) →
     let x = c.args in
-    c.Slot-ok.result ≡ slot_in x.groups.now x.g (key x.rows.now x.e)
+    c.slot_ok.result ≡ slot_in x.groups.now x.g (key x.rows.now x.e)
 slot c = cc
 
 returns : tie.Need-returns-then-not-slot_ok
 unfolding field_row_ok
-returns c = stops (slot c.before) _ c.if-not-slot_ok.true
+returns c = stops (slot c.before) _ (ap not c.if-not-slot_ok.true)
 
 returns-2 : tie.Need-returns
 unfolding field_row_ok
 returns-2 c =
-    goes_on (slot c.before.before) c.if-not-slot_ok.false
+    goes_on (slot c.before.before) (ap not c.if-not-slot_ok.false)
     (and-on (info-32 _ _ (λ i. omega (arith, c.shared_slice_known-2-1.given i))) c.found_ok.ensures)
 
 pub field_ok_spec : {M : Type 1} → statement M

@@ -1,4 +1,6 @@
 -- `vrf_check::keys_ok` satisfies its contract: one case for each key.
+use mathlib.Core.Bool.{not}
+use mathlib.Core.Path.{ap}
 use mathlib.Core.Path.{◌≡◌, refl}
 use mathlib.Core.Bool.{Bool}
 use mathlib.Core.List.{List}
@@ -56,19 +58,19 @@ row-text-requires c κs =
 
 returns : tie.Need-returns-then-not-reaches
 unfolding keys_reach
-returns c = stops (itself c.before) _ c.if-not-reaches.true
+returns c = stops (itself c.before) _ (ap not c.if-not-reaches.true)
 
 returns-2 : tie.Need-returns-then-not-alias_ok
 unfolding keys_reach
 returns-2 c =
-    goes_on (itself c.before.before.before.before) c.if-not-reaches.false (stops (default c.before) _ c.if-not-alias_ok.true)
+    goes_on (itself c.before.before.before.before) (ap not c.if-not-reaches.false) (stops (default c.before) _ (ap not c.if-not-alias_ok.true))
 
 returns-3 : tie.Need-returns
 unfolding keys_reach key_reach key_numbered
 returns-3 c =
     let path = c.before.before.before.before.before.before.before in
-    goes_on (itself c.before.before.before.before.before.before) c.if-not-reaches.false
-    (goes_on (default c.before.before.before) c.if-not-alias_ok.false
+    goes_on (itself c.before.before.before.before.before.before) (ap not c.if-not-reaches.false)
+    (goes_on (default c.before.before.before) (ap not c.if-not-alias_ok.false)
     (numbered (find path) path.row_text-path.ensures (start path).args.g 2 refl c.core_alias.ensures.text c.alias_ok-2.ensures))
 
 pub keys_ok_spec : {M : Type 1} → statement M

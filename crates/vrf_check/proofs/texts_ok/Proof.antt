@@ -1,4 +1,5 @@
 -- `vrf_check::texts_ok` satisfies its contract.
+use mathlib.Core.Bool.{not}
 use mathlib.Core.Path.{◌≡◌, ap}
 use native.Mathlib.Omega.{arith}
 use lib.ListN.{length}
@@ -28,7 +29,7 @@ each-text-ok-requires c κs = omega (arith, ap length c.guid_rows.ensures, ap le
 
 returns : tie.Need-returns-then-not-each_text_ok
 unfolding texts_ok
-returns c = stops (guid c.before) _ c.if-not-each_text_ok.true
+returns c = stops (guid c.before) _ (ap not c.if-not-each_text_ok.true)
 
 each-text-ok-requires-2 : tie.Need-each_text_ok-requires-2
 each-text-ok-requires-2 c κs =
@@ -37,7 +38,7 @@ each-text-ok-requires-2 c κs =
 returns-2 : tie.Need-returns-then-not-each_text_ok-2
 unfolding texts_ok
 returns-2 c =
-    goes_on (guid c.before.before.before.before.before) c.if-not-each_text_ok.false (stops (group c.before) _ c.if-not-each_text_ok-2.true)
+    goes_on (guid c.before.before.before.before.before) (ap not c.if-not-each_text_ok.false) (stops (group c.before) _ (ap not c.if-not-each_text_ok-2.true))
 
 each-text-ok-requires-3 : tie.Need-each_text_ok-requires-3
 each-text-ok-requires-3 c κs = omega (arith, ap length c.field_rows.ensures, ap length (texts c.before.before.before).texts-x.ensures)
@@ -45,7 +46,7 @@ each-text-ok-requires-3 c κs = omega (arith, ap length c.field_rows.ensures, ap
 returns-3 : tie.Need-returns
 unfolding texts_ok
 returns-3 c =
-    goes_on (guid c.before.before.before.before.before.before.before.before) c.if-not-each_text_ok.false (goes_on (group c.before.before.before.before) c.if-not-each_text_ok-2.false (cc))
+    goes_on (guid c.before.before.before.before.before.before.before.before) (ap not c.if-not-each_text_ok.false) (goes_on (group c.before.before.before.before) (ap not c.if-not-each_text_ok-2.false) (cc))
 
 pub texts_ok_spec : {M : Type 1} → statement M
 texts_ok_spec =

@@ -11,7 +11,7 @@ abbrev start : tie.After-row_name → tie.Start
 start c = c.before.before.before
 
 abbrev begin : tie.After-passes-which → tie.Start
-begin c = start c.before.before
+begin c = start c.before
 
 abbrev fit : tie.After-set_field_row → tie.Else-which-ne0
 fit c = c.before.before
@@ -27,7 +27,7 @@ renamed c = c.before.before.before.before
 
 passes-requires : tie.Need-passes-which-requires
 passes-requires c κs =
-    let p = (start c.before).requires.0 in
+    let p = (start c).requires.0 in
     (p.good, omega arith, omega arith, omega arith, rw c.row_name.ensures (name-held p.good p.known), p.is_text.short)
 
 returns : tie.Need-returns-then-which-ne0
@@ -52,7 +52,7 @@ set-field-row-requires-2 c κs =
     let r = released k in
     let p = (fit r).before in
     let s = begin p in
-    (k.keep_text-at.ensures.stepped.good, other_name s.args.checksum s.requires.0 s.requires.1 p.row_name.ensures p.passes-which.ensures (fit r).if-which-ne0.left r.set_field_row.ensures k.keep_text-at.ensures)
+    (k.keep_text-at.ensures.stepped.good, other_name s.args.checksum s.requires.0 s.requires.1 p.row_name.ensures p.passes-which.ensures (fit r).if-which-ne0.false r.set_field_row.ensures k.keep_text-at.ensures)
 
 same-length-2 : tie.Need-shape_of-m
 same-length-2 c =
@@ -65,7 +65,7 @@ returns-2 c =
     let r = released (kept n) in
     let p = (fit r).before in
     let s = begin p in
-    other-taken s.args.checksum s.requires.0 s.requires.1 p.row_name.ensures p.passes-which.ensures (fit r).if-which-ne0.left r.set_field_row.ensures (kept n).keep_text-at.ensures n.set_field_row-2.ensures c.step_renamed.ensures
+    other-taken s.args.checksum s.requires.0 s.requires.1 p.row_name.ensures p.passes-which.ensures (fit r).if-which-ne0.false r.set_field_row.ensures (kept n).keep_text-at.ensures n.set_field_row-2.ensures c.step_renamed.ensures
 
 pub rename_field_spec : {M : Type 1} → statement M
 rename_field_spec =

@@ -15,7 +15,7 @@ abbrev start : tie.After-field_rows → tie.Start
 start c = c.before.before
 
 abbrev place : tie.After-field_rows-2 → tie.After-text_at-at
-place c = c.before.before
+place c = c.before
 
 -- where the name is, and its length
 at-is : (c : tie.After-text_at-at) → c.text_at-at.result ≡ at (store_of (start c.before).args.m.now).field_rows (start c.before).args.e

@@ -14,7 +14,7 @@ abbrev start : tie.After-group_slots → tie.Start
 start c = c.before.before.before
 
 abbrev slots : tie.After-find_field → tie.Else-group_slots-slot
-slots c = c.before.before
+slots c = c.before
 
 inside : (c : tie.Else-group_slots-slot) →
     let x = (start c.before).args in

@@ -10,7 +10,7 @@ abbrev start : tie.After-passes-which → tie.Start
 start c = c.before.before.before
 
 abbrev fit : tie.After-keep_text-at → tie.Else-which-ne0
-fit c = c.before.before.before.before
+fit c = c.before.before.before
 
 abbrev kept : tie.After-push_group → tie.After-keep_text-at
 kept c = c.before.before.before.before
@@ -20,14 +20,14 @@ pushed c = c.before.before.before.before
 
 keep-text-requires : tie.Need-keep_text-at-requires
 keep-text-requires c κs =
-    let asked = (start c.before.before.before.before).requires in
+    let asked = (start c.before.before.before).requires in
     (asked.good, new-space asked c.passes-which.ensures c.if-which-ne0.false)
 
 push-group-requires : tie.Need-push_group-requires
 push-group-requires c κs =
     let k = c.before.before.before in
     let f = fit k in
-    new-group (start f.before).requires f.passes-which.ensures f.if-which-ne0.left k.keep_text-at.ensures
+    new-group (start f.before).requires f.passes-which.ensures f.if-which-ne0.false k.keep_text-at.ensures
 
 returns-2 : tie.Need-returns
 returns-2 c =
@@ -35,7 +35,7 @@ returns-2 c =
     let k = kept p in
     let f = fit k in
     let e = f.before in
-    new-taken (start e).requires e.passes-which.ensures f.if-which-ne0.left k.keep_text-at.ensures k.groups-n.ensures p.push_group.ensures c.step_schema.ensures
+    new-taken (start e).requires e.passes-which.ensures f.if-which-ne0.false k.keep_text-at.ensures k.groups-n.ensures p.push_group.ensures c.step_schema.ensures
 
 pub append_group_spec : {M : Type 1} → statement M
 append_group_spec =

@@ -12,11 +12,11 @@ start c =
 
 set-group-requires : tie.Need-set_group-requires
 set-group-requires c κs =
-    release-path (start c.before.before.before.before).requires c.group_index-index.ensures
+    release-path (start c.before.before.before).requires c.group_index-index.ensures
 
 returns-2 : tie.Need-returns
 returns-2 c =
-    gone (start c.before.before.before.before.before.before.before).requires c.group_index-index.ensures c.set_group.ensures
+    gone (start c.before.before.before.before.before.before).requires c.group_index-index.ensures c.set_group.ensures
 
 pub release_path_spec : {M : Type 1} → statement M
 release_path_spec =

@@ -16,7 +16,7 @@ abbrev start : tie.After-group_path → tie.Start
 start c = c.before.before.before
 
 abbrev begin : tie.After-passes-which → tie.Start
-begin c = start c.before.before
+begin c = start c.before
 
 abbrev fit : tie.After-put_path-at → tie.Else-which-ne0
 fit c = c.before.before
@@ -33,7 +33,7 @@ which c = rw c.group_path.ensures at c.passes-which.ensures
 
 passes-requires : tie.Need-passes-which-requires
 passes-requires c κs =
-    let p = (start c.before).requires in
+    let p = (start c).requires in
     (p.good, omega arith, omega arith, omega arith, rw c.group_path.ensures (path-held p.good p.known), p.is_text.short)
 
 set-group-requires : tie.Need-set_group-requires
@@ -43,7 +43,7 @@ returns-2 : tie.Need-returns
 returns-2 c =
     let r = renamed c.before.before in
     let f = fit (put r) in
-    merge-taken (begin f.before).requires (which f.before) f.if-which-ne0.left (put r).put_path-at.ensures r.set_group.ensures c.step_schema.ensures
+    merge-taken (begin f.before).requires (which f.before) f.if-which-ne0.false (put r).put_path-at.ensures r.set_group.ensures c.step_schema.ensures
 
 pub rename_group_spec : {M : Type 1} → statement M
 rename_group_spec =

@@ -17,7 +17,7 @@ abbrev start : tie.After-group_text-gone → tie.Start
 start c = c.before.before.before
 
 abbrev begin : tie.After-passes-which → tie.Start
-begin c = start c.before.before
+begin c = start c.before
 
 abbrev fit : tie.After-drop_fields → tie.Else-which-ne0
 fit c = c.before.before
@@ -40,20 +40,20 @@ which c = rw c.group_text-gone.ensures at c.passes-which.ensures
 
 passes-requires : tie.Need-passes-which-requires
 passes-requires c κs =
-    let p = (start c.before).requires in
+    let p = (start c).requires in
     (p.good, omega arith, omega arith, omega arith, rw c.group_text-gone.ensures (texts-held p.good p.known), p.is_text.short)
 
 put-path-requires : tie.Need-put_path-at-requires
 put-path-requires c κs =
     let d = c.before.before.before in
     let f = fit d in
-    replace-fits (begin f.before).requires (which f.before) f.if-which-ne0.left d.drop_fields.ensures
+    replace-fits (begin f.before).requires (which f.before) f.if-which-ne0.false d.drop_fields.ensures
 
 replace-group-requires : tie.Need-replace_group-requires
 replace-group-requires c κs =
     let p = c.before.before.before in
     let f = fit (dropped p) in
-    replace-old (begin f.before).requires (which f.before) f.if-which-ne0.left (dropped p).drop_fields.ensures p.put_path-at.ensures
+    replace-old (begin f.before).requires (which f.before) f.if-which-ne0.false (dropped p).drop_fields.ensures p.put_path-at.ensures
 
 same-length-2 : tie.Need-shape_of-m
 same-length-2 c =
@@ -66,7 +66,7 @@ returns-2 c =
     let r = replaced s in
     let d = dropped (put r) in
     let f = fit d in
-    replace-taken (begin f.before).requires (which f.before) f.if-which-ne0.left d.drop_fields.ensures (put r).put_path-at.ensures r.replace_group.ensures s.step_schema.ensures c.step_replaced.ensures
+    replace-taken (begin f.before).requires (which f.before) f.if-which-ne0.false d.drop_fields.ensures (put r).put_path-at.ensures r.replace_group.ensures s.step_schema.ensures c.step_replaced.ensures
 
 pub replace_at_spec : {M : Type 1} → statement M
 replace_at_spec =

@@ -36,7 +36,7 @@ returns-2 c =
     let n = c.before.before.before.before.before.before in
     let f = fit (kept n) in
     let p = f.before in
-    new-taken (start p).args.guid (start p).args.outer (start p).requires p.passes-which.ensures f.if-which-ne0.left (kept n).keep_text-at.ensures n.push_guid.ensures c.step_guid.ensures
+    new-taken (start p).args.guid (start p).args.outer (start p).requires p.passes-which.ensures f.if-which-ne0.false (kept n).keep_text-at.ensures n.push_guid.ensures c.step_guid.ensures
 
 pub add_guid_spec : {M : Type 1} → statement M
 add_guid_spec =

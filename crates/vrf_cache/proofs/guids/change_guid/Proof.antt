@@ -38,7 +38,7 @@ set-guid-requires-2 c κs =
     let k = c.before.before.before in
     let r = released k in
     let p = (fit r).before in
-    other-guid (start p).args.outer (start p).requires p.other_passes-which.ensures (fit r).if-which-ne0.left r.set_guid.ensures k.keep_text-at.ensures
+    other-guid (start p).args.outer (start p).requires p.other_passes-which.ensures (fit r).if-which-ne0.false r.set_guid.ensures k.keep_text-at.ensures
 
 same-length-2 : tie.Need-shape_of-m
 same-length-2 c =
@@ -50,7 +50,7 @@ returns-2 c =
     let g = changed c.before.before in
     let r = released (kept g) in
     let p = (fit r).before in
-    other-taken (start p).args.outer (start p).requires p.other_passes-which.ensures (fit r).if-which-ne0.left r.set_guid.ensures (kept g).keep_text-at.ensures g.set_guid-2.ensures c.step_guid.ensures
+    other-taken (start p).args.outer (start p).requires p.other_passes-which.ensures (fit r).if-which-ne0.false r.set_guid.ensures (kept g).keep_text-at.ensures g.set_guid-2.ensures c.step_guid.ensures
 
 pub change_guid_spec : {M : Type 1} → statement M
 change_guid_spec =

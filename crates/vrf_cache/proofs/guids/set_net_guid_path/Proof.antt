@@ -10,25 +10,18 @@ use Rattle.vrf_cache.proofs.Laws.Guids.{set_new, found, set_same, set_other}
 use Rattle.vrf_cache.proofs.guids.set_net_guid_path.Statement.{statement}
 use Rattle.vrf_cache.proofs.guids.set_net_guid_path.Tie as tie
 
--- the function's entry state
-abbrev start : tie.After-find_guid → tie.Start
-start c = c.before.before.before
-
 -- a record of this GUID is found
-there : (c : tie.In-At) → guid_place (start c.before).args.guid (held (start c.before).args.m.now).guids ≡ some c.in-At.e
+there : (c : tie.In-At) → guid_place c.args.guid (held c.args.m.now).guids ≡ some c.in-At.e
 there c = sym c.find_guid.ensures ∙ ap entry c.in-At.is
 
-asked : (c : tie.In-At) → GuidToChange (start c.before).args.m.now (start c.before).args.path.now c.in-At.e
+asked : (c : tie.In-At) → GuidToChange c.args.m.now c.args.path.now c.in-At.e
 asked c =
-    let s = start c.before in
-    found s.args.m.now s.args.guid s.args.path.now s.args.outer s.requires.0 (there c) s.requires.1
+    found c.args.m.now c.args.guid c.args.path.now c.args.outer c.requires.0 (there c) c.requires.1
 
 returns : tie.Need-returns-then-is_set
 returns c =
     let e = c.before.before in
-    let first = e.before.before in
-    let s = start first in
-    set_same s.args.m.now s.args.guid s.args.path.now s.args.outer s.requires.0 (there e) (λ i. (first.slice_known-1.given i).fits) (sym c.if-is_set.true ∙ c.is_set.ensures)
+    set_same c.args.m.now c.args.guid c.args.path.now c.args.outer c.requires.0 (there e) (λ i. (c.slice_known-1.given i).fits) (sym c.if-is_set.true ∙ c.is_set.ensures)
 
 change-guid-requires : tie.Need-change_guid-requires
 change-guid-requires c κs =
@@ -36,21 +29,18 @@ change-guid-requires c κs =
 
 add-guid-requires : tie.Need-add_guid-requires
 add-guid-requires c κs =
-    let first = c.before.before in
-    let p = (start first).requires in
-    record { good = p.0; is_text = p.1; new = sym first.find_guid.ensures ∙ ap entry c.in-Nowhere.is }
+    let p = c.requires in
+    record { good = p.0; is_text = p.1; new = sym c.find_guid.ensures ∙ ap entry c.in-Nowhere.is }
 
 returns-2 : tie.Need-returns-else-is_set
 returns-2 c =
     let e = c.before.before.before.before.before.before in
-    let s = start e.before.before in
-    rw (set_other s.args.m.now s.args.guid s.args.path.now s.args.outer s.requires.0 (there e) (sym c.if-is_set.false ∙ c.is_set.ensures)) c.change_guid.ensures
+    rw (set_other c.args.m.now c.args.guid c.args.path.now c.args.outer c.requires.0 (there e) (sym c.if-is_set.false ∙ c.is_set.ensures)) c.change_guid.ensures
 
 returns-3 : tie.Need-returns-in-Nowhere
 returns-3 c =
-    let first = c.before.before.before.before.before in
-    let x = (start first).args in
-    rw (set_new x.m.now x.guid x.path.now x.outer (sym first.find_guid.ensures ∙ ap entry c.in-Nowhere.is)) c.add_guid.ensures
+    let x = c.args in
+    rw (set_new x.m.now x.guid x.path.now x.outer (sym c.find_guid.ensures ∙ ap entry c.in-Nowhere.is)) c.add_guid.ensures
 
 pub set_net_guid_path_spec : {M : Type 1} → statement M
 set_net_guid_path_spec =

@@ -24,13 +24,13 @@ stripped c = rw c.in-Stripped.is at c.toggle_class_net_cache.ensures
 returns : tie.Need-returns-in-Stripped
 returns c =
     let n = c.before in
-    c.find_path_place.ensures ∙ sym (path-alone (held (start n.before.before).args.m.now).groups (stripped n).0)
+    c.find_path_place.ensures ∙ sym (path-alone (held (start n.before).args.m.now).groups (stripped n).0)
 
 returns-2 : tie.Need-returns-in-Appended
 unfolding class_net_cache
 returns-2 c =
     let t = c.before.before.before in
-    c.find_joined.ensures ∙ sym (path-alone (held (start t).args.m.now).groups (rw c.in-Appended.is at t.toggle_class_net_cache.ensures))
+    c.find_joined.ensures ∙ sym (path-alone (held (start t.before).args.m.now).groups (rw c.in-Appended.is at t.toggle_class_net_cache.ensures))
 
 returns-3 : tie.Need-returns-in-Absent
 returns-3 c =
@@ -41,4 +41,4 @@ pub find_toggled_spec : {M : Type 1} → statement M
 find_toggled_spec =
     tie.close
     (tie.spec
-    (λ c κs. search rules) (λ c. search rules) (λ c. rw length-take (omega (arith, (stripped c).1))) (λ c κs. let n = c in ((start n.before.before).requires.0, rw length-take (omega (arith, (stripped n).1)))) (λ c. search rules) (λ c κs. search rules) (λ c. search rules) returns returns-2 returns-3)
+    (λ c κs. search rules) (λ c. search rules) (λ c. rw length-take (omega (arith, (stripped c).1))) (λ c κs. let n = c in ((start n.before).requires.0, rw length-take (omega (arith, (stripped n).1)))) (λ c. search rules) (λ c κs. search rules) (λ c. search rules) returns returns-2 returns-3)

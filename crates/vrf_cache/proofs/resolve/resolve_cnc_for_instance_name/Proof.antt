@@ -20,45 +20,34 @@ invariant-loop m name stem₀ stem =
 abbrev decreases-loop : tie.decreases-loop-stem
 decreases-loop m name stem₀ stem = length (stems_from name stem)
 
--- the function's entry state, seen from the loop
-abbrev start : tie.Else-has_path_separator invariant-loop decreases-loop → tie.Start invariant-loop decreases-loop
-start c = c.before.before.before.before
-
-abbrev begin : tie.At-loop-stem invariant-loop decreases-loop → tie.Start invariant-loop decreases-loop
-begin c = start c.before.before
-
 returns-2 : tie.Need-returns-in-End invariant-loop decreases-loop
 returns-2 c =
-    let l = c.before in
-    sym (rw c.in-End.is at l.loop-stem.invariant.0 ∙ no-stems (held (begin l).args.m.now).groups)
+    sym (rw c.in-End.is at c.loop-stem.invariant.0 ∙ no-stems (held c.args.m.now).groups)
 
 slice-aggregate-try-cnc-leaf-candidates :
     tie.Need-slice_bounds-try_cnc_leaf_candidates-end invariant-loop decreases-loop
 slice-aggregate-try-cnc-leaf-candidates c =
-    let s = c.before.before in
-    let within = rw s.stem.given.1 at s.loop-stem.invariant.1 in
+    let within = rw c.in-At.is at c.loop-stem.invariant.1 in
     rw length-take (omega (arith, within))
 
 try-cnc-leaf-candidates-requires : tie.Need-try_cnc_leaf_candidates-c-requires invariant-loop decreases-loop
 try-cnc-leaf-candidates-requires c κs =
-    let x = begin c.before.before in
+    let x = c in
     (x.requires.0, separators-take c.in-At.len x.args.name.now (cc), rw length-take (omega arith))
 
 returns-3 : tie.Need-returns-then-decides invariant-loop decreases-loop
 returns-3 c =
-    let l = c.before.before.before.before.before.before in
-    let rest = rw c.in-At.is at l.loop-stem.invariant.0 in
-    c.claimed.ensures ∙ sym (stem-decides (held (begin l).args.m.now).groups _ _ rest c.try_cnc_leaf_candidates-c.ensures (cc))
+    let rest = rw c.in-At.is at c.loop-stem.invariant.0 in
+    c.claimed.ensures ∙ sym (stem-decides (held c.args.m.now).groups _ _ rest c.try_cnc_leaf_candidates-c.ensures (cc))
 
 loop-less : tie.Need-loop-stem-smaller invariant-loop decreases-loop
 loop-less c =
-    stems-fewer (begin c.before.before.before.before.before.before).args.name.now c.next_stem-stem.result c.in-At.is c.next_stem-stem.ensures.stems
+    stems-fewer c.args.name.now c.next_stem-stem.result c.in-At.is c.next_stem-stem.ensures.stems
 
 loop-again : tie.Need-loop-stem-preserved invariant-loop decreases-loop
 loop-again c =
-    let l = c.before.before.before.before.before.before in
-    let rest = rw c.in-At.is at l.loop-stem.invariant.0 in
-    (stem-passes (held (begin l).args.m.now).groups _ _ rest c.try_cnc_leaf_candidates-c.ensures (cc) c.next_stem-stem.ensures.stems, c.next_stem-stem.ensures.within)
+    let rest = rw c.in-At.is at c.loop-stem.invariant.0 in
+    (stem-passes (held c.args.m.now).groups _ _ rest c.try_cnc_leaf_candidates-c.ensures (cc) c.next_stem-stem.ensures.stems, c.next_stem-stem.ensures.within)
 
 pub resolve_cnc_for_instance_name_spec : {M : Type 1} → statement M
 resolve_cnc_for_instance_name_spec =
@@ -67,7 +56,7 @@ resolve_cnc_for_instance_name_spec =
     invariant-loop decreases-loop (λ c κs. search rules)
     (λ c. let x = c.args in resolve-path x.name.now (held x.m.now).groups (cc))
     (λ c κs. search rules)
-    (λ c. let x = (start c.before).args in (resolve-name x.name.now (held x.m.now).groups (cc) c.first_stem-stem.ensures.stems, c.first_stem-stem.ensures.within))
+    (λ c. let x = c.args in (resolve-name x.name.now (held x.m.now).groups (cc) c.first_stem-stem.ensures.stems, c.first_stem-stem.ensures.within))
     (λ c. search rules) returns-2 (λ c. search rules) slice-aggregate-try-cnc-leaf-candidates
     try-cnc-leaf-candidates-requires (λ c κs. search rules) (λ c κs. search rules) returns-3 (λ c κs. search rules)
     loop-less loop-again)

@@ -14,13 +14,13 @@ start c = c.before.before.before.before
 claim-of-requires : tie.Need-claim_of-requires
 unfolding component underscore_c
 claim-of-requires c κs =
-    let s = start c.before.before.before.before in
+    let s = start c.before.before.before.before.before.before.before in
     (s.requires.0, name-leaves s.args.name.now (cc) s.requires.1 c.leaf_base.ensures)
 
 returns-2 : tie.Need-returns
 unfolding component underscore_c
 returns-2 c =
-    let x = (start c.before.before.before.before.before.before).args in
+    let x = (start c.before.before.before.before.before.before.before.before.before).args in
     let groups = (held x.m.now).groups in
     c.claimed.ensures ∙ match-name x.name.now groups (cc) (name-in-turn groups x.name.now c.claim_of.ensures)
 

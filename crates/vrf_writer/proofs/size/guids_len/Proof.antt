@@ -64,7 +64,7 @@ loop-again : tie.Need-loop-i-preserved invariant-loop decreases-loop
 loop-again c =
     let after-packed-len2 = c.before.before in
     let t = turn3 c in
-    summed-step t.loop-i.inv (omega arith) (omega (arith, guid-length (it t), first after-packed-len2.before.before, second after-packed-len2, third c))
+    summed-step t.loop-i.invariant (omega arith) (omega (arith, guid-length (it t), first after-packed-len2.before.before, second after-packed-len2, third c))
 
 returns : tie.Need-returns invariant-loop decreases-loop
 returns c =
