@@ -15,7 +15,7 @@ start c = c.before.before.before.before
 
 field-of-requires : tie.Need-field_of-requires
 field-of-requires c κs =
-    ((rw c.in-To.is at c.Group-of.ensures).good, omega (arith, c.Group-of.auto.1.1.1.0, (start c.before.before.before.before.before.before.before.before.before.before.before.before.before).requires.1))
+    ((rw c.in-To.is at c.group_of.ensures).good, omega (arith, c.group_of.auto.scratch, (start c.before.before.before.before.before.before.before.before.before.before.before.before.before).requires.1))
 
 returns : tie.Need-returns-in-Refused
 unfolding export_entry
@@ -28,12 +28,12 @@ returns-2 c =
 returns-3 : tie.Need-returns-in-Refused-group_of
 returns-3 c =
     let flag = rw c.in-Value-read_int_packed.is at c.read_int_packed-in-Value.ensures in
-    group-refused (start c.before.before.before.before.before.before.before.before.before.before.before).requires.0 (rw c.in-Value.is at c.read_int_packed.ensures) flag _ (rw c.in-Refused-group_of.is at c.Group-of.ensures)
+    group-refused (start c.before.before.before.before.before.before.before.before.before.before.before).requires.0 (rw c.in-Value.is at c.read_int_packed.ensures) flag _ (rw c.in-Refused-group_of.is at c.group_of.ensures)
 
 returns-4 : tie.Need-returns-in-To
 returns-4 c =
     let flag = rw c.in-Value-read_int_packed.is at c.read_int_packed-in-Value.ensures in
-    group-then (start c.before.before.before.before.before.before.before.before.before.before.before.before.before.before.before.before.before.before).requires.0 (rw c.in-Value.is at c.read_int_packed.ensures) flag (rw c.in-To.is at c.Group-of.ensures) _ (cursor_outcome c.field_of.result) c.field_of.ensures
+    group-then (start c.before.before.before.before.before.before.before.before.before.before.before.before.before.before.before.before.before.before).requires.0 (rw c.in-Value.is at c.read_int_packed.ensures) flag (rw c.in-To.is at c.group_of.ensures) _ (cursor_outcome c.field_of.result) c.field_of.ensures
 
 pub export_entry_spec : {M : Type 1} → statement M
 export_entry_spec =

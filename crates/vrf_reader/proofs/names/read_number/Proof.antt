@@ -1,6 +1,7 @@
 -- `vrf_reader::names::read_number` satisfies its contract.
 use borrow.Author.Rules.{rules}
 use mir.Facts.{to_z-of_z}
+use mir.Syntax.{w32}
 use Rattle.vrf_bitio.specs.Number.{int32}
 use Rattle.vrf_bitio.proofs.Laws.Answers.{refused-first}
 use Rattle.vrf_reader.proofs.Laws.Texts.{is-small, numbered-in}
@@ -15,7 +16,7 @@ returns c = refused-first _ _ int32 _ (rw c.in-Refused.is at c.read_i32.ensures)
 
 returns-2 : tie.Need-returns-in-Value
 returns-2 c =
-    let same = to_z-of_z (record { sfits = c.in-Value.known_told-in-Value-1-own.given.0.1 }) in
+    let same = to_z-of_z {w = w32} (record { sfits = c.in-Value.known_told-in-Value-1-own.given.0.1 }) in
     numbered-in _ _ c.requires.0 c.render_fname.result c.named.ensures _ (rw c.in-Value.is at c.read_i32.ensures) same c.render_fname.ensures
 
 pub read_number_spec : {M : Type 1} → statement M
