@@ -36,7 +36,7 @@ first c = word c.before c.in-Value.is
 zero : (c : tie.After-read_zeros) {x : Advanced} → c.read_zeros.result ≡ x → ZerosRead (start (width c).before).args.s.now (width c).in-Value.next x
 zero c e = rw e at c.read_zeros.ensures
 
-count : (c : tie.After-read_count) {x : ReadNumber} → c.read_count.result ≡ x → RefinesReading (start (width (zeros c).before).before.before).args.s.now (count_up_to 1 1000000) (zeros c).in-To.then (number_outcome x)
+count : (c : tie.After-read_count) {x : ReadNumber} → c.read_count.result ≡ x → RefinesReading c.args.s.now (count_up_to 1 1000000) (zeros c).in-To.then (number_outcome x)
 count c e = rw e at c.read_count.ensures.0
 
 returns : tie.Need-returns-in-Refused

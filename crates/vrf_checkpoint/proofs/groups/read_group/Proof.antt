@@ -25,20 +25,20 @@ named c = c.before.before
 path : (c : tie.In-Read) →
     let t = text c.before in
     let a = (start t).args in
-    TextIn a.s.now a.c (read_at a.s.now a.c fstring) t.read_text.last.1.1.0 (Read c.in-Read.n c.in-Read.next)
+    TextIn a.s.now a.c (read_at a.s.now a.c fstring) t.read_text.new.scratch (Read c.in-Read.n c.in-Read.next)
 path c = rw c.in-Read.is at c.read_text.ensures
 
 read-declared-requires : tie.Need-read_declared-requires
 read-declared-requires c κs =
     let n = c.before in
-    ((start (text n.before.before)).requires.0, scratch-text fstring-reads (path n))
+    ((start (text n.before)).requires.0, scratch-text fstring-reads (path n))
 
 read-slots-requires : tie.Need-read_slots-requires
 read-slots-requires c κs =
     let d = c.before.before.before.before.before in
     let t = text (named d).before in
     let g = rw c.in-Slots.is at d.read_declared.ensures in
-    (g.0.good, omega (arith, t.read_text.kept.1.1.0, (start t).requires.1), g.1)
+    (g.0.good, omega (arith, t.read_text.auto.scratch, (start t).requires.1), g.1)
 
 returns : tie.Need-returns-in-Refused
 returns c =

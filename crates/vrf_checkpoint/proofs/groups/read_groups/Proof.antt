@@ -42,20 +42,20 @@ read-group-requires c κs = (c.loop.invariant.0.simulates.good, omega (arith, c.
 returns : tie.Need-returns-in-Refused invariant-loop decreases-loop
 returns c =
     let x = turn c.before in
-    one-refused (test x).loop.inv.0 (test x).loop-test.taken c.in-Refused.r (sum x c.in-Refused.is)
+    one-refused (test x).loop.invariant.0 (test x).loop-test.true c.in-Refused.r (sum x c.in-Refused.is)
 
 add-fields : tie.Need-overflow_add-fields invariant-loop decreases-loop
 add-fields c =
     let x = turn c.before in
     let l = (test x).before in
-    omega (arith, l.loop.inv.1, l.loop.inv.0.below, (start l).requires.2, (sum x c.in-Read.is).1)
+    omega (arith, l.loop.invariant.1, l.loop.invariant.0.below, (start l).requires.2, (sum x c.in-Read.is).1)
 
 loop-again : tie.Need-loop-preserved invariant-loop decreases-loop
 loop-again c =
     let x = turn c.before in
-    let i = (test x).loop.inv in
+    let i = (test x).loop.invariant in
     let more = sum x c.in-Read.is in
-    (one-read i.0 (test x).loop-test.taken _ more.0, omega (arith, i.1, more.1), x.read_group.kept.1.1.1.0 ∙ i.2)
+    (one-read i.0 (test x).loop-test.true _ more.0, omega (arith, i.1, more.1), x.read_group.auto.scratch ∙ i.2)
 
 returns-2 : tie.Need-returns invariant-loop decreases-loop
 returns-2 c = (all_read c.loop.invariant.0 c.loop-test.false, omega (arith, c.loop.invariant.1, c.loop.invariant.0.below))
@@ -65,7 +65,7 @@ read_groups_spec =
     tie.close
     (tie.spec
     invariant-loop decreases-loop loop-holds read-group-requires (λ c. search rules)
-    (λ c. let x = turn c.before in x.read_group.kept.1.1.0 ∙ (test x).loop.inv.0.simulates.long)
-    (λ c. let x = turn c.before in x.read_group.kept.1.1.1.0 ∙ (test x).loop.inv.2) returns
+    (λ c. let x = turn c.before in x.read_group.auto.m ∙ (test x).loop.invariant.0.simulates.long)
+    (λ c. let x = turn c.before in x.read_group.auto.scratch ∙ (test x).loop.invariant.2) returns
     (λ c. search rules) add-fields (λ c. omega arith) (λ c. omega arith) loop-again (λ c. c.loop.invariant.0.simulates.long)
     (λ c. c.loop.invariant.2) returns-2)

@@ -42,20 +42,20 @@ read-slot-requires c κs = (c.loop-slot.invariant.0.simulates.good, omega (arith
 returns : tie.Need-returns-in-Refused invariant-loop decreases-loop
 returns c =
     let x = turn c.before in
-    one-refused (test x).loop-slot.inv.0 (test x).loop-slot-test.taken c.in-Refused.r (sum x c.in-Refused.is)
+    one-refused (test x).loop-slot.invariant.0 (test x).loop-slot-test.true c.in-Refused.r (sum x c.in-Refused.is)
 
 add-filled : tie.Need-overflow_add-filled invariant-loop decreases-loop
 add-filled c =
     let x = turn c.before in
     let l = (test x).before in
-    omega (arith, l.loop-slot.inv.1, l.loop-slot.inv.0.below, (start l).requires.2, (sum x c.in-Read.is).1)
+    omega (arith, l.loop-slot.invariant.1, l.loop-slot.invariant.0.below, (start l).requires.2, (sum x c.in-Read.is).1)
 
 loop-again : tie.Need-loop-slot-preserved invariant-loop decreases-loop
 loop-again c =
     let x = turn c.before in
-    let i = (test x).loop-slot.inv in
+    let i = (test x).loop-slot.invariant in
     let more = sum x c.in-Read.is in
-    (one-read i.0 (test x).loop-slot-test.taken _ more.0, omega (arith, i.1, more.1), x.read_slot.kept.1.1.1.0 ∙ i.2)
+    (one-read i.0 (test x).loop-slot-test.true _ more.0, omega (arith, i.1, more.1), x.read_slot.auto.scratch ∙ i.2)
 
 returns-2 : tie.Need-returns invariant-loop decreases-loop
 returns-2 c =
@@ -68,7 +68,7 @@ read_slots_spec =
     tie.close
     (tie.spec
     invariant-loop decreases-loop loop-holds read-slot-requires (λ c. search rules)
-    (λ c. let x = turn c.before in x.read_slot.kept.1.1.0 ∙ (test x).loop-slot.inv.0.simulates.long)
-    (λ c. let x = turn c.before in x.read_slot.kept.1.1.1.0 ∙ (test x).loop-slot.inv.2) returns
+    (λ c. let x = turn c.before in x.read_slot.auto.m ∙ (test x).loop-slot.invariant.0.simulates.long)
+    (λ c. let x = turn c.before in x.read_slot.auto.scratch ∙ (test x).loop-slot.invariant.2) returns
     (λ c. search rules) add-filled (λ c. omega arith) (λ c. omega arith) loop-again (λ c. c.loop-slot.invariant.0.simulates.long)
     (λ c. c.loop-slot.invariant.2) returns-2)

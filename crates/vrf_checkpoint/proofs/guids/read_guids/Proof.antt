@@ -29,7 +29,7 @@ test c = c.before.before.before
 
 reads : (c : tie.After-read_guid invariant-loop decreases-loop) {x : Guids} → c.read_guid.result ≡ x →
     let l = (test c).loop-entry in
-    GuidReads (start (test c).before).args.s.now (block_guid by_table l.entry l.inv.0.table) l.at l.m c.read_guid.new.m (l.entry + 1) x
+    GuidReads (start (test c).before).args.s.now (block_guid by_table l.entry l.invariant.0.table) l.at l.m c.read_guid.new.m (l.entry + 1) x
 reads c e = rw e at (c.read_guid.ensures _ (test c).loop-entry.invariant.0.represents)
 
 loop-holds : tie.Need-loop-entry-init invariant-loop decreases-loop
@@ -44,13 +44,13 @@ read-guid-requires c κs =
 returns : tie.Need-returns-in-Refused invariant-loop decreases-loop
 returns c =
     let g = turn c.before in
-    entries-refused (test g).loop-entry.inv.0 (test g).loop-entry-test.taken c.in-Refused.r (reads g c.in-Refused.is)
+    entries-refused (test g).loop-entry.invariant.0 (test g).loop-entry-test.true c.in-Refused.r (reads g c.in-Refused.is)
 
 loop-again : tie.Need-loop-entry-preserved invariant-loop decreases-loop
 loop-again c =
     let g = turn c.before in
-    let i = (test g).loop-entry.inv in
-    (entries-more i.0 (test g).loop-entry-test.taken (reads g c.in-To.is), omega (arith, i.1))
+    let i = (test g).loop-entry.invariant in
+    (entries-more i.0 (test g).loop-entry-test.true (reads g c.in-To.is), omega (arith, i.1))
 
 pub read_guids_spec : {M : Type 1} → statement M
 read_guids_spec =

@@ -24,7 +24,7 @@ reads c e = rw e at c.read_path.ensures
 text : (c : tie.In-Of) →
     let p = path c.before in
     let a = (start p).args in
-    PathOf a.s.now (path_at a.entry (start p).requires.table) a.c a.m.now p.read_path.last.1.1.0 p.read_path.last.1.1.1.0 a.entry c.in-Of.n c.in-Of.t c.in-Of.next
+    PathOf a.s.now (path_at a.entry (start p).requires.table) a.c a.m.now p.read_path.new.m p.read_path.new.scratch a.entry c.in-Of.n c.in-Of.t c.in-Of.next
 text c = let p = path c.before in reads p c.in-Of.is (start p).requires.table (start p).requires.represents
 
 read-end-requires : tie.Need-read_end-requires
@@ -38,13 +38,13 @@ returns c table represents =
 
 returns-2 : tie.Need-returns-in-Refused-read_end
 returns-2 c table represents =
-    let p = path c.before.before.before.before.before.before.before in
+    let p = path c.before.before.before.before.before.before in
     let a = (start p).args in
     entry-refused a.guid a.outer a.entry table (reads p c.in-Of.is table represents) (rw c.in-Refused-read_end.is at c.read_end.ensures)
 
 returns-3 : tie.Need-returns-in-To
 returns-3 c table represents =
-    let p = path c.before.before.before.before.before.before.before in
+    let p = path c.before.before.before.before.before.before in
     let a = (start p).args in
     entry-ended a.guid a.outer a.entry table (reads p c.in-Of.is table represents) (rw c.in-To.is at c.read_end.ensures)
 

@@ -39,7 +39,7 @@ returns-3 c table represents =
     let s = start (read k) in
     let g = kind (read k) k.in-Value.is in
     let call = c.read_literal in
-    path-on (literal-kind s.requires.good s.args.entry table g c.in-1.is) call.new.1.1.0 call.new.1.1.1.0 s.args.entry call.result (call.ensures table (represents-on g.first g.count refl represents))
+    path-on (literal-kind s.requires.good s.args.entry table g c.in-1.is) call.new.m call.new.scratch s.args.entry call.result (call.ensures table (represents-on g.first g.count refl represents))
 
 returns-4 : tie.Need-returns-in_default
 returns-4 c table represents =

@@ -14,7 +14,7 @@ returns c =
     let a = c.args in
     let call = c.read_text in
     let at : ℕ → Cursor = λ p. record { first = a.c.first; count = a.c.count; pos = p } in
-    subst (λ (p : ℕ). TextIn a.s.now (at p) (read_at a.s.now (at p) fstring) call.new.1.1.0 call.result) c.literal_at.ensures call.ensures
+    subst (λ (p : ℕ). TextIn a.s.now (at p) (read_at a.s.now (at p) fstring) call.new.scratch call.result) c.literal_at.ensures call.ensures
 
 pub reread_spec : {M : Type 1} → statement M
 reread_spec = tie.close (tie.spec (λ c κs. search rules) (λ c κs. search rules) (λ c. search rules) returns)

@@ -24,7 +24,7 @@ returns-2 c =
     let call = c.load_object in
     let a = c.args in
     run-read (object_at a.depth a.exporting) _ refl c.slice_known-1.given c.check_book_window.ensures c.in-Window.is call.result
-    (subst (λ (n : ℕ). Refines a.window.now (object n a.exporting) c.in-Window.c a.book.now call.new.1.1.0 (number_outcome call.result)) c.depth_left-left.ensures call.ensures) c.ended.ensures
+    (subst (λ (n : ℕ). Refines a.window.now (object n a.exporting) c.in-Window.c a.book.now call.new.m (number_outcome call.result)) c.depth_left-left.ensures call.ensures) c.ended.ensures
 
 pub load_object_spec : {M : Type 1} → statement M
 load_object_spec =
