@@ -3,7 +3,8 @@
 # failed, if
 #
 # - it is a BAD EDIT: it cannot be applied or read, so nothing was tried. `rt ci` passes all the same;
-# - it is refused only because a proof file names what the edit took away: then the proof was written for another program;
+# - it is refused only because a proof file names what the edit took away, or the reason that rt gives is that something waits for such a
+#   proof: then the proof was written for another program;
 # - it is refused only by a limit of the prover, which then gives no verdict.
 #
 # rt keeps no log of an edit's check. In which of its places an edit is refused is seen by places.py.
@@ -20,7 +21,7 @@ while IFS= read -r line; do
     if [[ $line =~ ^rt:\ must-fail\ ([^:]+):\ refused,\ as\ it\ must\ be(.*)$ ]]; then
         refused=$((refused + 1))
         case ${BASH_REMATCH[2]} in
-        ' (only because '*) lose "${BASH_REMATCH[1]}: only a proof file does not fit" ;;
+        ' (only because '* | *' error: '*' declaration'*' that depend'*) lose "${BASH_REMATCH[1]}: only a proof file does not fit" ;;
         ' (only by a limit '*) lose "${BASH_REMATCH[1]}: the prover gave no verdict" ;;
         esac
     elif [[ $line =~ ^rt:\ (must-fail\ )?([^:]+):\ BAD\ EDIT ]]; then
@@ -41,7 +42,7 @@ if [[ $last == *', 0 failed' && -z $is_ok ]]; then
     echo "NOT HELD: rt passes, and does not say 'rt: ok'"
     bad=$((bad + 1))
 fi
-echo "held: $((refused - lost)) must-fail edits are refused by a fact, $((lost + bad)) are not"
+echo "held: $((refused - lost)) must-fail edits hold, $((lost + bad)) do not"
 if [ -n "$last" ]; then
     read -r passed _ failed _ <<<"$last"
     echo "$((passed - lost)) passed, $((failed + lost + bad)) failed"

@@ -19,7 +19,7 @@ holds() { # WHAT STATUS WANTED: standard input is what rt ci prints
 }
 ok='rt: ok; handles allowed: none; must-fail edits: 2 refused; every proof and must-fail edit was done in this run'
 law='rt: must-fail some/laws.edit: refused, as it must be: ./proofs/Laws/Bits.antt:5:12: error: `laws`: the two types differ'
-holds 'two edits that hold' 0 'held: 2 must-fail edits are refused by a fact, 0 are not
+holds 'two edits that hold' 0 'held: 2 must-fail edits hold, 0 do not
 5 passed, 0 failed' <<RT
 rt: must-fail some/programs.edit: refused, as it must be
 $law
@@ -27,15 +27,23 @@ $ok
 5 passed, 0 failed
 RT
 holds 'a proof that does not fit' 1 'NOT HELD: some/programs.edit: only a proof file does not fit
-held: 1 must-fail edits are refused by a fact, 1 are not
+held: 1 must-fail edits hold, 1 do not
 4 passed, 1 failed' <<RT
 rt: must-fail some/programs.edit: refused, as it must be (only because a proof file names what the edit took away, so this says little of the contract: change a value and keep the names): ./proofs/add/Answers.antt:7:8: error: \`returns\`: record \`Start\` has no field \`sum\`
 $law
 $ok
 5 passed, 0 failed
 RT
+holds 'a proof that waits for one that does not fit' 1 'NOT HELD: some/programs.edit: only a proof file does not fit
+held: 1 must-fail edits hold, 1 do not
+4 passed, 1 failed' <<RT
+rt: must-fail some/programs.edit: refused, as it must be: ./proofs/add/Answers.antt:9:5: error: 1 declaration that depends on \`returns\`, which was rejected, was not checked: add_spec
+$law
+$ok
+5 passed, 0 failed
+RT
 holds 'a limit of the prover' 1 'NOT HELD: some/programs.edit: the prover gave no verdict
-held: 1 must-fail edits are refused by a fact, 1 are not
+held: 1 must-fail edits hold, 1 do not
 4 passed, 1 failed' <<RT
 rt: must-fail some/programs.edit: refused, as it must be (only by a limit of the prover, which gave no verdict, so this says less of the contract: choose a change that it refuses sooner): ./proofs/add/Answers.antt:7:8: error: antt ran out of stack
 $law
@@ -43,7 +51,7 @@ ${ok/2 refused/2 refused, 1 of them only by a limit}
 5 passed, 0 failed
 RT
 holds 'a bad edit' 1 'NOT HELD: some/programs.edit: a bad edit
-held: 1 must-fail edits are refused by a fact, 1 are not
+held: 1 must-fail edits hold, 1 do not
 4 passed, 1 failed' <<RT
 rt: must-fail some/programs.edit: BAD EDIT: an 'old:' text is in src/lib.rt 0 times, and not once
 $law
@@ -52,7 +60,7 @@ ${ok/2 refused/1 refused, 1 bad}
 4 passed, 0 failed
 RT
 holds 'an edit in a folder' 1 'NOT HELD: crates/some/must-fail/more/programs.edit: a bad edit
-held: 1 must-fail edits are refused by a fact, 1 are not
+held: 1 must-fail edits hold, 1 do not
 4 passed, 1 failed' <<RT
 rt: crates/some/must-fail/more/programs.edit: BAD EDIT: an edit stands right in must-fail/, and its name is of letters, digits, _, - and . and ends in .edit (or .md, if it is only to be read)
 $law
@@ -60,20 +68,20 @@ ${ok/2 refused/1 refused, 1 bad}
 4 passed, 0 failed
 RT
 holds 'bad edits that are only counted' 1 'NOT HELD: rt says 12 bad edits
-held: 1 must-fail edits are refused by a fact, 12 are not
+held: 1 must-fail edits hold, 12 do not
 4 passed, 12 failed' <<RT
 $law
 ${ok/2 refused/1 refused, 12 bad}
 4 passed, 0 failed
 RT
 holds 'a pass without its line' 1 "NOT HELD: rt passes, and does not say 'rt: ok'
-held: 1 must-fail edits are refused by a fact, 1 are not
+held: 1 must-fail edits hold, 1 do not
 4 passed, 1 failed" <<RT
 $law
 4 passed, 0 failed
 RT
 # What rt ci itself fails is in its last line, and in its status.
-holds 'a failed run' 0 'held: 1 must-fail edits are refused by a fact, 0 are not
+holds 'a failed run' 0 'held: 1 must-fail edits hold, 0 do not
 4 passed, 2 failed' <<RT
 rt: must-fail some/programs.edit: NOT REFUSED: the crate is still proved with this edit (one that means the same as before cannot be refused: remove it)
 $law
