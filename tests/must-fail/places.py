@@ -13,7 +13,7 @@ takes a second, and is a part of the gate.
 
 With --check, and the names of crates or of edits (`vrf_bitio`, `vrf_bitio/programs`), it proves an edited copy of the crate for each edit,
 by `rt check`, and looks in what rt says for a fact that fails in each place. That takes as long as `rt must-fail`, and more where the
-libraries below have to be built first, so it is no part of the gate.
+libraries below have to be built first, so it is no part of the gate. The logs stay in a temporary folder.
 """
 import argparse
 import re
@@ -159,7 +159,7 @@ def edits_of(root, names):
 
 
 class Copy:
-    """A copy of the crates, in which edits are made and checked. The logs stay."""
+    """A copy of the crates, in which edits are made and checked. What rt makes there goes at the end, and the logs stay."""
 
     def __init__(self, root):
         self.root = Path(tempfile.mkdtemp(prefix='places-'))
@@ -189,10 +189,16 @@ class Copy:
             for file, text in before.items():
                 (here / file).write_text(text, 'utf8')
 
+    def __enter__(self):
+        return self
 
-def check(root, edits):
+    def __exit__(self, *_):
+        shutil.rmtree(self.root / 'crates', ignore_errors=True)
+
+
+def check(copy, edits):
     """Checks edited copies; the number of places in which no fact fails."""
-    copy, lost, proved = Copy(root), 0, {}
+    lost, proved = 0, {}
     for edit in edits:
         crate = edit.crate.name
         if crate not in proved:
@@ -221,7 +227,10 @@ def main():
     faults = [f'{edit.label}: {fault}' for edit in edits for fault in edit.faults]
     for fault in faults:
         print(f'places: {fault}')
-    lost = check(arguments.root, edits) if arguments.check and not faults else 0
+    lost = 0
+    if arguments.check and not faults:
+        with Copy(arguments.root) as copy:
+            lost = check(copy, edits)
     print(f'places: {sum(len(edit.places) for edit in edits)} places in {len(edits)} edits: {lost + len(faults)} faults')
     return 1 if faults or lost else 0
 
