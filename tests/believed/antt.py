@@ -12,7 +12,7 @@ TOKEN = re.compile(rf'"(?:\\.|[^"\\])*"|«[^»]*»|\.{NAME}(?:\.{NAME})*|{NAME}(
 COMMENT = re.compile(r'"(?:\\.|[^"\\])*"|\{-.*?-\}|(?<!\S)--[^\n]*', re.DOTALL)
 # `use PATH`, `use PATH as NAME`, `use PATH.{a, b as c}`, also over several lines; with `ghost` and `;` in code.
 IMPORT = re.compile(
-    r'^(?:ghost |unfoldable )?(?P<pub>pub )?use\s+(?P<path>[^\s{;]+?)(?:\.\{(?P<names>[^}]*)\})?(?:\s+as\s+(?P<alias>[^\s;]+))?;?$',
+    r'^[ \t]*(?:ghost |unfoldable )?(?P<pub>pub )?use\s+(?P<path>[^\s{;]+?)(?:\.\{(?P<names>[^}]*)\})?(?:\s+as\s+(?P<alias>[^\s;]+))?;?$',
     re.MULTILINE,
 )
 MODULE_LINE = re.compile(r'^(?:pub )?mod [^\s;]+;?$', re.MULTILINE)

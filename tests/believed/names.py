@@ -13,9 +13,9 @@ class Scope:
 
     def add(self, name, declaration, constructor):
         self.names[name] = (declaration, constructor)
-        # `_++_` is written `a ++ b`
-        if '_' in name:
-            self.operators |= {part: (declaration, constructor) for part in name.split('_') if part}
+        # `◌++◌` is written `a ++ b`
+        if '◌' in name:
+            self.operators |= {part: (declaration, constructor) for part in name.split('◌') if part}
 
     def meaning(self, token):
         """What a name or a path means. In `a.b` the a is a module, a type with the constructor b, or a value with the field b."""
@@ -101,7 +101,7 @@ class References:
 
     def name(self, token, bound):
         if token in ('do', '←'):
-            self.found |= {self.scope.names[name][0]: True for name in ('_>>=_', '_>>_') if name in self.scope.names}
+            self.found |= {self.scope.names[name][0]: True for name in ('◌>>=◌', '◌>>◌') if name in self.scope.names}
         elif is_name(token) and token.split('.')[0] not in bound:
             if meaning := self.scope.meaning(token):
                 self.found[meaning[0]] = True

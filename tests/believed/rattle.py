@@ -5,11 +5,15 @@ from typing import NamedTuple
 from antt import blank, imports_of, MODULE_LINE
 
 # What a function's text says to the prover. Only `requires` and `ensures` are its contract; Rattle has loop invariants and measures in
-# `proofs/` today, and they would be read here if they were in the code.
+# `proofs/`, and they would be read here if they were in the code. A clause can have a star and a name: `ensures low { .. }`.
 CONTRACT = ('requires', 'ensures')
-CLAUSE = re.compile(r'\b(requires|ensures|invariant|decreases|measure)\s*\{')
+CLAUSE = re.compile(r'\b(requires|ensures|invariant|decreases|measure)\b\*?(?:\s+\w+)?\s*\{')
+# What a type, a trait or an `impl` says to the prover besides. No code has such a member, and this reader does not know them.
+GHOST = re.compile(r'\bghost\s+(?!use\b)\w+')
 COMMENT_OR_TEXT = re.compile(r"""//[^\n]*|/\*.*?\*/|b?"(?:\\.|[^"\\])*"|b?'(?:\\x..|\\.|[^'\\])'""", re.DOTALL)
-FUNCTION = re.compile(r'(?P<pub>\bpub(?:\([^)]*\))?\s+)?(?:(?:extern\s*""|const|unsafe)\s+)*\bfn\s+(?P<name>\w+)[^({]*\(')
+FUNCTION = re.compile(r'(?P<pub>\bpub(?:\([^)]*\))?\s+)?(?:(?:extern\s*""|const|unsafe)\s+)*\bfn\s+(?P<name>\w+)')
+# Up to the next brace or `;` that is not in the type of an array.
+HEADER = re.compile(r'(?:\[(?:[^][]|\[[^][]*\])*\]|[^{;[])*([{;])')
 PARAMETER = re.compile(r'(?:^|,)\s*(?:mut\s+)?(\w+)\s*:')
 USE = re.compile(r'^\s*(?:pub |ghost )?use [^;]*;', re.MULTILINE)
 
@@ -60,22 +64,36 @@ def clauses_in(text):
     return found
 
 
-def header_end(text, at):
-    """Where the header of a function ends: at the brace of its body, which is the first that opens no clause."""
-    while True:
-        brace = text.index('{', at)
-        if not CLAUSE.search(text, at, brace + 1):
-            return brace
-        at = closing(text, brace)
+def parameters_start(text, at):
+    """The place of the bracket of a function's parameters, which is the first that is not between `<` and `>`."""
+    depth = 0
+    for place in range(at, len(text)):
+        if text[place] == '(' and depth == 0:
+            return place
+        depth += (text[place] == '<') - (text[place] == '>' and text[place - 1] != '-')
+    raise ValueError(f'a function has no parameters: {text[at : at + 40]!r}')
+
+
+def function_end(text, at):
+    """Where a function ends: after its body, whose brace is the first that opens no clause; without a body, after the `;` of its header."""
+    while match := HEADER.match(text, at):
+        if match[1] == ';':
+            return match.end()
+        is_clause = CLAUSE.search(text, at, match.end())
+        at = closing(text, match.end() - 1)
+        if not is_clause:
+            return at
+    raise ValueError(f'a function has no end: {text[at : at + 40]!r}')
 
 
 def functions_of(text, exported):
     """The functions of a file. `exported` says whether its module can be named from outside."""
     found, at = [], 0
     while match := FUNCTION.search(text, at):
-        inside = closing(text, match.end() - 1)
-        at = closing(text, header_end(text, inside))
-        parameters = set(PARAMETER.findall(text[match.end() : inside - 1]))
+        start = parameters_start(text, match.end())
+        inside = closing(text, start)
+        at = function_end(text, inside)
+        parameters = {'self', 'result', *PARAMETER.findall(text[start + 1 : inside - 1])}
         public = (match['pub'] or '').strip() == 'pub'
         found.append(Function(match['name'], public and exported, parameters, clauses_in(text[inside:at])))
     return found
@@ -103,7 +121,9 @@ def sources_of(folder, exported):
     for path in sorted(folder.rglob('*.rt')):
         text = without_comments(path.read_text('utf8'))
         try:
+            if ghost := GHOST.search(text):
+                raise ValueError(f'line {text.count(chr(10), 0, ghost.start()) + 1}: tests/believed does not read `{ghost.group()}`')
             found.append(Source(path, imports_of(text), functions_of(text, path in public)))
         except ValueError as error:
-            raise SystemExit(f'believed: {path}: {error}') from error
+            raise SystemExit(f'believed: {folder.parent.name}: src/{path.relative_to(folder)}: {error}') from error
     return found

@@ -129,7 +129,8 @@ def lines_by_kind(tree, crate):
             counts[kind_of(tree, declaration)] += declaration.count
     folder = tree.root / 'crates' / crate
     counts['code'] = sum(rattle.code_lines(path.read_text('utf8')) for path in (folder / 'src').rglob('*.rt'))
-    counts['proofs'] = sum(len(antt.lines_of(path.read_text('utf8'))) for path in (folder / 'proofs').rglob('*.antt'))
+    proofs = set((folder / 'proofs').rglob('*.antt')) - {file.path for file in tree.files.values()}
+    counts['proofs'] = sum(len(antt.lines_of(path.read_text('utf8'))) for path in proofs)
     return counts
 
 

@@ -6,15 +6,15 @@ Nobody proves that a definition says what was meant. To be believed is what the 
 
     specs/*.antt         what must be believed: definitions, and each of them is reached so
     specs/Inner/         the contracts of inner functions: definitions that they reach, and that need not be believed
-    specs/Laws/          laws, and definitions that only laws and proofs use
-    specs/Examples       computed examples
+    proofs/Laws/         laws, and definitions that only laws and proofs use
+    proofs/Examples      computed examples
 
 A definition is a record, a data type, or what is marked `unfoldable` or `abbrev`; every other declaration is a law. `Lib.antt` lists
 modules and declares nothing. The script names each declaration that is elsewhere than it should be, and each place in which
 docs/READING.md or README.md have another list or another count. See selftest.sh for a small tree and its faults.
 
 Lines: a line counts if it is not empty, no comment, and no import (`use`, `ghost use`, `mod`). A line `infix`, and the head of a
-`module _ … where`, count with the declaration below them. `code` is src/ with its contracts, `proofs` is proofs/.
+`module _ … where`, count with the declaration below them. `code` is src/ with its contracts, `proofs` is the rest of proofs/.
 """
 import argparse
 import sys
@@ -37,27 +37,27 @@ def place_fault(tree, declaration):
     if place == 'list':
         return 'Lib.antt lists modules and declares nothing'
     if place == 'nowhere':
-        return 'a file is in specs/, specs/Inner, specs/Laws or specs/Examples'
+        return 'a file is in specs/, specs/Inner, proofs/Laws or proofs/Examples'
     if declaration.is_law:
         return {'believed': 'a law among what must be believed', 'inner': 'a law among the contracts of inner functions'}.get(place)
     if declaration in tree.believed:
         return None if place == 'believed' else f'must be believed, and is outside specs/*.antt; {tree.believed[declaration]} names it'
     if place == 'believed':
-        return 'need not be believed: it belongs into specs/Inner or specs/Laws'
+        return 'need not be believed: it belongs into specs/Inner or proofs/Laws'
     if declaration in tree.inner:
         return None if place == 'inner' else f'belongs into specs/Inner; {tree.inner[declaration]} names it'
-    return 'no contract reaches it: it belongs into specs/Laws' if place == 'inner' else None
+    return 'no contract reaches it: it belongs into proofs/Laws' if place == 'inner' else None
 
 
 def faults_of(tree, rows):
     """All faults. The lists are compared when everything is in its place: before, they would only say the same again."""
     faults = list(tree.faults)
-    for file in tree.files.values():
-        for declaration in file.declarations:
-            if why := place_fault(tree, declaration):
-                faults.append(f'{shown(declaration)}: {why}')
+    unread = [declaration for reached in (tree.believed, tree.inner) for declaration in reached if declaration.file.place == 'unread']
+    for declaration in [declaration for file in tree.files.values() for declaration in file.declarations] + unread:
+        if why := place_fault(tree, declaration):
+            faults.append(f'{shown(declaration)}: {why}')
     for declaration in tree.believed:
-        for other in tree.references[declaration]:
+        for other in tree.references.get(declaration, ()):
             if other.is_law:
                 faults.append(f'{shown(declaration)}: made of {other.name}, which is marked neither unfoldable nor abbrev')
     return faults or list(report.list_faults(tree, rows))

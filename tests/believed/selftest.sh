@@ -17,20 +17,37 @@ tree() {
     rm -rf "$work/tree"
     put crates.txt <<'FILE'
 vrf_bitio:
-vrf_store: vrf_bitio
-vrf_schema: vrf_bitio vrf_store # the checked calls
+vrf_store staticlib: vrf_bitio
+vrf_schema: vrf_bitio vrf_store io # the checked calls
 FILE
     put crates/vrf_bitio/specs/Lib.antt <<'FILE'
 -- Readings.
 pub mod Reading
 pub mod Number
+FILE
+    put crates/vrf_bitio/proofs/Lib.antt <<'FILE'
+pub mod Words
 pub mod Laws
 pub mod Examples
+FILE
+    # a lemma for the proofs of functions, in a form that is not read
+    put crates/vrf_bitio/proofs/Words.antt <<'FILE'
+open Pointed it using (point)
+
+abbrev pub word : ℕ
+word = 4
+FILE
+    put crates/vrf_bitio/proofs/read_two/Answers.antt <<'FILE'
+use Rattle.vrf_bitio.proofs.Words
+use Rattle.vrf_bitio.proofs.read_two.Goals as goal
+
+pub returns : goal.returns
+returns c = Words.point
 FILE
     put crates/vrf_bitio/specs/Reading.antt <<'FILE'
 -- A reading answers a value with what is left, or nothing. It
 -- reads from the front.
-use mathlib.Core.List.{List}
+use Rattle.std.specs.Prelude.{List, ℕ}
 
 pub data Read (A : Type 0) : Type 0 where
   -- a value
@@ -38,26 +55,26 @@ pub data Read (A : Type 0) : Type 0 where
   short : Read A
 
 -- one reading after another
-infixl 20 _>>=_
-unfoldable pub _>>=_ : {A B : Type 0} → (List ℕ → Read A) → (A → List ℕ → Read B) → List ℕ → Read B
-_>>=_ r f l = elim (r l) [ ok a m ↦ f a m | short ↦ short ]
+infixl 20 ◌>>=◌
+unfoldable pub ◌>>=◌ : {A B : Type 0} → (List ℕ → Read A) → (A → List ℕ → Read B) → List ℕ → Read B
+◌>>=◌ r f l = elim (r l) [ ok a m ↦ f a m | short ↦ short ]
 FILE
     put crates/vrf_bitio/specs/Number.antt <<'FILE'
 -- Numbers: bytes and pairs of them
-use mathlib.Core.List.{List, [], _∷_}
-use Rattle·vrf_bitio·specs.specs.Reading.{
+use Rattle.std.specs.Prelude.{List, [], ◌∷◌, ℕ, ◌+◌, ◌*◌}
+use Rattle.vrf_bitio.specs.Reading.{
   Read,
   ok,
-  short as none-left,
-  _>>=_,
+  short as none_left,
+  ◌>>=◌,
 }
 
 unfoldable pub byte : List ℕ → Read ℕ
-byte [] = none-left
+byte [] = none_left
 byte (b ∷ l) = ok b l
 
-infixl 60 _⊕_
-unfoldable pub _⊕_ : ℕ → ℕ → ℕ
+infixl 60 ◌⊕◌
+unfoldable pub ◌⊕◌ : ℕ → ℕ → ℕ
 low ⊕ high =
     let base = 256 in
     low + base * high
@@ -68,13 +85,13 @@ two = do
   high ← byte
   λ rest. ok (low ⊕ high) rest
 FILE
-    put crates/vrf_bitio/specs/Laws.antt <<'FILE'
+    put crates/vrf_bitio/proofs/Laws.antt <<'FILE'
 pub mod NumberLaws
 FILE
-    put crates/vrf_bitio/specs/Laws/NumberLaws.antt <<'FILE'
+    put crates/vrf_bitio/proofs/Laws/NumberLaws.antt <<'FILE'
 -- What is proved of numbers.
-use Rattle·vrf_bitio·specs.specs.Reading.{Read, ok}
-use Rattle·vrf_bitio·specs.specs.Number.{byte}
+use Rattle.vrf_bitio.specs.Reading.{Read, ok}
+use Rattle.vrf_bitio.specs.Number.{byte}
 
 -- only laws use it
 unfoldable pub value : Read ℕ → ℕ
@@ -85,9 +102,9 @@ module _ (b : ℕ) (l : List ℕ) where
   unfolding value byte
   byte-value = refl
 FILE
-    put crates/vrf_bitio/specs/Examples.antt <<'FILE'
+    put crates/vrf_bitio/proofs/Examples.antt <<'FILE'
 -- Computed.
-use Rattle·vrf_bitio·specs.specs.Number.{byte}
+use Rattle.vrf_bitio.specs.Number.{byte}
 
 unfoldable pub example : List ℕ
 example = 7 ∷ []
@@ -97,14 +114,14 @@ seven = refl
 FILE
     put crates/vrf_bitio/src/lib.rt <<'FILE'
 // A reader.
-ghost use Rattle·vrf_bitio·specs.specs.Number.{two};
+ghost use Rattle.vrf_bitio.specs.Number.{two};
 
 fn inner(s: &[u8]) -> u32 {
     0
 }
 
 pub fn read_two(s: &[u8], byte: u32) -> u32
-    ensures { λ r. ⌜ two (now (s .entry)) ≡ r ⌝ }
+    ensures { two s.now ≡ result }
 {
     inner(s)
 }
@@ -127,17 +144,17 @@ pub mod Rows
 FILE
     put crates/vrf_store/specs/Inner/Rows.antt <<'FILE'
 -- What the inner functions promise.
-use Rattle·vrf_store·specs.specs.Layout
+use Rattle.vrf_store.specs.Layout
 
 pub record Fits (m : List ℕ) (at : ℕ) : Type 0 where
   pub low : Layout.header ≤ at
   pub high : at ≤ Layout.need (length m)
 FILE
     put crates/vrf_store/src/lib.rt <<'FILE'
-ghost use Rattle·vrf_store·specs.specs.Inner.Rows.{Fits};
+ghost use Rattle.vrf_store.specs.Inner.Rows.{Fits};
 
 pub fn row(m: &[u8], at: usize) -> u32
-    requires { ⌜ Fits (now m) at ⌝ }
+    requires { Fits m.now at }
 {
     0
 }
@@ -146,12 +163,14 @@ FILE
 -- The checked calls.
 pub mod Called
 pub mod Inner
+FILE
+    put crates/vrf_schema/proofs/Lib.antt <<'FILE'
 pub mod Laws
 FILE
     put crates/vrf_schema/specs/Called.antt <<'FILE'
 -- What every call promises. And this is another sentence.
-use Rattle·vrf_store.specs.Layout
-use Rattle·vrf_bitio.specs.Reading.{Read}
+use Rattle.vrf_store.specs.Layout
+use Rattle.vrf_bitio.specs.Reading.{Read}
 
 module _ (m : List ℕ) where
   abbrev pub Enough : Type 0
@@ -172,12 +191,12 @@ FILE
 abbrev pub CheckedText : List ℕ → Type 0
 CheckedText m = m ≡ []
 FILE
-    put crates/vrf_schema/specs/Laws.antt <<'FILE'
+    put crates/vrf_schema/proofs/Laws.antt <<'FILE'
 pub mod Demand1
 FILE
-    put crates/vrf_schema/specs/Laws/Demand1.antt <<'FILE'
+    put crates/vrf_schema/proofs/Laws/Demand1.antt <<'FILE'
 -- Demand 1.
-use Rattle·vrf_schema·specs.specs.Called.{Refused}
+use Rattle.vrf_schema.specs.Called.{Refused}
 
 abbrev pub Empty : List ℕ → Type 0
 Empty m = m ≡ []
@@ -194,20 +213,21 @@ pub mod calls;
 mod checked;
 FILE
     put crates/vrf_schema/src/calls.rt <<'FILE'
-ghost use Rattle·vrf_schema·specs.specs.Called.{Called};
+ghost use Rattle.vrf_schema.specs.Called.{Called};
 
-pub extern "C" fn call(m: &mut [u8]) -> u32
-    ensures { λ r. ⌜ Called (now (m .exit)) r ⌝ }
+pub extern "C" fn call<F: FnOnce(u32) -> u32>(m: &mut [u8], step: F) -> [u8; 4]
+    ensures called { Called m.new result }
+    ensures long { length m.new ≡ length m.old }
 {
-    0
+    [0; 4]
 }
 FILE
     put crates/vrf_schema/src/checked.rt <<'FILE'
-ghost use Rattle·vrf_schema·specs.specs.Inner.CheckedText.{CheckedText};
+ghost use Rattle.vrf_schema.specs.Inner.CheckedText.{CheckedText};
 
 // Public, but its module is not.
 pub fn check_book(m: &[u8]) -> bool
-    ensures { λ r. ⌜ CheckedText (now (m .entry)) ⌝ }
+    ensures { CheckedText m.now }
 {
     true
 }
@@ -271,56 +291,82 @@ diff <(sed -nE "s/^exported='(.*)'$/\1/p" "$root/tests/exports/run.sh") <(sed -n
 
 bitio=crates/vrf_bitio schema=crates/vrf_schema store=crates/vrf_store
 # An edit of code: one more import.
-using() { printf '%s' "s/^ghost use .*/&\nghost use Rattle·$1;/;"; } # PATH
+using() { printf '%s' "s/^ghost use .*/&\nghost use Rattle.$1;/;"; } # PATH
 
 # ---- what must be believed is at the top, and nothing else
 wrong 'a contract that names a definition of the laws' $bitio/src/lib.rt \
-    "$(using 'vrf_bitio·specs.specs.Laws.NumberLaws.{value}') s/two \(/value (two /" <<'FAULTS'
-believed: vrf_bitio: specs/Laws/NumberLaws.antt: value: must be believed, and is outside specs/*.antt; read_two (vrf_bitio: src/lib.rt) names it
+    "$(using 'vrf_bitio.proofs.Laws.NumberLaws.{value}') s/two s\.now/value (two s.now)/" <<'FAULTS'
+believed: vrf_bitio: proofs/Laws/NumberLaws.antt: value: must be believed, and is outside specs/*.antt; read_two (vrf_bitio: src/lib.rt) names it
 FAULTS
 wrong 'a definition that is made of one of the laws' $schema/specs/Called.antt \
-    's/^use .*Layout$/&\nuse Rattle·vrf_schema·specs.specs.Laws.Demand1 as Other/; s/Enough m →/Other.Empty m →/' <<'FAULTS'
-believed: vrf_schema: specs/Laws/Demand1.antt: Empty: must be believed, and is outside specs/*.antt; Refused (vrf_schema: specs/Called.antt) names it
+    's/^use .*Layout$/&\nuse Rattle.vrf_schema.proofs.Laws.Demand1 as Other/; s/Enough m →/Other.Empty m →/' <<'FAULTS'
+believed: vrf_schema: proofs/Laws/Demand1.antt: Empty: must be believed, and is outside specs/*.antt; Refused (vrf_schema: specs/Called.antt) names it
 FAULTS
-wrong 'a theorem whose statement names a definition of the laws' $schema/specs/Laws/Demand1.antt \
+wrong 'a theorem whose statement names a definition of the laws' $schema/proofs/Laws/Demand1.antt \
     's/^(pub refused-when-empty :)/\1 Empty [] →/' <<'FAULTS'
-believed: vrf_schema: specs/Laws/Demand1.antt: Empty: must be believed, and is outside specs/*.antt; refused-when-empty (vrf_schema: specs/Laws/Demand1.antt) names it
+believed: vrf_schema: proofs/Laws/Demand1.antt: Empty: must be believed, and is outside specs/*.antt; refused-when-empty (vrf_schema: proofs/Laws/Demand1.antt) names it
 FAULTS
 wrong 'a module that is made public' $schema/src/lib.rt 's/^mod checked/pub mod checked/' <<'FAULTS'
 believed: vrf_schema: specs/Inner/CheckedText.antt: CheckedText: must be believed, and is outside specs/*.antt; check_book (vrf_schema: src/checked.rt) names it
 FAULTS
 wrong 'a method that is public' $bitio/src/lib.rt \
-    "$(using 'vrf_bitio·specs.specs.Examples.{example}')"' $a\impl It {\n pub fn more(self) -> u32\n ensures { λ r. ⌜ example ≡ r ⌝ }\n { 0 }\n}' <<'FAULTS'
-believed: vrf_bitio: specs/Examples.antt: example: must be believed, and is outside specs/*.antt; more (vrf_bitio: src/lib.rt) names it
+    "$(using 'vrf_bitio.proofs.Examples.{example}')"' $a\impl It {\n pub fn more(self) -> u32\n ensures { example ≡ result }\n { 0 }\n}' <<'FAULTS'
+believed: vrf_bitio: proofs/Examples.antt: example: must be believed, and is outside specs/*.antt; more (vrf_bitio: src/lib.rt) names it
 FAULTS
 wrong 'a theorem that is not on the list' tests/believed/theorems.txt '/refused-when-empty/d' <<'FAULTS'
-believed: vrf_schema: specs/Called.antt: Refused: need not be believed: it belongs into specs/Inner or specs/Laws
+believed: vrf_schema: specs/Called.antt: Refused: need not be believed: it belongs into specs/Inner or proofs/Laws
 FAULTS
 wrong 'definitions that only inner contracts name' $schema/specs/Called.antt 's/Layout\.need 1/1/' <<'FAULTS'
-believed: vrf_store: specs/Layout.antt: header: need not be believed: it belongs into specs/Inner or specs/Laws
-believed: vrf_store: specs/Layout.antt: need: need not be believed: it belongs into specs/Inner or specs/Laws
+believed: vrf_store: specs/Layout.antt: header: need not be believed: it belongs into specs/Inner or proofs/Laws
+believed: vrf_store: specs/Layout.antt: need: need not be believed: it belongs into specs/Inner or proofs/Laws
 FAULTS
 wrong 'a definition that nothing names' $store/specs/Layout.antt '$a\\nabbrev pub spare : ℕ\nspare = 3' <<'FAULTS'
-believed: vrf_store: specs/Layout.antt: spare: need not be believed: it belongs into specs/Inner or specs/Laws
+believed: vrf_store: specs/Layout.antt: spare: need not be believed: it belongs into specs/Inner or proofs/Laws
 FAULTS
 for bound in low base rest; do
     wrong "a definition that is spelled like the bound name $bound" $bitio/specs/Number.antt \
         '$a\\nunfoldable pub '$bound' : ℕ\n'$bound' = 3' <<FAULTS
-believed: vrf_bitio: specs/Number.antt: $bound: need not be believed: it belongs into specs/Inner or specs/Laws
+believed: vrf_bitio: specs/Number.antt: $bound: need not be believed: it belongs into specs/Inner or proofs/Laws
 FAULTS
 done
 wrong 'a definition that is spelled like the parameter of a function' $bitio/src/lib.rt \
-    's/\{two\}/{byte, two}/; s/byte: u32/two: u32/; s/two \(/byte (two /' <<'FAULTS'
-believed: vrf_bitio: specs/Number.antt: _⊕_: need not be believed: it belongs into specs/Inner or specs/Laws
-believed: vrf_bitio: specs/Number.antt: two: need not be believed: it belongs into specs/Inner or specs/Laws
-believed: vrf_bitio: specs/Reading.antt: _>>=_: need not be believed: it belongs into specs/Inner or specs/Laws
+    's/\{two\}/{byte, two}/; s/byte: u32/two: u32/; s/two s\.now/byte (two s.now)/' <<'FAULTS'
+believed: vrf_bitio: specs/Number.antt: ◌⊕◌: need not be believed: it belongs into specs/Inner or proofs/Laws
+believed: vrf_bitio: specs/Number.antt: two: need not be believed: it belongs into specs/Inner or proofs/Laws
+believed: vrf_bitio: specs/Reading.antt: ◌>>=◌: need not be believed: it belongs into specs/Inner or proofs/Laws
 FAULTS
 wrong 'an operator that is not used' $bitio/specs/Number.antt 's/\(low ⊕ high\)/low/' <<'FAULTS'
-believed: vrf_bitio: specs/Number.antt: _⊕_: need not be believed: it belongs into specs/Inner or specs/Laws
+believed: vrf_bitio: specs/Number.antt: ◌⊕◌: need not be believed: it belongs into specs/Inner or proofs/Laws
 FAULTS
-wrong 'a definition without its mark' $bitio/specs/Number.antt 's/^unfoldable (pub _⊕_)/\1/' <<'FAULTS'
-believed: vrf_bitio: specs/Number.antt: _⊕_: a law among what must be believed
-believed: vrf_bitio: specs/Number.antt: two: made of _⊕_, which is marked neither unfoldable nor abbrev
+wrong 'a definition without its mark' $bitio/specs/Number.antt 's/^unfoldable (pub ◌⊕◌)/\1/' <<'FAULTS'
+believed: vrf_bitio: specs/Number.antt: ◌⊕◌: a law among what must be believed
+believed: vrf_bitio: specs/Number.antt: two: made of ◌⊕◌, which is marked neither unfoldable nor abbrev
+FAULTS
+
+wrong 'a contract that names a definition of the lemmas' $bitio/src/lib.rt \
+    "$(using 'vrf_bitio.proofs.Words.{word}') s/≡ result/≡ word/" <<'FAULTS'
+believed: vrf_bitio: proofs/Words.antt: word: must be believed, and is outside specs/*.antt; read_two (vrf_bitio: src/lib.rt) names it
+FAULTS
+wrong 'a definition that is made of one of the lemmas' $bitio/specs/Number.antt \
+    '1a\use Rattle.vrf_bitio.proofs.Words
+s/= 256 in/= Words.word in/' <<'FAULTS'
+believed: vrf_bitio: proofs/Words.antt: word: must be believed, and is outside specs/*.antt; ◌⊕◌ (vrf_bitio: specs/Number.antt) names it
+FAULTS
+wrong 'a second clause that names a definition of the laws' $schema/src/calls.rt \
+    "$(using 'vrf_schema.proofs.Laws.Demand1.{Empty}') s/(ensures long \{) /\1 Empty [] → /" <<'FAULTS'
+believed: vrf_schema: proofs/Laws/Demand1.antt: Empty: must be believed, and is outside specs/*.antt; call (vrf_schema: src/calls.rt) names it
+FAULTS
+wrong 'a clause with a star that names a definition of the laws' $schema/src/calls.rt \
+    "$(using 'vrf_schema.proofs.Laws.Demand1.{Empty}') s/ensures long \{ /ensures* { ⌜ Empty [] ⌝ ∗ /" <<'FAULTS'
+believed: vrf_schema: proofs/Laws/Demand1.antt: Empty: must be believed, and is outside specs/*.antt; call (vrf_schema: src/calls.rt) names it
+FAULTS
+wrong 'an import in a block of methods' $bitio/src/lib.rt \
+    '$a\impl It {\n    ghost use Rattle.vrf_bitio.proofs.Examples.{example};\n    pub fn more(self) -> u32\n    ensures { example ≡ result }\n    { 0 }\n}' <<'FAULTS'
+believed: vrf_bitio: proofs/Examples.antt: example: must be believed, and is outside specs/*.antt; more (vrf_bitio: src/lib.rt) names it
+FAULTS
+wrong 'a function below methods without a body' $bitio/src/lib.rt \
+    "$(using 'vrf_bitio.proofs.Examples.{example}')"' $a\pub trait It {\n    fn more(self) -> [u8; 4];\n    fn one(self) -> u32\n        ensures { two [] ≡ result };\n}\n\npub fn below() -> u32\n    ensures { example ≡ result }\n{\n    0\n}' <<'FAULTS'
+believed: vrf_bitio: proofs/Examples.antt: example: must be believed, and is outside specs/*.antt; below (vrf_bitio: src/lib.rt) names it
 FAULTS
 
 # ---- laws
@@ -336,39 +382,51 @@ FAULTS
 
 # ---- contracts of inner functions
 wrong 'an inner contract that names a definition of the laws' $schema/src/checked.rt \
-    "$(using 'vrf_schema·specs.specs.Laws.Demand1.{Empty}') s/CheckedText \(/Empty [] × CheckedText (/" <<'FAULTS'
-believed: vrf_schema: specs/Laws/Demand1.antt: Empty: belongs into specs/Inner; check_book (vrf_schema: src/checked.rt) names it
+    "$(using 'vrf_schema.proofs.Laws.Demand1.{Empty}') s/CheckedText m/Empty [] × CheckedText m/" <<'FAULTS'
+believed: vrf_schema: proofs/Laws/Demand1.antt: Empty: belongs into specs/Inner; check_book (vrf_schema: src/checked.rt) names it
 FAULTS
 wrong 'an inner definition that is made of one of the laws' $schema/specs/Inner/CheckedText.antt \
-    's/^abbrev/use Rattle·vrf_schema·specs.specs.Laws.Demand1.{Empty}\n\n&/; s/= m ≡ \[\]/= Empty m/' <<'FAULTS'
-believed: vrf_schema: specs/Laws/Demand1.antt: Empty: belongs into specs/Inner; CheckedText (vrf_schema: specs/Inner/CheckedText.antt) names it
+    's/^abbrev/use Rattle.vrf_schema.proofs.Laws.Demand1.{Empty}\n\n&/; s/= m ≡ \[\]/= Empty m/' <<'FAULTS'
+believed: vrf_schema: proofs/Laws/Demand1.antt: Empty: belongs into specs/Inner; CheckedText (vrf_schema: specs/Inner/CheckedText.antt) names it
 FAULTS
 wrong 'an inner definition that no contract reaches' $store/specs/Inner/Rows.antt '$a\\nabbrev pub spare : ℕ\nspare = 3' <<'FAULTS'
-believed: vrf_store: specs/Inner/Rows.antt: spare: no contract reaches it: it belongs into specs/Laws
+believed: vrf_store: specs/Inner/Rows.antt: spare: no contract reaches it: it belongs into proofs/Laws
 FAULTS
 wrong 'an inner contract that names an example' $store/src/lib.rt \
-    "$(using 'vrf_bitio.specs.Examples.{example}') s/\(now m\)/example/" <<'FAULTS'
-believed: vrf_bitio: specs/Examples.antt: example: belongs into specs/Inner; row (vrf_store: src/lib.rt) names it
+    "$(using 'vrf_bitio.proofs.Examples.{example}') s/m\.now/example/" <<'FAULTS'
+believed: vrf_bitio: proofs/Examples.antt: example: belongs into specs/Inner; row (vrf_store: src/lib.rt) names it
+FAULTS
+wrong 'an inner contract that names a definition of the lemmas' $store/src/lib.rt \
+    "$(using 'vrf_bitio.proofs.Words as Lemmas') s/m\.now/Lemmas.word/" <<'FAULTS'
+believed: vrf_bitio: proofs/Words.antt: word: belongs into specs/Inner; row (vrf_store: src/lib.rt) names it
 FAULTS
 wrong 'an invariant that names a definition of the laws' $bitio/src/lib.rt \
-    "$(using 'vrf_bitio·specs.specs.Laws.NumberLaws.{value}') s/inner\(s\)/while true invariant { ⌜ value r ≡ 0 ⌝ } { }/" <<'FAULTS'
-believed: vrf_bitio: specs/Laws/NumberLaws.antt: value: belongs into specs/Inner; read_two (vrf_bitio: src/lib.rt) names it
+    "$(using 'vrf_bitio.proofs.Laws.NumberLaws.{value}') s/inner\(s\)/while true invariant { value r ≡ 0 } { }/" <<'FAULTS'
+believed: vrf_bitio: proofs/Laws/NumberLaws.antt: value: belongs into specs/Inner; read_two (vrf_bitio: src/lib.rt) names it
 FAULTS
 
 # ---- what cannot be read
 wrong 'an import of what is not there' $schema/specs/Called.antt 's/\{Read\}/{Read, Wrote}/' <<'FAULTS'
-believed: vrf_schema: specs/Called.antt: there is no Wrote in Rattle·vrf_bitio.specs.Reading
+believed: vrf_schema: specs/Called.antt: there is no Wrote in Rattle.vrf_bitio.specs.Reading
+FAULTS
+wrong 'an import of a crate that is not there' $schema/specs/Called.antt 's/vrf_store\.specs/vrf_stored.specs/; s/Layout.need 1/1/' <<'FAULTS'
+believed: vrf_schema: specs/Called.antt: there is no Rattle.vrf_stored.specs.Layout
+believed: vrf_store: specs/Layout.antt: header: need not be believed: it belongs into specs/Inner or proofs/Laws
+believed: vrf_store: specs/Layout.antt: need: need not be believed: it belongs into specs/Inner or proofs/Laws
 FAULTS
 wrong 'a contract over what is not there' $schema/src/calls.rt 's/specs\.Called\.\{/specs.Calls.{/' <<'FAULTS'
-believed: vrf_schema: src/calls.rt: there is no Called in Rattle·vrf_schema·specs.specs.Calls
-believed: vrf_schema: specs/Called.antt: Called: need not be believed: it belongs into specs/Inner or specs/Laws
+believed: vrf_schema: src/calls.rt: there is no Called in Rattle.vrf_schema.specs.Calls
+believed: vrf_schema: specs/Called.antt: Called: need not be believed: it belongs into specs/Inner or proofs/Laws
 FAULTS
 wrong 'a theorem that has moved' tests/believed/theorems.txt 's/Laws\.Demand1/Laws.Demand/' <<'FAULTS'
 believed: tests/believed/theorems.txt:2: there is no refused-when-empty in Laws.Demand of vrf_schema; it is in Laws.Demand1
-believed: vrf_schema: specs/Called.antt: Refused: need not be believed: it belongs into specs/Inner or specs/Laws
+believed: vrf_schema: specs/Called.antt: Refused: need not be believed: it belongs into specs/Inner or proofs/Laws
 FAULTS
 wrong 'a form that is not known' $store/specs/Layout.antt '$a\\nopen Pointed it using (point)' <<'FAULTS'
 believed: vrf_store: specs/Layout.antt: line 8: tests/believed does not read `open`: open Pointed it using (point)
+FAULTS
+wrong 'a ghost member' $store/src/lib.rt '$a\pub struct Row {\n    at: u32,\n    ghost invariant { at ≤ 4 },\n}' <<'FAULTS'
+believed: vrf_store: src/lib.rt: line 10: tests/believed does not read `ghost invariant`
 FAULTS
 wrong 'a declaration in Lib.antt' $store/specs/Lib.antt '$a\\nabbrev pub spare : ℕ\nspare = 3' <<'FAULTS'
 believed: vrf_store: specs/Lib.antt: spare: Lib.antt lists modules and declares nothing
@@ -379,7 +437,14 @@ abbrev pub spare : ℕ
 spare = 3
 FILE
 named 'a file in a folder of its own' <<'FAULTS'
-believed: vrf_store: specs/More/Layout.antt: spare: a file is in specs/, specs/Inner, specs/Laws or specs/Examples
+believed: vrf_store: specs/More/Layout.antt: spare: a file is in specs/, specs/Inner, proofs/Laws or proofs/Examples
+FAULTS
+tree
+mkdir "$work/tree/$bitio/specs/Laws"
+mv "$work/tree/$bitio/proofs/Laws/NumberLaws.antt" "$work/tree/$bitio/specs/Laws"
+named 'laws in specs/' <<'FAULTS'
+believed: vrf_bitio: specs/Laws/NumberLaws.antt: value: a file is in specs/, specs/Inner, proofs/Laws or proofs/Examples
+believed: vrf_bitio: specs/Laws/NumberLaws.antt: byte-value: a file is in specs/, specs/Inner, proofs/Laws or proofs/Examples
 FAULTS
 
 # ---- the lists

@@ -12,23 +12,23 @@ EXPORTED = 'vrf_bitio vrf_bitreader vrf_text vrf_path vrf_names vrf_schema vrf_t
 # Modules whose public functions count as inner although `pub mod` leads to them, as (crate, file). There is none: the functions of
 # vrf_schema's checked.rt are exported as long as lib.rt says `pub mod checked`, and inner by themselves where it says `mod checked`.
 INNER_ALTHOUGH_PUBLIC = ()
-# A path of modules begins with the library: the definitions of a crate as others see them, and as its own files do.
-LIBRARY = re.compile(r'Rattle·(\w+?)(?:·specs)?$')
-# Where a file is, by the first folder or file below `specs/`.
-PLACES = {'Lib': 'list', 'Inner': 'inner', 'Laws': 'laws', 'Examples': 'examples'}
+# Where a file is, by its folder in the crate and the first folder or file below that. What else is in proofs/ is not read: the proofs of
+# functions, and lemmas for these.
+PLACES = {('specs', 'Lib'): 'list', ('specs', 'Inner'): 'inner', ('proofs', 'Laws'): 'laws', ('proofs', 'Examples'): 'examples'}
 THEOREMS = Path('tests/believed/theorems.txt')
 
 
 class File:
-    """A file of `specs/`."""
+    """A file of `specs/`, or of laws or examples in `proofs/`. Its key is its crate, its folder there and its modules below that."""
 
     def __init__(self, tree, crate, path):
         self.tree, self.crate, self.path = tree, crate, path
         text = path.read_text('utf8')
-        inside = path.relative_to(tree.root / 'crates' / crate / 'specs')
-        self.shown = f'specs/{inside}'
-        self.module = inside.with_suffix('').parts
-        self.place = PLACES.get(self.module[0], 'believed' if len(self.module) == 1 else 'nowhere')
+        inside = path.relative_to(tree.root / 'crates' / crate)
+        self.shown = str(inside)
+        self.folder, *self.module = inside.with_suffix('').parts
+        self.key = crate, self.folder, *self.module
+        self.place = PLACES.get((self.folder, self.module[0]), 'believed' if len(self.module) == 1 else 'nowhere')
         self.says = antt.first_sentence(text)
         self.imports = antt.imports_of(antt.without_comments(text))
         try:
@@ -60,20 +60,34 @@ class File:
         return scope
 
 
+class Unread:
+    """A file of `proofs/` that is not read. What is named in it would have to be believed, and is not where a reader looks."""
+
+    place = 'unread'
+
+    def __init__(self, crate, module):
+        self.crate, self.shown, self.found = crate, f'proofs/{"/".join(module)}.antt', {}
+
+    def find(self, name):
+        if name not in self.found:
+            self.found[name] = antt.Declaration(name, 'function', 0, [], file=self)
+        return self.found[name], False
+
+
 class Tree:
-    """The files of `specs/` and `src/` of every crate, and who refers to what.
+    """The files of `specs/` and `src/`, and of the laws and examples, of every crate, and who refers to what.
 
     `believed` and `inner` have for each definition what named it: a contract, a theorem or another definition.
     """
 
     def __init__(self, root):
         self.root, self.faults = Path(root), []
-        self.crates = self.read_crates()
-        self.files = {}
+        self.crates, self.libraries = self.read_crates()
+        self.files, self.unread = {}, {}
         for crate in self.crates:
-            for path in sorted((self.root / 'crates' / crate / 'specs').rglob('*.antt')):
+            for path in self.paths_of(self.root / 'crates' / crate):
                 file = File(self, crate, path)
-                self.files[crate, file.module] = file
+                self.files[file.key] = file
         self.references = {}
         for file in self.files.values():
             for declaration in file.declarations:
@@ -89,24 +103,37 @@ class Tree:
         self.faults.append(text)
 
     def read_crates(self):
-        """The crates, bottom up."""
+        """The crates, bottom up, and the toolchain's libraries. Between a crate's name and the colon there can be words, such as `staticlib`."""
         text = re.sub(r'#.*', '', (self.root / 'crates.txt').read_text('utf8'))
-        return re.findall(r'^([\w-]+):', text, re.MULTILINE)
+        lines = re.findall(r'^([\w-]+)[^:\n]*:(.*)$', text, re.MULTILINE)
+        crates = [crate for crate, _ in lines]
+        return crates, {library for _, uses in lines for library in uses.split()} - set(crates) | {'std', 'core'}
+
+    def paths_of(self, crate):
+        """The files of a crate that are read, specs first."""
+        laws = [path for name in ('Laws', 'Examples') for path in [crate / f'proofs/{name}.antt', *(crate / f'proofs/{name}').rglob('*.antt')]]
+        return sorted((crate / 'specs').rglob('*.antt')) + sorted(path for path in laws if path.exists())
+
+    def is_own(self, path):
+        """Whether a path, as a list, leads to a module that is written in this repository: not to a library's, and not to a type that code
+        declares."""
+        return path[0] == 'Rattle' and path[2:3] in (['specs'], ['proofs']) and path[1] not in self.libraries and path[3:4] != ['declared']
 
     def find_module(self, path):
-        """The file of a path such as Rattle·vrf_path, specs, Keys."""
-        match = LIBRARY.match(path[0])
-        if match and path[1:2] == ['specs']:
-            return self.files.get((match[1], tuple(path[2:])))
-        return None
+        """The file of a path such as Rattle, vrf_path, specs, Keys."""
+        if not self.is_own(path) or len(path) < 4:
+            return None
+        if path[2] == 'proofs' and (path[2], path[3]) not in PLACES:
+            return self.unread.setdefault(tuple(path), Unread(path[1], path[3:]))
+        return self.files.get(tuple(path[1:]))
 
     def scope_of(self, imports, where):
         """What imports bring into scope. One that names what is not there is a fault: then this test would not see what it means."""
         scope = Scope(self.find_module)
         for line in imports:
             path = line.path.split('.')
-            if not LIBRARY.match(path[0]) or path[1:2] != ['specs'] or path[2:3] == ['declared']:
-                continue  # libraries, proofs, and the types that the code declares
+            if not self.is_own(path):
+                continue
             file = self.find_module(path)
             if line.names is None:
                 scope.modules[line.alias or path[-1]] = path
@@ -155,7 +182,7 @@ class Tree:
                 self.fault(f'{THEOREMS}:{number}: a line has a crate, a module and a name')
                 continue
             crate, module, name = words
-            file = self.files.get((crate, tuple(module.split('.'))))
+            file = self.files.get((crate, 'proofs', *module.split('.')))
             declaration = file.owners.get(name, (None,))[0] if file else None
             if not declaration:
                 self.fault(f'{THEOREMS}:{number}: there is no {name} in {module} of {crate}{self.elsewhere(crate, name)}')
@@ -167,7 +194,7 @@ class Tree:
         return found
 
     def elsewhere(self, crate, name):
-        modules = ['.'.join(file.module) for file in self.files.values() if file.crate == crate and name in file.owners]
+        modules = ['.'.join(file.module) for file in self.files.values() if file.key[:2] == (crate, 'proofs') and name in file.owners]
         return f'; it is in {", ".join(modules)}' if modules else ''
 
     def reach(self, roots, without=()):
@@ -179,5 +206,5 @@ class Tree:
             reached[declaration] = why
             file = declaration.file
             why = f'{declaration.name} ({file.crate}: {file.shown})'
-            waiting += [(other, why) for other in self.references[declaration]]
+            waiting += [(other, why) for other in self.references.get(declaration, ())]
         return reached

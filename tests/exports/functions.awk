@@ -1,8 +1,10 @@
 # Prints one line for each public function of the given Rattle sources, also for methods and `extern "C"` functions. The line has four
 # columns with tabs between them: the file, the function, `requires` or `-`, and the text of its `ensures` or `-`. A `pub use` is printed as
-# the function `pub use` with neither, since the functions that it exports are in other files. Comments and literals are skipped.
+# the function `pub use` with neither, since the functions that it exports are in other files, and a `pub trait` as the function `pub trait`,
+# since its methods have no `pub` of their own. Comments and literals are skipped.
 
-# The header of the function `name` ends at its body, or at the end of the file. A clause that is open there does not count.
+# The header of the function `name` ends at its body, at a `;` in place of a body, or at the end of the file. A clause that is open there does
+# not count.
 function header_ends() {
     if (clause == "ensures" || contract ~ /^ *$/) contract = "-"
     print file "\t" (type == "" ? name : type "::" name) "\t" required "\t" contract
@@ -23,28 +25,34 @@ function inside_clause(t) {
     else if (clause == "ensures") contract = contract t
 }
 
+# A clause begins with its kind, and before its brace can be a star and a name, as in `ensures low {`.
 function inside_header(t) {
-    if (t != "{") return
-    if (last != "requires" && last != "ensures") {
+    if (t == "requires" || t == "ensures") { kind = t; return }
+    if (kind != "" && t ~ /^(\*|[A-Za-z0-9_]+)$/) return
+    if (t ~ /^[[(]$/) nested++
+    else if (t ~ /^[])]$/) nested--
+    else if (t == ";" && nested == 0) header_ends()
+    else if (t == "{" && kind == "") {
         header_ends()
         depth++
-        return
+    } else if (t == "{") {
+        clause = kind
+        open = 1
+        if (clause == "requires") required = "requires"
     }
-    clause = last
-    open = 1
-    if (clause == "requires") required = "requires"
+    kind = ""
 }
 
 # `pub(crate)` is not public. `extern "C"`, `const` and `unsafe` can come between `pub` and `fn`.
 function outside(t) {
     if (public && last == "fn") {
         name = t
-        contract = ""
+        contract = kind = ""
         required = "-"
-        public = 0
+        public = nested = 0
         return
     }
-    if (public && t == "use") print file "\tpub use\t-\t-"
+    if (public && t ~ /^(use|trait)$/) print file "\tpub " t "\t-\t-"
     if (t == "pub") public = 1
     else if (t !~ /^(fn|extern|const|unsafe|")$/) public = 0
     block(t)

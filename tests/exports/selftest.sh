@@ -42,12 +42,18 @@ copy
 diff <(printed 0) /dev/null || { echo "exports: run.sh finds faults in the unchanged copy"; exit 1; }
 
 lookups=crates/vrf_schema/src/lookups.rt
-wrong 'a lookup with a requires' $lookups '/^pub fn get_group_by_index\(/a\    requires { ⌜ 1 ≤ index ⌝ }' <<'FAULTS'
+wrong 'a lookup with a requires' $lookups '/^pub fn get_group_by_index\(/a\    requires { 1 ≤ index }' <<'FAULTS'
+exports: vrf_schema: src/lookups.rt: get_group_by_index has a requires
+FAULTS
+wrong 'a lookup with a requires that has a name' $lookups '/^pub fn get_group_by_index\(/a\    requires low { 1 ≤ index }' <<'FAULTS'
+exports: vrf_schema: src/lookups.rt: get_group_by_index has a requires
+FAULTS
+wrong 'a lookup with a requires that has a star' $lookups '/^pub fn get_group_by_index\(/a\    requires* low { ⌜ 1 ≤ index ⌝ }' <<'FAULTS'
 exports: vrf_schema: src/lookups.rt: get_group_by_index has a requires
 FAULTS
 wrong 'a lookup without ensures' $lookups '/^pub fn get_field\(/,/^\{/{/^pub fn|^\{/!d}' <<'FAULTS'
 exports: vrf_schema: src/lookups.rt: get_field has no ensures
-exports: vrf_schema: 0 functions have the contract of get-field
+exports: vrf_schema: 0 functions have the contract of get_field
 FAULTS
 wrong 'a contract that is a comment' $lookups '/^pub fn get_counters\(/,/^\{/s|^( *)ensures|\1// ensures|' <<'FAULTS'
 exports: vrf_schema: src/lookups.rt: get_counters has no ensures
@@ -58,29 +64,41 @@ FAULTS
 wrong 'an exported C function without a contract' crates/vrf_names/src/lib.rt '$a\pub extern "C" fn more(x: u8) -> u8 {\n    x\n}' <<'FAULTS'
 exports: vrf_names: src/lib.rt: more has no ensures
 FAULTS
-wrong 'a method with a requires' crates/vrf_bitio/src/lib.rt '/^ +pub fn read_bit\(/a\        requires { ⌜ 1 ≤ length (now s) ⌝ }' <<'FAULTS'
+wrong 'a method with a requires' crates/vrf_bitio/src/lib.rt '/^ +pub fn read_bit\(/a\        requires { 1 ≤ length s.now }' <<'FAULTS'
 exports: vrf_bitio: src/lib.rt: Cursor::read_bit has a requires
+FAULTS
+wrong 'a function below one without a body' crates/vrf_names/src/lib.rt '$a\trait It {\n    fn one(self) -> [u8; 4]\n        ensures { length result ≡ 4 };\n}\n\npub fn more(x: [u8; 4]) -> u8 {\n    x[0]\n}' <<'FAULTS'
+exports: vrf_names: src/lib.rt: more has no ensures
+FAULTS
+wrong 'a trait, whose methods have no pub' crates/vrf_names/src/lib.rt '$a\pub trait It {\n    fn one(self) -> u8;\n}' <<'FAULTS'
+exports: vrf_names: src/lib.rt: a pub trait exports functions that are not checked here
 FAULTS
 wrong 'a function that is exported again' crates/vrf_text/src/lib.rt '$a\pub use vrf_bitio::bits_at;' <<'FAULTS'
 exports: vrf_text: src/lib.rt: a pub use exports functions that are not checked here
 FAULTS
-wrong 'a call with two functions' crates/vrf_schema/src/calls.rt '$a\pub fn clear_again(book: &mut [u8]) -> Acted\n    ensures { λ r. ⌜ CallContract clear-book (now (book .entry)) (now (book .exit)) (actedOf r) ⌝ }\n{\n    clear(book)\n}' <<'FAULTS'
-exports: vrf_schema: 2 functions have the contract of clear-book, src/calls.rt: clear, src/calls.rt: clear_again
+wrong 'a call with two functions' crates/vrf_schema/src/calls.rt '$a\pub fn clear_again(book: &mut [u8]) -> Acted\n    ensures { CallContract clear_book book.old book.new (acted_of result) }\n{\n    clear(book)\n}' <<'FAULTS'
+exports: vrf_schema: 2 functions have the contract of clear_book, src/calls.rt: clear, src/calls.rt: clear_again
 FAULTS
-wrong 'a call without a function' crates/vrf_model/specs/Calls.antt '/^pub data Call /a\  get-nothing : ℕ → Call' <<'FAULTS'
-exports: vrf_schema: 0 functions have the contract of get-nothing
+wrong 'a second clause with the contract of another call' crates/vrf_schema/src/calls.rt '/^pub fn clear\(/,/^\{/s/^    ensures (.*)$/    ensures clears \1\n    ensures reads { LookupContract (of_groups (get_field 0 0)) book.new (found_of result) }/' <<'FAULTS'
+exports: vrf_schema: 2 functions have the contract of get_field, src/calls.rt: clear, src/lookups.rt: get_field
 FAULTS
-wrong 'a lookup without a function' crates/vrf_model/specs/Calls.antt '/^pub data GuidLookup /a\  get-nothing : ℕ → GuidLookup' <<'FAULTS'
-exports: vrf_schema: 0 functions have the contract of get-nothing
+wrong 'a call without a function' crates/vrf_model/specs/Calls.antt '/^pub data Call /a\  get_nothing : ℕ → Call' <<'FAULTS'
+exports: vrf_schema: 0 functions have the contract of get_nothing
 FAULTS
-wrong 'a type of lookups without constructors' crates/vrf_model/specs/Calls.antt '/^pub data Lookup /a\  of-nothing : NoLookup → Lookup' <<'FAULTS'
+wrong 'a lookup without a function' crates/vrf_model/specs/Calls.antt '/^pub data GuidLookup /a\  get_nothing : ℕ → GuidLookup' <<'FAULTS'
+exports: vrf_schema: 0 functions have the contract of get_nothing
+FAULTS
+wrong 'a type of lookups without constructors' crates/vrf_model/specs/Calls.antt '/^pub data Lookup /a\  of_nothing : NoLookup → Lookup' <<'FAULTS'
 exports: no constructor of NoLookup was found in crates/vrf_model/specs/Calls.antt
 FAULTS
-wrong 'a function of no call' $lookups 's/LookupContract \(of-groups \(get-field /LookupContract (of-groups (get-fields /' <<'FAULTS'
-exports: vrf_schema: src/lookups.rt: get_field has the contract of 'get-fields', which is no call
-exports: vrf_schema: 0 functions have the contract of get-field
+wrong 'a function of no call' $lookups 's/LookupContract \(of_groups \(get_field /LookupContract (of_groups (get_fields /' <<'FAULTS'
+exports: vrf_schema: src/lookups.rt: get_field has the contract of 'get_fields', which is no call
+exports: vrf_schema: 0 functions have the contract of get_field
 FAULTS
 wrong 'a crate on neither list' crates.txt '$a\vrf_more: vrf_bitio' <<'FAULTS'
+exports: vrf_more: on neither list of tests/exports/run.sh
+FAULTS
+wrong 'a static library on neither list' crates.txt '$a\vrf_more staticlib: vrf_bitio' <<'FAULTS'
 exports: vrf_more: on neither list of tests/exports/run.sh
 FAULTS
 echo "exports: run.sh accepts the sources and names the fault in each of $tried wrong copies"
