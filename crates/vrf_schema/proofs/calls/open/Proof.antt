@@ -6,8 +6,8 @@ use Rattle.vrf_schema.proofs.calls.open.Tie as tie
 
 returns : tie.Need-returns
 returns c =
-    let call = after_open.«open» in
-    open-contract _ c.args.book.now call.new.0 call.result call.ensures
+    let call = c.«open» in
+    open-contract _ c.args.book.now call.new.m call.result call.ensures
 
 pub open_spec : {M : Type 1} → statement M
 open_spec = tie.close (tie.spec (λ c κs. search rules) (λ c. search rules) returns)
