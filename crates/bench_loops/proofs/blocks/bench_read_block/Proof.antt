@@ -5,7 +5,7 @@ use Rattle.bench_loops.proofs.blocks.bench_read_block.Tie as tie
 
 read-unchecked-requires : tie.Need-read_unchecked-requires
 read-unchecked-requires c κs =
-    check-good _ (rw c.in-Done.is at after_open.«open».ensures).accepted
+    check-good _ (rw c.in-Done.is at c.«open».ensures).accepted
 
 pub bench_read_block_spec : {M : Type 1} → statement M
 bench_read_block_spec =

@@ -5,7 +5,7 @@ use Rattle.bench_loops.proofs.book.bench_fill.Tie as tie
 
 set-all-requires : tie.Need-set_all-requires
 set-all-requires c κs =
-    check-good _ (rw c.in-Done.is at after_open.«open».ensures).accepted
+    check-good _ (rw c.in-Done.is at c.«open».ensures).accepted
 
 pub bench_fill_spec : {M : Type 1} → statement M
 bench_fill_spec =
