@@ -61,6 +61,23 @@ if [ "$mode" = bench ]; then
 else
     unset VRF_BENCHLIB
 fi
+
+# Builds the static library of CRATE, if no folder with it is given, and stages
+# it as libNAME.a, the name that the driver links.
+library() { # VARIABLE CRATE NAME
+    [ -z "${!1:-}" ] || return 0
+    (cd "$here/../../crates/$2" && rt lib) >&2 || exit 2
+    place "$here/../../crates/$2/out/lib$2.a" "lib/lib$3.a"
+    export "$1=$stage/lib"
+}
+case $mode in
+bench) library VRF_BENCHLIB bench_loops bench_loops ;;
+check | exhaustive | random | calls | reads | late)
+    if [ -z "${VRF_COMPARE_SELF:-}" ]; then
+        library VRF_STATICLIB vrf_replay_c vrf_replay
+    fi
+    ;;
+esac
 for name in VRF_STATICLIB VRF_BENCHLIB; do
     if [ -n "${!name:-}" ]; then
         export "$name=$(cd "${!name}" && pwd)"

@@ -9,39 +9,39 @@ mod totals;
 
 use books::{BOOKS, make};
 use corrupt::corrupt;
+use std::io;
 use totals::{Totals, nothing};
 
-fn say(what: &[u8], n: u64) {
-    io::write_all(1, what);
-    io::print_decimal(1, n);
+fn say(rt: &impl Print, what: &[u8], n: u64) -> io::Result<()> {
+    rt.write_all(what)?;
+    rt.print(n)
 }
 
 // Prints how the books are corrupted.
-fn title(how: u32) -> bool {
+fn title(rt: &impl Print, how: u32) -> io::Result<()> {
     match how {
-        0 => io::write_all(1, b"as they are"),
-        1 => io::write_all(1, b"one byte changed"),
-        2 => io::write_all(1, b"cut"),
-        3 => io::write_all(1, b"some bytes changed"),
-        4 => io::write_all(1, b"any bytes behind a header"),
-        5 => io::write_all(1, b"other heads and links"),
-        _ => io::write_all(1, b"any bytes"),
+        0 => rt.write_all(b"as they are"),
+        1 => rt.write_all(b"one byte changed"),
+        2 => rt.write_all(b"cut"),
+        3 => rt.write_all(b"some bytes changed"),
+        4 => rt.write_all(b"any bytes behind a header"),
+        5 => rt.write_all(b"other heads and links"),
+        _ => rt.write_all(b"any bytes"),
     }
 }
 
-fn report(how: u32, t: Totals) {
-    title(how);
+fn report(rt: &impl Print, how: u32, t: Totals) -> io::Result<()> {
+    title(rt, how)?;
     if t.broken {
-        say(b": broken at memory ", t.copies);
-        say(b" by call ", t.call as u64);
-        io::write_all(1, b"\n");
-        return;
+        say(rt, b": broken at memory ", t.copies)?;
+        say(rt, b" by call ", t.call as u64)?;
+        return rt.write_all(b"\n");
     }
-    say(b": ", t.copies);
-    say(b" memories, ", t.accepted);
-    say(b" accepted; ", t.calls);
-    say(b" calls, ", t.refused);
-    io::write_all(1, b" refused with 2\n");
+    say(rt, b": ", t.copies)?;
+    say(rt, b" memories, ", t.accepted)?;
+    say(rt, b" accepted; ", t.calls)?;
+    say(rt, b" calls, ", t.refused)?;
+    rt.write_all(b" refused with 2\n")
 }
 
 // Corrupts every book with one kind of change.
@@ -57,25 +57,31 @@ fn each_book(book: &mut [u8], s: &mut [u8], work: &mut [u8], how: u32) -> Totals
     t
 }
 
-fn run(book: &mut [u8], s: &mut [u8], work: &mut [u8]) {
+fn run(rt: &impl Print, book: &mut [u8], s: &mut [u8], work: &mut [u8]) -> io::Result<()> {
     for how in 0..7 {
         let t = each_book(book, s, work, how);
-        report(how, t);
+        report(rt, how, t)?;
         if t.broken {
-            return;
+            break;
         }
     }
+    Ok(())
 }
 
 // The arrays are lent with their lengths in the type, so `main` needs no proof about lengths.
-fn lend(book: &mut [u8; 784], s: &mut [u8; 784], work: &mut [u8; 784]) {
-    run(book, s, work);
+fn lend(
+    rt: &impl Print,
+    book: &mut [u8; 784],
+    s: &mut [u8; 784],
+    work: &mut [u8; 784],
+) -> io::Result<()> {
+    run(rt, book, s, work)
 }
 
 // Each array has the 784 bytes that a book needs.
-fn main() {
+fn main(rt: HostRuntime) -> io::Result<()> {
     let mut book = [0u8; 784];
     let mut s = [0u8; 784];
     let mut work = [0u8; 784];
-    lend(&mut book, &mut s, &mut work);
+    lend(&rt, &mut book, &mut s, &mut work)
 }

@@ -1,5 +1,7 @@
 #![tactic(auto)]
 
-fn main() {
-    replay_io::play();
+use std::io;
+
+fn main(rt: HostRuntime) -> io::Result<()> {
+    replay_io::play(&rt)
 }

@@ -116,13 +116,8 @@ pub fn play(script: &[u8], memory: &mut [u8], scratch: &mut [u8], out: &mut [u8]
     answer::clipped(out, to)
 }
 
-#[unsafe(no_mangle)]
-pub extern "C" fn vrf_replay(
-    script: &[u8],
-    memory: &mut [u8],
-    scratch: &mut [u8],
-    out: &mut [u8],
-) -> u64
+// `play` as `vrf_replay_c` exports it to C.
+pub fn vrf_replay(script: &[u8], memory: &mut [u8], scratch: &mut [u8], out: &mut [u8]) -> u64
     ensures { result ≤ length out.old }
 {
     play(script, memory, scratch, out) as u64

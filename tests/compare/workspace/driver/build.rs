@@ -7,7 +7,7 @@ use std::path::Path;
 
 fn main() {
     println!("cargo::rerun-if-changed=build.rs");
-    link("VRF_STATICLIB", "vrf_replay_c", "has_replay");
+    link("VRF_STATICLIB", "vrf_replay", "has_replay");
     link("VRF_BENCHLIB", "bench_loops", "has_bench");
 }
 

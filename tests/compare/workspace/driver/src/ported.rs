@@ -95,7 +95,7 @@ pub struct Ported {
 impl Ported {
     fn new(memory: usize) -> Result<Self, Error> {
         if !cfg!(has_replay) {
-            return Err(Error::NoLibrary("VRF_STATICLIB", "libvrf_replay_c.a"));
+            return Err(Error::NoLibrary("VRF_STATICLIB", "libvrf_replay.a"));
         }
         Ok(Ported {
             memory: Lent::new(memory),
