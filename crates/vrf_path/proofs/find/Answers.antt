@@ -19,9 +19,10 @@ loop-i-preserved c =
     let l = c.loop-i in
     let x = c.args in
     let not-here : starts_with x.p.now (drop l.i x.text.now) ≡ false =
-        elim c.if-text-i.branch
-        [ then-text-i+else-starts_with w ↦ starts-at x.p.now x.text.now l.i w.starts_with.ensures w.if-starts_with.false
-        | else-text-i w ↦ starts_other x.p.now x.text.now l.i (omega arith) (omega arith) (λ e. w.if-text-i.false (e ∙ sym l.invariant.0)) ]
+    elim c.if-text-i.branch [
+      | then-text-i+else-starts_with w ↦ starts-at x.p.now x.text.now l.i w.starts_with.ensures w.if-starts_with.false
+      | else-text-i w ↦ starts_other x.p.now x.text.now l.i (omega arith) (omega arith) (λ e. w.if-text-i.false (e ∙ sym l.invariant.0))
+    ]
     in
     (l.invariant.0, omega arith, l.invariant.2 ∙ first-later x.p.now x.text.now l.i (omega arith) not-here)
 

@@ -14,12 +14,11 @@ abbrev decreases-loop : tie.decreases-loop-i
 decreases-loop s p n out₀ i₀ at₀ out i at = n - i
 
 put-char-requires : tie.Need-put_char-at-requires invariant-loop decreases-loop
-put-char-requires c κs =
-    (
-      c.char16-c.ensures.scalar,
-      fits (units_of _ _ _) _ c.loop-i.out c.loop-i.i c.loop-i.at c.loop-i.invariant.0 c.requires.2 c.char16-c.result.code c.char16-c.result.units
-          (taken_at _ _ _ c.loop-i.i c.char16-c.ensures c.units_at.ensures),
-    )
+put-char-requires c κs = (
+  c.char16-c.ensures.scalar,
+  fits (units_of _ _ _) _ c.loop-i.out c.loop-i.i c.loop-i.at c.loop-i.invariant.0 c.requires.2 c.char16-c.result.code c.char16-c.result.units
+      (taken_at _ _ _ c.loop-i.i c.char16-c.ensures c.units_at.ensures),
+)
 
 loop-less : tie.Need-loop-i-smaller invariant-loop decreases-loop
 loop-less c =
@@ -30,12 +29,11 @@ loop-less c =
     )
 
 loop-again : tie.Need-loop-i-preserved invariant-loop decreases-loop
-loop-again c =
-    (
-      rw c.put_char-at.ensures.0 (write-on (units_of _ _ _) _ c.loop-i.out c.loop-i.i c.loop-i.at c.loop-i.invariant.0 c.requires.2 c.char16-c.result.code c.char16-c.result.units
-          (taken_at _ _ _ c.loop-i.i c.char16-c.ensures c.units_at.ensures) c.put_char-at.ensures.1),
-      omega (arith, c.char16-c.ensures.few),
-    )
+loop-again c = (
+  rw c.put_char-at.ensures.0 (write-on (units_of _ _ _) _ c.loop-i.out c.loop-i.i c.loop-i.at c.loop-i.invariant.0 c.requires.2 c.char16-c.result.code c.char16-c.result.units
+      (taken_at _ _ _ c.loop-i.i c.char16-c.ensures c.units_at.ensures) c.put_char-at.ensures.1),
+  omega (arith, c.char16-c.ensures.few),
+)
 
 returns : tie.Need-returns invariant-loop decreases-loop
 returns c =

@@ -15,18 +15,17 @@ returns c =
     (target-short a.s.now a.next (length a.out.now) (bytes_of a.s.now (bit_at a.c) a.n) a.n (sym (bytes-length a.s.now (bit_at a.c) a.n)) c.if-space-n.true c.target_short.ensures, refl)
 
 returns-2 : tie.Need-returns-in-Done
-returns-2 c =
+returns-2 c = (
+  bytes_of c.args.s.now (bit_at c.args.c) c.args.n,
+  (
+    space c.args.s.now c.args.next (length c.args.out.now) (bytes_of c.args.s.now (bit_at c.args.c) c.args.n) c.args.n (sym (bytes-length c.args.s.now (bit_at c.args.c) c.args.n)) c.if-space-n.false,
     (
-      bytes_of c.args.s.now (bit_at c.args.c) c.args.n,
-      (
-        space c.args.s.now c.args.next (length c.args.out.now) (bytes_of c.args.s.now (bit_at c.args.c) c.args.n) c.args.n (sym (bytes-length c.args.s.now (bit_at c.args.c) c.args.n)) c.if-space-n.false,
-        (
-          sym (bytes-length c.args.s.now (bit_at c.args.c) c.args.n),
-          copied-bytes c.args.s.now c.args.c (length c.args.out.now) c.args.n c.if-space-n.false c.requires
-              c.args.out.now c.copy_bits_to.new.dst c.copy_bits_to.ensures c.in-Done.is,
-        ),
-      ),
-    )
+      sym (bytes-length c.args.s.now (bit_at c.args.c) c.args.n),
+      copied-bytes c.args.s.now c.args.c (length c.args.out.now) c.args.n c.if-space-n.false c.requires
+          c.args.out.now c.copy_bits_to.new.dst c.copy_bits_to.ensures c.in-Done.is,
+    ),
+  ),
+)
 
 returns-3 : tie.Need-returns-in-Refused
 returns-3 c =

@@ -10,14 +10,13 @@ abbrev decreases-loop : tie.decreases-loop
 decreases-loop m₀ s scratch₀ n c₀ sum₀ counter₀ m scratch c sum counter = n - counter
 
 loop-again : tie.Need-loop-preserved invariant-loop decreases-loop
-loop-again c =
-    (
-      omega arith,
-      (rw c.in-Of.is at c.read_net_field_exports.ensures).good,
-      c.read_net_field_exports.auto.m ∙ c.loop.invariant.2,
-      omega (arith, c.read_net_field_exports.auto.scratch, c.loop.invariant.3),
-      c.read_net_field_exports.auto.scratch ∙ c.loop.invariant.4,
-    )
+loop-again c = (
+  omega arith,
+  (rw c.in-Of.is at c.read_net_field_exports.ensures).good,
+  c.read_net_field_exports.auto.m ∙ c.loop.invariant.2,
+  omega (arith, c.read_net_field_exports.auto.scratch, c.loop.invariant.3),
+  c.read_net_field_exports.auto.scratch ∙ c.loop.invariant.4,
+)
 
 pub runs_unchecked_spec : {M : Type 1} → statement M
 runs_unchecked_spec =

@@ -7,9 +7,10 @@ use Rattle.vrf_reader.proofs.objects.read_flags.Goals.{then-exporting-via-then-e
 pub returns-then-exporting : goal.returns-then-exporting
 returns-then-exporting c =
     flags-read _ _
-    (elim c.then-exporting.branch
-    [ then-exporting-via-then-exporting w ↦ rw w.if-exporting.true
-    | then-exporting-via-else-exporting+then-guid-eq1 w ↦ rw (w.if-exporting.false, w.if-guid-eq1.true) ])
+    (elim c.then-exporting.branch [
+      | then-exporting-via-then-exporting w ↦ rw w.if-exporting.true
+      | then-exporting-via-else-exporting+then-guid-eq1 w ↦ rw (w.if-exporting.false, w.if-guid-eq1.true)
+    ])
     c.read_u8.result c.read_u8.ensures
 
 pub returns : goal.returns

@@ -26,7 +26,7 @@ unfolding key key_numbered bucket_of
 returns c =
     let s = store_of c.args.m.now in
     let path : c.row_text-path.result.now ≡ text s.group_rows s.texts c.args.g =
-        c.row_text-path.ensures ∙ ap₂ (λ (r x : List ℕ). text r x c.args.g) c.group_rows-rows.ensures c.texts.ensures in
+    c.row_text-path.ensures ∙ ap₂ (λ (r x : List ℕ). text r x c.args.g) c.group_rows-rows.ensures c.texts.ensures in
     let few = c.groups_allowed-r.ensures.0 in
     record {
       key = rw (c.key_bucket.ensures, c.get64.ensures, c.group_rows-rows.ensures, few);

@@ -13,16 +13,18 @@ returns-then-space-n c =
 pub put_block-requires : goal.put_block-requires
 put_block-requires c =
     let below : length (encode_book (held c.args.m.now)) ≤ c.longest-space.result =
-        elim c.if-space-most_len.branch
-        [ then-space-most_len+else-space-n w ↦ omega (arith, w.block_len-n.ensures, w.if-space-n.false)
-        | else-space-most_len w ↦ omega (arith, c.most_len.ensures, w.if-space-most_len.false) ] in
+    elim c.if-space-most_len.branch [
+      | then-space-most_len+else-space-n w ↦ omega (arith, w.block_len-n.ensures, w.if-space-n.false)
+      | else-space-most_len w ↦ omega (arith, c.most_len.ensures, w.if-space-most_len.false)
+    ] in
     (c.requires.0, omega (arith, c.longest-space.ensures), omega (arith, c.longest-space.ensures))
 
 pub returns : goal.returns
 returns c =
     let p = c.put_block.ensures in
     let below : length (encode_book (held c.args.m.now)) ≤ c.longest-space.result =
-        elim c.if-space-most_len.branch
-        [ then-space-most_len+else-space-n w ↦ omega (arith, w.block_len-n.ensures, w.if-space-n.false)
-        | else-space-most_len w ↦ omega (arith, c.most_len.ensures, w.if-space-most_len.false) ] in
+    elim c.if-space-most_len.branch [
+      | then-space-most_len+else-space-n w ↦ omega (arith, w.block_len-n.ensures, w.if-space-n.false)
+      | else-space-most_len w ↦ omega (arith, c.most_len.ensures, w.if-space-most_len.false)
+    ] in
     writes-all (held c.args.m.now) c.requires.1 p.count (omega (arith, p.count, c.longest-space.ensures)) p.bytes
