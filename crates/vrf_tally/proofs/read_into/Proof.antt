@@ -13,14 +13,14 @@ returns : tie.Need-returns-in-Refused
 unfolding allowances
 returns c =
     let lent = c.args.book.now in
-    let started = subst (λ (a : Acted). OpenContract allowances lent c.«open».new.m a) c.in-Refused.is c.«open».ensures in
+    let started = subst (λ (a : Acted). OpenContract allowances lent c.«open».new.book a) c.in-Refused.is c.«open».ensures in
     absurd (never-refused c.requires.0 c.in-Refused.r started)
 
 returns-2 : tie.Need-returns-in-Done
 unfolding allowances whole
 returns-2 c =
     let lent = c.args.book.now in
-    let started = subst (λ (a : Acted). OpenContract allowances lent c.«open».new.m a) c.in-Done.is c.«open».ensures in
+    let started = subst (λ (a : Acted). OpenContract allowances lent c.«open».new.book a) c.in-Done.is c.«open».ensures in
     answered-by started c.args.input.now c.read_checkpoint_tables.ensures
 
 pub read_into_spec : {M : Type 1} → statement M
