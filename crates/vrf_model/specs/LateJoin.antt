@@ -1,6 +1,6 @@
 -- What demand 3 is stated with (`Demand3` in `vrf_schema`): the counts of a written block and the counters after reading it, when writing
 -- is refused, and how far counters are apart.
-use Rattle.std.specs.Prelude.{◌≡◌, List, ◌↔◌, ◌⊎◌, ℕ, ◌+◌, ◌-◌, ◌≤◌, ◌<◌, ◌%◌, ◌^◌, length}
+use Rattle.std.specs.Prelude.{◌≡◌, ◌↔◌, ◌⊎◌, ℕ, ◌+◌, ◌-◌, ◌≤◌, ◌<◌, ◌%◌, ◌^◌, length}
 use Rattle.vrf_model.specs.Book.{Content, Counters, held_fields}
 use Rattle.vrf_model.specs.Block.{BlockCounts}
 use Rattle.vrf_model.specs.Writer.{encode_book, Written, written, not_written, write}

@@ -1,5 +1,5 @@
 -- Contracts of the functions of `block`: head, what follows the GUIDs, and the whole block.
-use Rattle.std.specs.Prelude.{List, ℕ, ◌≤◌, length}
+use Rattle.std.specs.Prelude.{List, ℕ, ◌≤◌}
 use Rattle.vrf_bitio.specs.declared.Cursor.{Cursor}
 use Rattle.vrf_model.specs.Parser.{Parser, return, fail, ◌>>=◌, sum_from}
 use Rattle.vrf_model.specs.Block.{BlockCounts, PathTable, no_paths, by_table, zero_word, count_up_to, block_guids, block_group, block_end, block}

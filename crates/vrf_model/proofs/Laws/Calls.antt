@@ -1,13 +1,13 @@
 -- No call changes the allowances. A refused call changes nothing, unless it is a reader. Used for demands 1 and 3 in `vrf_schema`.
 use Rattle.std.specs.Prelude.{◌≡◌, List, ℕ, ltb}
 use Rattle.std.proofs.Math.Path.{refl}
-use Rattle.std.proofs.Common.{ap, ◌∙◌, arith}
+use Rattle.std.proofs.Common.{◌∙◌, arith}
 use Rattle.vrf_bitio.specs.Reading.{Read, ok, refused}
 use Rattle.vrf_bitio.specs.Window.{window}
 use Rattle.vrf_text.specs.Text.{CallerText, accepted, refusal, caller_text}
 use Rattle.vrf_bitio.proofs.Laws.Cases.{by_cond}
 use Rattle.vrf_model.specs.Book.{Content, no_increment}
-use Rattle.vrf_model.specs.Setting.{Step, done, refuses, set_guid, set_field}
+use Rattle.vrf_model.specs.Setting.{Step, done, refuses}
 use Rattle.vrf_model.specs.Parser.{Parsed, parsed, failed, Parser}
 use Rattle.vrf_model.specs.Calls.{Window, Call, clear_book, add_export_group, set_field_on_group, set_net_guid_path, read_net_field_exports, read_export_guids, load_object, read_checkpoint_tables, lookup}
 use Rattle.vrf_model.specs.Calls.{Answer, refusal-of, Result, unchanged, of_step, of_parsed, read_opened, read_window, if_text_accepted, add_directly, run}

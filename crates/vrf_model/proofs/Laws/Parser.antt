@@ -1,7 +1,7 @@
 -- Laws about readers that change a book: what a sequence of two does, which bytes are read to which value, and which bytes are refused.
 -- Used in Laws/ReadBack.
 use Rattle.std.specs.Prelude.{◌≡◌, refl, List, [], ◌∷◌, ◌++◌, ℕ, ◌+◌, ◌*◌, ◌^◌, ◌<◌, length}
-use Rattle.std.proofs.Common.{ap, ◌∙◌, subst, append_assoc, append-nil, add-zero, zero-add, add_assoc, arith, length-append}
+use Rattle.std.proofs.Common.{◌∙◌, subst, append_assoc, append-nil, add-zero, zero-add, add_assoc, arith, length-append}
 use Rattle.vrf_bitio.specs.Reading.{Reader}
 use Rattle.vrf_bitio.specs.Number.{byte, word32, encode_word32, encode_packed}
 use Rattle.vrf_bitio.proofs.Laws.Reading.{Decodes}

@@ -3,7 +3,6 @@ use mathlib.Core.Path.{◌≡◌, refl, sym, ◌∙◌}
 use Prim.Native.Nat.{◌≤◌, ◌-◌}
 use native.Mathlib.Omega.{arith}
 use lib.ListN.{length}
-use borrow.Author.Tests.{not-true, not-false}
 use Rattle.vrf_path.specs.Stems.{digits_from}
 use Rattle.vrf_path.proofs.Laws.Stems.{digits-end, digits-earlier, digits-all}
 use Rattle.vrf_path.proofs.digits_from.Statement.{statement}

@@ -6,7 +6,7 @@ use Rattle.vrf_bitio.specs.Answers.{read_at, Gave}
 use Rattle.vrf_bitio.specs.declared.Cursor.{Cursor}
 use Rattle.vrf_bitio.specs.declared.Refusal.{Refusal}
 use Rattle.vrf_model.specs.Names.{number}
-use Rattle.vrf_model.specs.Parser.{Parser, return, ◌>>=◌, read, times}
+use Rattle.vrf_model.specs.Parser.{Parser, return, ◌>>=◌, times}
 use Rattle.vrf_model.specs.Runs.{run_of}
 use Rattle.vrf_store.specs.Inner.WellFormed.{WellFormed}
 use Rattle.vrf_reader.specs.Inner.Simulates.{Simulates, no, Refines}

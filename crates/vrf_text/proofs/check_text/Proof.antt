@@ -1,7 +1,7 @@
 -- `vrf_text::check_text` satisfies its contract.
 use mathlib.Core.Path.{sym, ◌∙◌}
 use borrow.Author.Rules.{rules}
-use borrow.Author.Tests.{lt-ltb, le-ltb, not-true, not-false}
+use borrow.Author.Tests.{lt-ltb, le-ltb}
 use Rattle.vrf_text.specs.Text.{caller_text}
 use Rattle.vrf_text.proofs.check_text.Statement.{statement}
 use Rattle.vrf_text.proofs.check_text.Tie as tie

@@ -2,7 +2,6 @@
 use Prim.Native.Nat.{◌-◌, ◌≤◌}
 use native.Mathlib.Omega.{arith}
 use lib.ListN.{length}
-use borrow.Author.Tests.{not-false}
 use Rattle.vrf_text.specs.Inner.Steps.{Clear}
 use Rattle.vrf_text.proofs.Walks.{block}
 use Rattle.vrf_text.proofs.clear_run.Statement.{statement}

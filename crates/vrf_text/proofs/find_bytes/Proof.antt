@@ -3,7 +3,6 @@ use mathlib.Core.Path.{sym}
 use Prim.Native.Nat.{◌-◌, ◌*◌, ◌≤◌}
 use native.Mathlib.Omega.{arith}
 use borrow.Author.Rules.{rules}
-use borrow.Author.Tests.{not-true, not-false}
 use Rattle.vrf_bitio.specs.Bits.{bytes_of}
 use Rattle.vrf_bitio.specs.Answers.{read_at}
 use Rattle.vrf_bitio.specs.Inner.Cursor.{moved}

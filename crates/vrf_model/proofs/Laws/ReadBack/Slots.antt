@@ -15,7 +15,7 @@ use Rattle.vrf_text.specs.Text.{IsText, fstring, encode_text}
 use Rattle.vrf_text.proofs.Laws.Text.{fstring-encode_text}
 use Rattle.vrf_names.specs.Names.{rendered, suffix}
 use Rattle.vrf_model.specs.Book.{Guid, Slot, empty, filled, Group, Allowances, Content, no_increment, sum, group_text, group_fields, slot_text, slot_fields, held_text, held_fields}
-use Rattle.vrf_model.specs.Lookup.{place_or, index_place, slot_at}
+use Rattle.vrf_model.specs.Lookup.{index_place, slot_at}
 use Rattle.vrf_model.specs.Setting.{done, alter, with_groups, with_slot, renames, renamed_step, set_field_at, set_field}
 use Rattle.vrf_model.specs.Names.{fname, text_name, limited}
 use Rattle.vrf_model.specs.Parser.{sum_from}

@@ -1,5 +1,5 @@
 -- `vrf_reader::objects::read_flags` satisfies its contract.
-use Rattle.std.proofs.Common.{eqb, eq-eqb, ne_eqb}
+use Rattle.std.proofs.Common.{ne_eqb}
 use Rattle.vrf_reader.proofs.Laws.Objects.{flags-read, flags-none}
 use Rattle.vrf_reader.proofs.objects.read_flags.Goals as goal
 use Rattle.vrf_reader.proofs.objects.read_flags.Goals.{then-exporting-via-then-exporting, then-exporting-via-else-exporting+then-guid-eq1}

@@ -10,7 +10,7 @@ use Rattle.vrf_model.specs.Book.{Slot, filled, Group}
 use Rattle.vrf_model.specs.Setting.{with_groups, with_slot}
 use Rattle.vrf_model.specs.Lawful.{Is32}
 use Rattle.vrf_table.specs.Chain.{last_below}
-use Rattle.vrf_table.specs.Table.{key, at, len, info, text, key_hit, key_bucket, key_start}
+use Rattle.vrf_table.specs.Table.{key, len, info, text, key_hit, key_bucket, key_start}
 use Rattle.vrf_table.specs.Inner.Table.{set_text}
 use Rattle.vrf_table.proofs.Laws.Chain.{by_equal, Passes, last_below-passes, last_below-ext, last_below-last}
 use Rattle.vrf_table.proofs.Laws.Table.{key_bucket-lt, length-set_text, key-set_text, at-set_text, len-set_text, info-set_text, at-set_text-other, len-set_text-other, info-set_text-other}

@@ -6,7 +6,7 @@ use Rattle.std.proofs.Math.Option.{Option}
 use Rattle.vrf_bitio.proofs.Laws.Cases.{clash}
 use Rattle.vrf_words.specs.Words.{part}
 use Rattle.vrf_words.specs.Inner.Words.{set_word}
-use Rattle.vrf_model.specs.Book.{empty, filled, Group, Content}
+use Rattle.vrf_model.specs.Book.{empty, filled, Content}
 use Rattle.vrf_model.specs.Lookup.{index_place, slot_at}
 use Rattle.vrf_model.specs.Setting.{with_groups, new_group, merged_group}
 use Rattle.vrf_model.specs.Lawful.{Is32}
