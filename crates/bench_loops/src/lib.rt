@@ -48,7 +48,7 @@ fn width_at(widths: &[u8], k: usize) -> u8
 }
 
 // What one pass over all widths leaves.
-#[derive(Drop)]
+#[derive(Clone, Copy)]
 struct Turn {
     c: Cursor,
     sum: u64,

@@ -10,7 +10,7 @@ pub const OPENING: u32 = 0;
 
 pub const FIRST_LOOKUP: u32 = 16;
 
-#[derive(Drop)]
+#[derive(Clone, Copy)]
 pub enum CallEnd {
     // Refused with 2.
     Corrupt,

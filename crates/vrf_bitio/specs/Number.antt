@@ -54,7 +54,7 @@ low_bytes (suc k) n = n % 256 ∷ low_bytes k (n / 256)
 unfoldable pub encode_word32 : ℕ → List ℕ
 encode_word32 n = low_bytes 4 n
 
--- The bytes that the writer sends for a packed number: the fewest (`packed-fewest` of specs/Laws/Fewest.antt). `more` is how many bytes may
+-- The bytes that the writer sends for a packed number: the fewest (`packed-fewest` of proofs/Laws/Fewest.antt). `more` is how many bytes may
 -- follow this one.
 unfoldable pub encode_chunks : ℕ → ℕ → List ℕ
 encode_chunks zero n = 2 * n ∷ []

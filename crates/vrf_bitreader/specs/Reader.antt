@@ -1,5 +1,5 @@
 -- A reader is a slice with a cursor. The contracts here use the definitions of vrf_bitio at that slice and cursor. Each contract is either
--- an equation for the result or an answer relation of vrf_bitio, whose specs/Laws/Determined.antt proves that only one answer satisfies it.
+-- an equation for the result or an answer relation of vrf_bitio, whose proofs/Laws/Determined.antt proves that only one answer satisfies it.
 -- So each contract determines the answer, and this crate needs no theorem of its own for that.
 use Rattle.std.specs.Prelude.{List, ℕ, ◌*◌, length}
 use Rattle.std.specs.Borrow.{Bor}

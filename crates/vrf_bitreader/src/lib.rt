@@ -1,6 +1,6 @@
 // The bit reader of document 01 as a struct that holds the byte slice, over the cursor functions of vrf_bitio. The function names are those
-// of vrf-bitio's lib.rs. The borrow checker does not cover functions over such a struct. So each of them only takes the reader apart, calls
-// a covered function on the slice and the numbers, and is proved by hand. A reader is passed by value: a refused reading moves nothing.
+// of vrf-bitio's lib.rs. Each method takes the reader apart and calls a function on the slice and the numbers. A reader is passed by value: a
+// refused reading moves nothing.
 #![tactic(auto)]
 
 ghost use Rattle.std.specs.Prelude.{◌≡◌, ◌-◌};
@@ -15,7 +15,7 @@ use vrf_bitio::{Bit, Bits, Byte, Cursor, Int, Opened, Sub, Word};
 const WINDOW_BYTES: usize = 268_435_456;
 
 // The bytes, a window of them (first bit and bit count), and the position, counted from the window's first bit.
-#[derive(Drop)]
+#[derive(Clone, Copy)]
 pub struct BitReader<'a> {
     data: &'a [u8],
     first: u32,
@@ -183,8 +183,7 @@ impl<'a> BitReader<'a> {
     }
 }
 
-// The reader's methods for a slice and a cursor. They are for callers that the borrow checker covers: it covers no function that has a
-// reader.
+// The reader's methods for a slice and a cursor, for callers that hold no reader.
 pub fn position_over(data: &[u8], c: Cursor) -> u32
     ensures { result ≡ c.pos }
 {

@@ -16,7 +16,7 @@ use vrf_model::{
 use vrf_reader::{Advanced, ReadNumber};
 
 // The head of a block: W, the GUID count, and the cursor at the first GUID.
-#[derive(Drop)]
+#[derive(Clone, Copy)]
 enum BlockHead {
     Of(u32, u32, Cursor),
     Refused(Refusal),

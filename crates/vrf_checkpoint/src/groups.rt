@@ -20,14 +20,14 @@ use vrf_table::Entry;
 use vrf_text::Text;
 
 // How many fields were read, and the cursor after them.
-#[derive(Drop)]
+#[derive(Clone, Copy)]
 pub enum Fields {
     Read(u64, Cursor),
     Refused(Refusal),
 }
 
 // A group that was added: its index, its slot count, and the cursor at its first slot.
-#[derive(Drop)]
+#[derive(Clone, Copy)]
 enum Declared {
     Slots(u32, u32, Cursor),
     Refused(Refusal),

@@ -18,7 +18,7 @@ use vrf_store::parts::literals_allowed;
 use vrf_text::Text;
 
 // Counts of the GUID entries so far: literals (kind 1), kind 0 entries, places resolved.
-#[derive(Drop)]
+#[derive(Clone, Copy)]
 pub struct Paths {
     pub literals: u32,
     pub indexed: u32,
@@ -26,14 +26,14 @@ pub struct Paths {
 }
 
 // The path of an entry: its length at the front of the scratch buffer, the counts with this entry, and the cursor after it.
-#[derive(Drop)]
+#[derive(Clone, Copy)]
 enum Path {
     Of(u32, Paths, Cursor),
     Refused(Refusal),
 }
 
 // The counts after some GUID entries, and the cursor after them.
-#[derive(Drop)]
+#[derive(Clone, Copy)]
 pub enum Guids {
     To(Paths, Cursor),
     Refused(Refusal),

@@ -45,21 +45,21 @@ pub const PATH_IS_EARLIER_KEY: u32 = 44;
 pub const BLOCK_TOO_LONG: u32 = 45;
 
 // The answer of `clear` and `set_net_guid_path`.
-#[derive(Drop)]
+#[derive(Clone, Copy)]
 pub enum Acted {
     Done,
     Refused(Refusal),
 }
 
 // The answer of `add_export_group`: a place in the group list.
-#[derive(Drop)]
+#[derive(Clone, Copy)]
 pub enum Added {
     At(u32),
     Refused(Refusal),
 }
 
 // The answer of `set_field_on_group`: not placed for an unknown index or a handle past the slots.
-#[derive(Drop)]
+#[derive(Clone, Copy)]
 pub enum Placed {
     Placed,
     NotPlaced,
@@ -67,7 +67,7 @@ pub enum Placed {
 }
 
 // The answer of a lookup: a place in the group list or the GUID list, a GUID or a checksum; or absent.
-#[derive(Drop)]
+#[derive(Clone, Copy)]
 pub enum Found {
     At(u32),
     Absent,
@@ -75,7 +75,7 @@ pub enum Found {
 }
 
 // The answer of a run, its count, or of `load_object`, its GUID; each with the position after it, in bits.
-#[derive(Drop)]
+#[derive(Clone, Copy)]
 pub enum Ran {
     Ended(u32, u32),
     Refused(Refusal),
@@ -94,14 +94,14 @@ pub struct CheckpointTables {
     pub resolved_path_indices: u32,
 }
 
-#[derive(Drop)]
+#[derive(Clone, Copy)]
 pub enum Tables {
     Read(CheckpointTables),
     Refused(Refusal),
 }
 
 // The path-name index or the slot count at a group place.
-#[derive(Drop)]
+#[derive(Clone, Copy)]
 pub enum Number {
     Is(u32),
     Refused(Refusal),

@@ -24,7 +24,7 @@ enum Suffix {
 
 // A rendered name's length, or a refusal. 41: a name above 4,096 bytes, with its bytes. Then 15: a buffer that is too short, with the bits
 // wanted and the bits it has.
-#[derive(Drop)]
+#[derive(Clone, Copy)]
 pub enum Rendered {
     Length(usize),
     Refused(Refusal),

@@ -9,7 +9,7 @@ ghost use Rattle.vrf_path.specs.Base.{cut_at, class_base, leaf_base};
 ghost use Rattle.vrf_path.specs.Answers.{Front, spelled, default_key, core_key, KeyAnswer, key_bytes, absent, LeafAnswer, ToggleAnswer, StemAnswer, stems_after};
 ghost use Rattle.vrf_path.specs.Inner.Text.{place, Differ};
 
-#[derive(Drop)]
+#[derive(Clone, Copy)]
 enum TextPlace {
     At(usize),
     Nowhere,
@@ -33,14 +33,14 @@ pub enum Key {
 }
 
 // Where a path's leaf starts.
-#[derive(Drop)]
+#[derive(Clone, Copy)]
 pub enum Leaf {
     At(usize),
     Absent,
 }
 
 // A key's `_ClassNetCache` toggle: its first n bytes, or the key with the suffix appended.
-#[derive(Drop)]
+#[derive(Clone, Copy)]
 pub enum Toggle {
     Stripped(usize),
     Appended,
@@ -48,7 +48,7 @@ pub enum Toggle {
 }
 
 // The rule that made a stem: cut at `_`, without the trailing digits, or also without a capital.
-#[derive(Drop)]
+#[derive(Clone, Copy)]
 pub enum Phase {
     Underscore,
     Digits,
@@ -56,7 +56,7 @@ pub enum Phase {
 }
 
 // A stem of a name: its first n bytes. `first_stem` and then `next_stem`, until `End`, give `stems name`, in order.
-#[derive(Drop)]
+#[derive(Clone, Copy)]
 pub enum Stem {
     At(usize, Phase),
     End,

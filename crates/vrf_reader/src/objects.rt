@@ -16,7 +16,7 @@ use vrf_text::Text;
 pub const MAX_NET_GUID_RECURSION: u32 = 16;
 
 // An object up to its flags. `Ends`: its GUID, if nothing follows. `Path`: its GUID and flags, if a path follows.
-#[derive(Drop)]
+#[derive(Clone, Copy)]
 enum ObjectHead {
     Ends(u32, Cursor),
     Path(u32, u8, Cursor),

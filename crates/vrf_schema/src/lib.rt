@@ -12,7 +12,7 @@ use vrf_bitio::Refusal;
 use vrf_store::counters::BookCounters;
 
 // The answer of `get_counters`.
-#[derive(Drop)]
+#[derive(Clone, Copy)]
 pub enum CountersRead {
     Are(BookCounters),
     Refused(Refusal),

@@ -25,21 +25,21 @@ struct Reading {
 }
 
 // What a reading in its window leaves: the cursor, and the place after the answer.
-#[derive(Drop)]
+#[derive(Clone, Copy)]
 struct After {
     c: Cursor,
     to: usize,
 }
 
 // What the line of a reading in its window leaves: the cursor and the run.
-#[derive(Drop)]
+#[derive(Clone, Copy)]
 struct Line {
     c: Cursor,
     run: Run,
 }
 
 // What the line of a reading leaves: the windows and the run.
-#[derive(Drop)]
+#[derive(Clone, Copy)]
 struct Turn {
     windows: Windows,
     run: Run,

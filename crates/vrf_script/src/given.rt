@@ -8,7 +8,7 @@ use crate::items::Blob;
 
 // The numbers of a call: x, y and z are its numbers of 32 bits, in their order. The others follow a blob: the first bit and the bit count of
 // a window, the byte after them, and a number of 32 bits after that byte. A call reads those that it has.
-#[derive(Drop)]
+#[derive(Clone, Copy)]
 pub struct Numbers {
     pub x: u32,
     pub y: u32,
@@ -20,7 +20,7 @@ pub struct Numbers {
 }
 
 // The arguments of a call, the place after them, and whether the script ends within the call.
-#[derive(Drop)]
+#[derive(Clone, Copy)]
 pub struct Given {
     pub numbers: Numbers,
     pub blob: Blob,
@@ -29,7 +29,7 @@ pub struct Given {
 }
 
 // The number of argument bytes before the blob, whether there is a blob, and the number of argument bytes after it.
-#[derive(Drop)]
+#[derive(Clone, Copy)]
 struct Shape(usize, bool, usize);
 
 fn shape_of(code: u8) -> Shape

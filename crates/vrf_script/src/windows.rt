@@ -7,7 +7,7 @@ use vrf_bitio::Cursor;
 pub const DEEPEST: usize = 16;
 
 // The cursor of the current window, in which the readings are made, and the cursors of the windows around it, innermost last.
-#[derive(Drop)]
+#[derive(Clone, Copy)]
 pub struct Windows {
     pub current: Cursor,
     pub around: [Cursor; 16],

@@ -22,7 +22,7 @@ pub struct Books {
 }
 
 // Where the current book begins and ends, and where the last book ends.
-#[derive(Drop)]
+#[derive(Clone, Copy)]
 pub struct Area {
     pub from: usize,
     pub to: usize,
@@ -30,14 +30,14 @@ pub struct Area {
 }
 
 // The area of the current book, and the books with a new size of the current book.
-#[derive(Drop)]
+#[derive(Clone, Copy)]
 struct SizedArea {
     area: Area,
     books: Books,
 }
 
 // The allowances that a book is opened with.
-#[derive(Drop)]
+#[derive(Clone, Copy)]
 struct AllowanceNumbers {
     guids: u64,
     groups: u64,

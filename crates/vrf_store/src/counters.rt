@@ -7,7 +7,7 @@ ghost use Rattle.vrf_store.specs.Inner.Counters.{CountersStepped, replaced_alone
 use std::num::wrapping_add_u64;
 use vrf_words::{get64, put64};
 
-#[derive(Drop)]
+#[derive(Clone, Copy)]
 pub struct BookCounters {
     pub schema: u64,
     pub guid: u64,

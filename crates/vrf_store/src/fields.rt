@@ -52,7 +52,7 @@ pub fn set_field_row(m: &mut [u8], e: u32, at: u32, len: u32, checksum: u32)
 }
 
 // The number of rows kept, and the total length of the names dropped.
-#[derive(Drop)]
+#[derive(Clone, Copy)]
 struct KeptRows {
     rows: u32,
     gone: u64,

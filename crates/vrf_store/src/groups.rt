@@ -30,14 +30,14 @@ use vrf_table::{AMBIGUOUS, key_bucket, leaf_claim, put_key, put_text, row_text, 
 use vrf_words::{get32, get64, put32, zero_words};
 
 // The bucket that an entry joins, if it joins one.
-#[derive(Drop)]
+#[derive(Clone, Copy)]
 enum Bucket {
     Of(u32),
     Absent,
 }
 
 // The buckets of a group: for its index, for the three keys of its path, and for its leaf.
-#[derive(Drop)]
+#[derive(Clone, Copy)]
 struct Buckets {
     key: Bucket,
     own: Bucket,

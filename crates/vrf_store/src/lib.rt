@@ -12,7 +12,7 @@ pub mod parts;
 pub mod rows;
 pub mod texts;
 
-#[derive(Drop)]
+#[derive(Clone, Copy)]
 pub enum MaybeNumber {
     Is(u32),
     Nothing,

@@ -385,7 +385,7 @@ fn claim_from(
 }
 
 // A leaf's bucket and its claim.
-#[derive(Drop)]
+#[derive(Clone, Copy)]
 pub struct Claimed {
     pub bucket: u32,
     pub claim: Claim,

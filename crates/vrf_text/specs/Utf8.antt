@@ -1,4 +1,4 @@
--- UTF-8 (RFC 3629): the grammar of section 4 as data, rule by rule, and the test `utf8` that the contracts use. specs/Laws/Utf8.antt proves
+-- UTF-8 (RFC 3629): the grammar of section 4 as data, rule by rule, and the test `utf8` that the contracts use. proofs/Laws/Utf8.antt proves
 -- that the two agree on every list. A text is the list of its bytes.
 use Rattle.std.specs.Prelude.{Bool, false, cond, ◌&&◌, List, [], ◌∷◌, ◌++◌, ℕ, zero, suc, ◌≤◌, leb, eqb}
 

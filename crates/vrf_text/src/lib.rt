@@ -36,35 +36,35 @@ const HIGH_4: u64 = 0x8080_8080;
 const LOW: u64 = 0x0101_0101_0101_0101;
 
 // A text that was read: its length in bytes and the cursor after it.
-#[derive(Drop)]
+#[derive(Clone, Copy)]
 pub enum Text {
     Read(u32, Cursor),
     Refused(Refusal),
 }
 
 // The answer to a caller's text.
-#[derive(Drop)]
+#[derive(Clone, Copy)]
 pub enum Caller {
     Accepted,
     Refused(Refusal),
 }
 
 // A character and the number of its UTF-16 units; 0 units mean that there is no character.
-#[derive(Drop)]
+#[derive(Clone, Copy)]
 struct Char {
     code: u32,
     units: usize,
 }
 
 // The length of units as UTF-8 bytes, or bad text.
-#[derive(Drop)]
+#[derive(Clone, Copy)]
 enum Measured {
     Bytes(u32),
     Bad,
 }
 
 // A text's length word, decoded: no text, n bytes of UTF-8, or n units of UTF-16.
-#[derive(Drop)]
+#[derive(Clone, Copy)]
 enum Length {
     Empty,
     Bytes(u32),
@@ -73,7 +73,7 @@ enum Length {
 
 // A text that was tested and not yet copied, with the cursor after it: n bytes of UTF-8 at a cursor, or n units of UTF-16 at a cursor with
 // the number of their bytes as UTF-8.
-#[derive(Drop)]
+#[derive(Clone, Copy)]
 enum FoundText {
     Bytes(Cursor, u32, Cursor),
     Units(Cursor, u32, u32, Cursor),

@@ -72,7 +72,7 @@ fn put_few(m: &mut [u8], at: usize, t: &[u8])
 }
 
 // Eight bytes of a text, all read before any is written.
-#[derive(Drop)]
+#[derive(Clone, Copy)]
 struct Eight {
     b0: u8,
     b1: u8,

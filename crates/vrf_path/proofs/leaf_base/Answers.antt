@@ -8,28 +8,21 @@ use borrow.Author.Rules.{rules}
 use Rattle.vrf_path.specs.Toggle.{class_net_cache}
 use Rattle.vrf_path.specs.Base.{class_base}
 use Rattle.vrf_path.proofs.Laws.Base.{leaf-by-e, leaf-by-others}
-use Rattle.vrf_path.proofs.leaf_base.Statement.{statement}
-use Rattle.vrf_path.proofs.leaf_base.Tie as tie
+use Rattle.vrf_path.proofs.leaf_base.Goals as goal
 
-slice-aggregate-class-base : tie.Need-slice_bounds-class_base-end
-slice-aggregate-class-base c = rw length-take (omega (arith, c.cut_at-n.ensures.1))
+pub slice_bounds-class_base-end : goal.slice_bounds-class_base-end
+slice_bounds-class_base-end c = rw length-take (omega (arith, c.cut_at-n.ensures.1))
 
-returns : tie.Need-returns-then-last_byte-eq101
+pub returns-then-last_byte-eq101 : goal.returns-then-last_byte-eq101
 unfolding class_net_cache
-returns c =
+returns-then-last_byte-eq101 c =
     let l = c.args.l.now in
     let n = c.cut_at-n in
     let r = c.class_base.result in
     let few : r ≤ n.result = omega (arith, c.class_base.ensures.1, length-take n.result l) in
     (sym (take-take r n.result l few) ∙ c.class_base.ensures.0 ∙ ap class_base n.ensures.0 ∙ leaf-by-e l, omega (arith, few, n.ensures.1))
 
-returns-2 : tie.Need-returns
-returns-2 c =
+pub returns : goal.returns
+returns c =
     let l = c.args.l.now in
     (c.class_base-2.ensures.0 ∙ leaf-by-others l (λ e. c.if-last_byte-eq101.false (c.last_byte.ensures ∙ e)), c.class_base-2.ensures.1)
-
-pub leaf_base_spec : {M : Type 1} → statement M
-leaf_base_spec =
-    tie.close
-    (tie.spec
-    (λ c κs. search rules) (λ c κs. search rules) slice-aggregate-class-base (λ c κs. search rules) returns (λ c κs. search rules) returns-2)

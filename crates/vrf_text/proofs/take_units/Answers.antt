@@ -5,23 +5,22 @@ use lib.ListN.{length}
 use borrow.Author.Rules.{rules}
 use Rattle.vrf_bitio.specs.Pasted.{pasted}
 use Rattle.vrf_text.proofs.Takes.{target-short, space, one-text}
-use Rattle.vrf_text.proofs.take_units.Statement.{statement}
-use Rattle.vrf_text.proofs.take_units.Tie as tie
+use Rattle.vrf_text.proofs.take_units.Goals as goal
 
-returns : tie.Need-returns-then-space-len
-returns c =
+pub returns-then-space-len : goal.returns-then-space-len
+returns-then-space-len c =
     λ v e. (
       target-short c.args.s.now _ (length c.args.out.now) v _
           (c.requires.1.1.1 ∙ ap length (one-text c.requires.1.1.0 e)) c.if-space-len.true c.target_short.ensures,
       refl,
     )
 
-put-units-requires : tie.Need-put_units-requires
-put-units-requires c κs =
+pub put_units-requires : goal.put_units-requires
+put_units-requires c =
     (omega arith, c.requires.0, record { text = c.requires.1.0; is = c.requires.1.1.0; fits = omega arith })
 
-returns-2 : tie.Need-returns
-returns-2 c =
+pub returns : goal.returns
+returns c =
     λ v e. let q = c.requires.1.1.1 ∙ ap length (one-text c.requires.1.1.0 e) in (
       v,
       (
@@ -32,10 +31,3 @@ returns-2 c =
         ),
       ),
     )
-
-pub take_units_spec : {M : Type 1} → statement M
-take_units_spec =
-    tie.close
-    (tie.spec
-    (λ c κs. search rules) returns (λ c. search rules) (λ c. search rules) (λ c. search rules) put-units-requires
-    (λ c. search rules) returns-2)

@@ -5,19 +5,14 @@ use Rattle.vrf_model.specs.Lookup.{Claim}
 use Rattle.vrf_table.specs.Inner.TextIndex.{leaf_bucket}
 use Rattle.vrf_store.specs.Inner.Groups.{unless_shared}
 use Rattle.vrf_store.proofs.Laws.Groups.Buckets.{not-shared}
-use Rattle.vrf_store.proofs.groups.joined_bucket.Statement.{statement}
-use Rattle.vrf_store.proofs.groups.joined_bucket.Tie as tie
+use Rattle.vrf_store.proofs.groups.joined_bucket.Goals as goal
 
-returns : tie.Need-returns-then-found-eq-AMBIGUOUS
+pub returns-then-found-eq-AMBIGUOUS : goal.returns-then-found-eq-AMBIGUOUS
 unfolding unless_shared
-returns c = rw (← c.leaf_claim-found.ensures.1, c.if-found-eq-AMBIGUOUS.true)
+returns-then-found-eq-AMBIGUOUS c = rw (← c.leaf_claim-found.ensures.1, c.if-found-eq-AMBIGUOUS.true)
 
-returns-2 : tie.Need-returns
-returns-2 c =
+pub returns : goal.returns
+returns c =
     let x = c.args in
     let r = c.leaf_claim-found in
     ap some r.ensures.0 ∙ not-shared r.result.claim (leaf_bucket x.b x.l.now) c.if-found-eq-AMBIGUOUS.false ∙ ap (λ (v : Claim). unless_shared v (leaf_bucket x.b x.l.now)) r.ensures.1
-
-pub joined_bucket_spec : {M : Type 1} → statement M
-joined_bucket_spec =
-    tie.close (tie.spec (λ c κs. search rules) returns returns-2)
