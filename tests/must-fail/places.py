@@ -145,8 +145,8 @@ def fails(log, crate, place, read):
         *above, name = place.where.split('::')
         folder = '/'.join([*above, rf'\+?{name}'])
         errors = errors_in(log, rf'proofs/{folder}/(?:Proof|Answers|Invariants)\.antt', '', None)
-    # The names of goals have the tests of the code in them, so a wrong test takes names away too. One fact that fails beside them is enough.
-    return any(not WAITS.search(error) and not MISFITS.search(error) for error in errors)
+    errors = [error for error in errors if not WAITS.search(error)]
+    return bool(errors) and not any(MISFITS.search(error) for error in errors)
 
 
 def edits_of(root, names):

@@ -235,6 +235,7 @@ cat >"$scratch/log" <<'LOG'
 ./proofs/waits/Proof.antt:5:6: error: 2 declarations that depend on `close`, which was not admitted, were not checked: waits_spec, close-2
 ./proofs/Cursor/misfit/Answers.antt:7:8: error: `add`: record `Rattle.some.proofs.Cursor.misfit.Lts.Start` has no field `sum`
   the fields that can be named here are `before`, `args`
+./proofs/Cursor/misfit/Answers.antt:9:9: error: `returns`: the two types differ
 ./proofs/Laws.antt:2:7: error: `law`: the two types differ
 ./proofs/Laws.antt:5:9: error: 1 declaration that depends on `law`, which was rejected, was not checked: law-2
 ./proofs/Laws.antt:14:12: error: `laws`: the two types differ
