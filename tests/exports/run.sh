@@ -12,7 +12,7 @@ cd "${1:-$here/../..}"
 # Every crate of crates.txt is on one of these two lists.
 exported='vrf_bitio vrf_bitreader vrf_text vrf_path vrf_names vrf_schema vrf_tally vrf_host'
 inner='vrf_words vrf_model vrf_table vrf_store vrf_check vrf_cache vrf_reader vrf_writer vrf_checkpoint vrf_script vrf_script_calls vrf_replay
-vrf_replay_c replay_io replay vectors corrupt tally bench_loops'
+vrf_replay_c vrf_input replay_io replay vectors corrupt tally bench_loops'
 # The crate whose functions are the calls, and the file that lists the calls.
 calls_crate=vrf_schema
 calls_file=crates/vrf_model/specs/Calls.antt

@@ -1,26 +1,8 @@
 // Reads a block from standard input, and prints its seven counts or its refusal.
 #![tactic(auto)]
 
-ghost use Rattle.std.specs.Prelude.{◌≤◌, length, IfOk};
-
 use std::io;
-use std::io::Read;
-
-// Reads until `buf` is full or the input ends. Answers how many bytes it read.
-fn read_full(rt: &impl Input, buf: &mut [u8]) -> io::Result<usize>
-    ensures { IfOk result (λ n. n ≤ length buf.new) }
-{
-    let mut reader = rt.reader();
-    let mut done = 0;
-    while done < buf.len() {
-        let n = reader.read(&mut buf[done..])?;
-        if n == 0 {
-            break;
-        }
-        done += n;
-    }
-    Ok(done)
-}
+use vrf_input::read_full;
 
 fn run(rt: &(impl Input + Print), input: &mut [u8], out: &mut [u8; 512]) -> io::Result<()> {
     let n = read_full(rt, input)?;

@@ -248,16 +248,16 @@ module _ (m : List ℕ) (good : WellFormed m) where
 -- ---- the memory after the moves and the writes
 
 -- what the code reads before it moves texts: the halves, the row count of each table, and where the rows of groups and fields begin
-pub record CompactionStart (m : List ℕ) (from to guids groups fields groupsAt fields_at : ℕ) : Type 0 where
+pub record CompactionStart (m : List ℕ) (from to guids groups fields groups_at fields_at : ℕ) : Type 0 where
   pub old-half : from ≡ half_at (allowances_of m) (header_of m).half
   pub new-half : to ≡ half_at (allowances_of m) (1 - (header_of m).half)
   pub guid-count : guids ≡ (header_of m).guids
   pub group-count : groups ≡ (header_of m).groups
   pub field-count : fields ≡ (header_of m).fields
-  pub group-rows : groupsAt ≡ Layout.group_rows_at (allowances_of m)
+  pub group-rows : groups_at ≡ Layout.group_rows_at (allowances_of m)
   pub field-rows : fields_at ≡ Layout.field_rows_at (allowances_of m)
 
-module _ {m : List ℕ} (good : WellFormed m) {from to guids groups fields groupsAt fields_at : ℕ} (found : CompactionStart m from to guids groups fields groupsAt fields_at) where
+module _ {m : List ℕ} (good : WellFormed m) {from to guids groups fields groups_at fields_at : ℕ} (found : CompactionStart m from to guids groups fields groups_at fields_at) where
   pub first-movable : Movable m 32 guids from to 0 (allowances_of m).text
   first-movable = rw (found.guid-count, found.old-half, found.new-half) (guids-movable m good)
 
@@ -265,10 +265,10 @@ module _ {m : List ℕ} (good : WellFormed m) {from to guids groups fields group
     first : TextsMoved m m₁ 32 (header_of m).guids (old m good) (new m good) 0 u₁
     first = rw (found.guid-count, found.old-half, found.new-half) at d₁
 
-    pub second-movable : Movable m₁ groupsAt groups from to u₁ (allowances_of m₁).text
+    pub second-movable : Movable m₁ groups_at groups from to u₁ (allowances_of m₁).text
     second-movable = rw (found.group-rows, found.group-count, found.old-half, found.new-half) (groups-movable m good first)
 
-    module _ {m₂ : List ℕ} {u₂ : ℕ} (d₂ : TextsMoved m₁ m₂ groupsAt groups from to u₁ u₂) where
+    module _ {m₂ : List ℕ} {u₂ : ℕ} (d₂ : TextsMoved m₁ m₂ groups_at groups from to u₁ u₂) where
       second : TextsMoved m₁ m₂ (Layout.group_rows_at (allowances_of m)) (header_of m).groups (old m good) (new m good) u₁ u₂
       second = rw (found.group-rows, found.group-count, found.old-half, found.new-half) at d₂
 

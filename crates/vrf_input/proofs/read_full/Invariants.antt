@@ -1,6 +1,6 @@
 -- Each turn of the loop leaves less to fill.
 use Rattle.std.proofs.Common.{◌-◌, ◌≤◌, length}
-use Rattle.tally.proofs.read_full.Given as goal
+use Rattle.vrf_input.proofs.read_full.Given as goal
 
 abbrev pub invariant-loop-done : goal.invariant-loop-done
 invariant-loop-done g l = l.done ≤ length l.buf
