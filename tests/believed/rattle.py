@@ -5,11 +5,16 @@ from typing import NamedTuple
 from antt import blank, imports_of, MODULE_LINE
 
 # What a function's text says to the prover. Only `requires` and `ensures` are its contract; Rattle has loop invariants and measures in
-# `proofs/`, and they would be read here if they were in the code. A clause can have a star and a name: `ensures low { .. }`.
+# `proofs/`, and they would be read here if they were in the code. A clause can have a star and a name: `ensures low { .. }`. A ghost
+# parameter is no part of what is promised: its caller picks it.
 CONTRACT = ('requires', 'ensures')
-CLAUSE = re.compile(r'\b(requires|ensures|invariant|decreases|measure)\b\*?(?:\s+\w+)?\s*\{')
-# What a type, a trait or an `impl` says to the prover besides. No code has such a member, and this reader does not know them.
-GHOST = re.compile(r'\bghost\s+(?!use\b)\w+')
+CLAUSE = re.compile(r'\b(?:(requires|ensures|invariant|decreases|measure)\*?(?:\s+\w+)?|(ghost)\s+\w+\s*:)\s*\{')
+# What a type or an `impl` says to the prover besides: the facts that a type carries, and what an `impl` promises of a trait's functions.
+# It is read as a contract of the type or the `impl`.
+GHOST = re.compile(r'\bghost\s+(?!use\b)(\w+)\s*[:=]\s*\{')
+# No code has a ghost word of another form, and this reader does not know it.
+UNKNOWN_GHOST = re.compile(r'\bghost\s+(?!use\b)\w+(?!\w)(?!\s*[:=]\s*\{)')
+ITEM = re.compile(r'(?P<pub>\bpub\s+)?\b(?P<kind>struct|impl|trait)\b[^{;]*\{')
 COMMENT_OR_TEXT = re.compile(r"""//[^\n]*|/\*.*?\*/|b?"(?:\\.|[^"\\])*"|b?'(?:\\x..|\\.|[^'\\])'""", re.DOTALL)
 FUNCTION = re.compile(r'(?P<pub>\bpub(?:\([^)]*\))?\s+)?(?:(?:extern\s*""|const|unsafe)\s+)*\bfn\s+(?P<name>\w+)')
 # Up to the next brace or `;` that is not in the type of an array.
@@ -60,7 +65,7 @@ def clauses_in(text):
     found, at = [], 0
     while match := CLAUSE.search(text, at):
         at = closing(text, match.end() - 1)
-        found.append((match[1], text[match.end() : at - 1]))
+        found.append((match[1] or match[2], text[match.end() : at - 1]))
     return found
 
 
@@ -99,6 +104,21 @@ def functions_of(text, exported):
     return found
 
 
+def members_of(text, exported):
+    """The ghost members of the types and `impl` blocks of a file, each as a function with one promise."""
+    found = []
+    for item in ITEM.finditer(text):
+        inside = text[item.end() : closing(text, item.end() - 1) - 1]
+        fields = {'self', *PARAMETER.findall(inside.replace('\n', ' '))} if item['kind'] == 'struct' else set()
+        public = exported and (item['kind'] == 'impl' or bool(item['pub']))
+        covered = [(match.start(), function_end(inside, closing(inside, parameters_start(inside, match.end())))) for match in FUNCTION.finditer(inside)]
+        for ghost in GHOST.finditer(inside):
+            if not any(start <= ghost.start() < end for start, end in covered):
+                text_of = inside[ghost.end() : closing(inside, ghost.end() - 1) - 1]
+                found.append(Function(ghost[1], public, fields, [('ensures', text_of)]))
+    return found
+
+
 def exported_files(folder):
     """The files of a crate's code whose modules can be named from outside: `pub mod` leads to them from `lib.rt`.
 
@@ -121,9 +141,10 @@ def sources_of(folder, exported):
     for path in sorted(folder.rglob('*.rt')):
         text = without_comments(path.read_text('utf8'))
         try:
-            if ghost := GHOST.search(text):
+            if ghost := UNKNOWN_GHOST.search(text):
                 raise ValueError(f'line {text.count(chr(10), 0, ghost.start()) + 1}: tests/believed does not read `{ghost.group()}`')
-            found.append(Source(path, imports_of(text), functions_of(text, path in public)))
+            public_file = path in public
+            found.append(Source(path, imports_of(text), functions_of(text, public_file) + members_of(text, public_file)))
         except ValueError as error:
             raise SystemExit(f'believed: {folder.parent.name}: src/{path.relative_to(folder)}: {error}') from error
     return found

@@ -8,7 +8,7 @@ import rattle
 from names import References, Scope
 
 # The crates whose public functions anyone may call, as in tests/exports/run.sh.
-EXPORTED = 'vrf_bitio vrf_bitreader vrf_text vrf_path vrf_names vrf_schema vrf_tally vrf_host'.split()
+EXPORTED = 'vrf_bitio vrf_text vrf_path vrf_names vrf_schema vrf_tally vrf_host'.split()
 # Modules whose public functions count as inner although `pub mod` leads to them, as (crate, file). There is none: the functions of
 # vrf_schema's checked.rt are exported as long as lib.rt says `pub mod checked`, and inner by themselves where it says `mod checked`.
 INNER_ALTHOUGH_PUBLIC = ()

@@ -1,7 +1,7 @@
 #!/usr/bin/env bash
 # Checks the exported functions: each public function of an exported crate has a contract (`ensures`) and may be called on any input (no
-# `requires`). For each call, exactly one function of vrf_schema has its contract, as `CallContract`, `LookupContract` or
-# `TextLookupContract`: so the lists of calls in demand 3 are complete. A call is a constructor of `Call`, or of one of the types of lookups
+# `requires`). For each call, exactly one function of vrf_schema has its contract, as `CallContract` or
+# `LookupContract`: so the lists of calls in demand 3 are complete. A call is a constructor of `Call`, or of one of the types of lookups
 # that `Lookup` names. With a folder as its argument it checks that tree; `selftest.sh` uses this.
 set -euo pipefail
 export LC_ALL=C
@@ -10,7 +10,7 @@ here=$(cd "$(dirname "$0")" && pwd)
 cd "${1:-$here/../..}"
 
 # Every crate of crates.txt is on one of these two lists.
-exported='vrf_bitio vrf_bitreader vrf_text vrf_path vrf_names vrf_schema vrf_tally vrf_host'
+exported='vrf_bitio vrf_text vrf_path vrf_names vrf_schema vrf_tally vrf_host'
 inner='vrf_words vrf_model vrf_table vrf_store vrf_check vrf_cache vrf_reader vrf_writer vrf_checkpoint vrf_script vrf_script_calls vrf_replay
 vrf_replay_c vrf_input replay_io replay vectors corrupt tally bench_loops'
 # The crate whose functions are the calls, and the file that lists the calls.
@@ -44,7 +44,7 @@ declare -A functions=()
 
 # Adds a function to the calls that its `ensures` names.
 add_function() { # FILE FUNCTION ENSURES
-    local rest=$3 call contract="(^|[^A-Za-z0-9_-])(Call|Lookup|TextLookup)Contract +\\(? *(($wrappers) +\\(? *)?([^ ()]*)(.*)"
+    local rest=$3 call contract="(^|[^A-Za-z0-9_-])(Call|Lookup)Contract +\\(? *(($wrappers) +\\(? *)?([^ ()]*)(.*)"
     while [[ $rest =~ $contract ]]; do
         call=${BASH_REMATCH[5]} rest=${BASH_REMATCH[6]}
         among "$call" "$calls" || fault "$calls_crate: $1: $2 has the contract of '$call', which is no call"

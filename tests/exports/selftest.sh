@@ -64,8 +64,8 @@ FAULTS
 wrong 'an exported C function without a contract' crates/vrf_names/src/lib.rt '$a\pub extern "C" fn more(x: u8) -> u8 {\n    x\n}' <<'FAULTS'
 exports: vrf_names: src/lib.rt: more has no ensures
 FAULTS
-wrong 'a method with a requires' crates/vrf_bitio/src/lib.rt '/^ +pub fn read_bit\(/a\        requires { 1 ≤ length s.now }' <<'FAULTS'
-exports: vrf_bitio: src/lib.rt: Cursor::read_bit has a requires
+wrong 'a method with a requires' crates/vrf_bitio/src/lib.rt '/^ +pub fn read_bit\(/a\        requires { 1 ≤ self.old.count }' <<'FAULTS'
+exports: vrf_bitio: src/lib.rt: BitReader::read_bit has a requires
 FAULTS
 wrong 'a function below one without a body' crates/vrf_names/src/lib.rt '$a\trait It {\n    fn one(self) -> [u8; 4]\n        ensures { length result ≡ 4 };\n}\n\npub fn more(x: [u8; 4]) -> u8 {\n    x[0]\n}' <<'FAULTS'
 exports: vrf_names: src/lib.rt: more has no ensures

@@ -4,26 +4,27 @@ ghost use Rattle.std.specs.Prelude.{◌≤◌, length};
 ghost use Rattle.vrf_store.specs.Inner.WellFormed.{WellFormed};
 
 use crate::whole;
+use vrf_bitio::Refusal;
 use vrf_checkpoint::block;
-use vrf_model::{Acted, CheckpointTables, Ran, Tables, Wrote};
-use vrf_reader::{ReadNumber, fields};
+use vrf_model::{CheckpointTables, Ran};
+use vrf_reader::fields;
 use vrf_schema::calls::open;
 use vrf_schema::{reading, writing};
 use vrf_writer::write;
 
 // The sum of six of a block's counts. The Rust must give the same sum.
 fn summed(t: CheckpointTables) -> u64 {
-    let records = std::num::wrapping_add_u64(t.guid_count as u64, t.group_count as u64);
-    let paths = std::num::wrapping_add_u64(t.literal_paths as u64, t.resolved_path_indices as u64);
-    let rest = std::num::wrapping_add_u64(t.exported_fields, t.frame_offset as u64);
-    std::num::wrapping_add_u64(std::num::wrapping_add_u64(records, paths), rest)
+    let records = (t.guid_count as u64).wrapping_add(t.group_count as u64);
+    let paths = (t.literal_paths as u64).wrapping_add(t.resolved_path_indices as u64);
+    let rest = t.exported_fields.wrapping_add(t.frame_offset as u64);
+    records.wrapping_add(paths).wrapping_add(rest)
 }
 
 // The sum of the counts that a block reader answers, 0 if it is refused.
-fn counted(t: Tables) -> u64 {
+fn counted(t: Result<CheckpointTables, Refusal>) -> u64 {
     match t {
-        Tables::Read(t) => summed(t),
-        Tables::Refused(_) => 0,
+        Ok(t) => summed(t),
+        Err(_) => 0,
     }
 }
 
@@ -32,7 +33,7 @@ fn read_unchecked(m: &mut [u8], s: &[u8]) -> u64
     requires { WellFormed m.old }
 {
     let mut scratch = [0u8; 4096];
-    counted(block::read_checkpoint_tables(s, whole(s), m, &mut scratch))
+    counted(block::read_checkpoint_tables(&mut whole(s), m, &mut scratch))
 }
 
 // Opens a book and reads a block into it. Answers the sum of its counts.
@@ -47,8 +48,8 @@ pub extern "C" fn bench_read_block(
     checked: bool,
 ) -> u64 {
     match open(m, guids, groups, fields, text, guids) {
-        Acted::Refused(_) => 0,
-        Acted::Done => {
+        Err(_) => 0,
+        Ok(()) => {
             if checked {
                 return counted(reading::read_checkpoint_tables(m, s, 0, whole(s).count as u64));
             }
@@ -67,10 +68,10 @@ fn runs_checked(m: &mut [u8], s: &[u8], n: u32) -> u64 {
             return sum;
         }
         match reading::read_net_field_exports(m, s, first, end - first) {
-            Ran::Refused(_) => return sum,
-            Ran::Ended(exports, pos) => {
-                sum = std::num::wrapping_add_u64(sum, exports as u64);
-                first = std::num::wrapping_add_u64(first, pos as u64);
+            Err(_) => return sum,
+            Ok(Ran { count, pos }) => {
+                sum = sum.wrapping_add(count as u64);
+                first = first.wrapping_add(pos as u64);
             }
         }
     }
@@ -81,15 +82,12 @@ fn runs_checked(m: &mut [u8], s: &[u8], n: u32) -> u64 {
 fn runs_unchecked(m: &mut [u8], s: &[u8], scratch: &mut [u8], n: u32) -> u64
     requires { WellFormed m.old × (4096 ≤ length scratch.old) }
 {
-    let mut c = whole(s);
+    let mut reader = whole(s);
     let mut sum: u64 = 0;
     for _ in 0..n {
-        match fields::read_net_field_exports(s, c, m, scratch) {
-            ReadNumber::Refused(_) => return sum,
-            ReadNumber::Of(exports, next) => {
-                sum = std::num::wrapping_add_u64(sum, exports as u64);
-                c = next;
-            }
+        match fields::read_net_field_exports(&mut reader, m, scratch) {
+            Err(_) => return sum,
+            Ok(exports) => sum = sum.wrapping_add(exports as u64),
         }
     }
     sum
@@ -107,21 +105,13 @@ pub extern "C" fn bench_read_runs(m: &mut [u8], s: &[u8], n: u32, checked: bool)
     runs_unchecked(m, s, &mut scratch, n)
 }
 
-// The length of a written block, 0 if the writer is refused.
-fn length_of(w: Wrote) -> u64 {
-    match w {
-        Wrote::Length(n) => n,
-        Wrote::Refused(_) => 0,
-    }
-}
-
-// Writes a book. As with `bench_look`, the caller checks the book first, with `bench_check`.
+// Writes a book, and answers the length of the block, 0 if the writer is refused. As with `bench_look`, the caller checks the book first, with `bench_check`.
 #[unsafe(no_mangle)]
 pub extern "C" fn bench_write_block(m: &[u8], out: &mut [u8], checked: bool) -> u64
     requires { WellFormed m.now }
 {
     if checked {
-        return length_of(writing::write_checkpoint_tables(m, out));
+        return writing::write_checkpoint_tables(m, out).unwrap_or(0);
     }
-    length_of(write::write_checkpoint_tables(m, out))
+    write::write_checkpoint_tables(m, out).unwrap_or(0)
 }

@@ -9,11 +9,9 @@ use vrf_cache::groups::add_export_group;
 use vrf_cache::guids::set_net_guid_path;
 use vrf_cache::resolve::{resolve_cnc_for_instance_name, unique_leaf_match};
 use vrf_check::check;
-use vrf_model::{Acted, Added, Placed};
 use vrf_schema::calls::open;
 use vrf_store::look::{find_guid, find_index, find_path_place, guid_path};
-use vrf_table::Entry;
-use vrf_text::{Caller, check_text};
+use vrf_text::check_text;
 use vrf_words::get32;
 
 // A row of a sheet. A call has a kind, numbers and a text. The numbers are a GUID and its outer (kind 0), a group's index and slot count
@@ -62,31 +60,21 @@ fn set_guid(m: &mut [u8], r: Row, path: &[u8]) -> bool
     requires { WellFormed m.old × IsText path.now }
     ensures { WellFormed m.new }
 {
-    match set_net_guid_path(m, r.a, path, r.b) {
-        Acted::Done => true,
-        Acted::Refused(_) => false,
-    }
+    set_net_guid_path(m, r.a, path, r.b).is_ok()
 }
 
 fn add_group(m: &mut [u8], r: Row, path: &[u8]) -> bool
     requires { WellFormed m.old × IsText path.now }
     ensures { WellFormed m.new }
 {
-    match add_export_group(m, path, r.a, r.b % 65_537) {
-        Added::At(_) => true,
-        Added::Refused(_) => false,
-    }
+    add_export_group(m, path, r.a, r.b % 65_537).is_ok()
 }
 
 fn set_field(m: &mut [u8], r: Row, name: &[u8]) -> bool
     requires { WellFormed m.old × IsText name.now }
     ensures { WellFormed m.new }
 {
-    match set_field_on_group(m, r.a, r.b, r.c, name) {
-        Placed::Placed => true,
-        Placed::NotPlaced => false,
-        Placed::Refused(_) => false,
-    }
+    set_field_on_group(m, r.a, r.b, r.c, name).unwrap_or(false)
 }
 
 fn set(m: &mut [u8], r: Row, text: &[u8]) -> bool
@@ -107,8 +95,8 @@ fn set_tested(m: &mut [u8], r: Row, text: &[u8]) -> bool
     ensures { WellFormed m.new }
 {
     match check_text(text) {
-        Caller::Accepted => set(m, r, text),
-        Caller::Refused(_) => false,
+        Ok(()) => set(m, r, text),
+        Err(_) => false,
     }
 }
 
@@ -116,12 +104,11 @@ fn set_tested(m: &mut [u8], r: Row, text: &[u8]) -> bool
 fn set_all(m: &mut [u8], sheet: &[u8], texts: &[u8]) -> u64
     requires { WellFormed m.old }
 {
-    let n = sheet.len() / 24;
     let mut taken: u64 = 0;
-    for i in 0..n {
+    for i in 0..sheet.len() / 24 {
         let r = row_at(sheet, i);
         if set_tested(m, r, text_of(texts, r)) {
-            taken = std::num::wrapping_add_u64(taken, 1);
+            taken = taken.wrapping_add(1);
         }
     }
     taken
@@ -139,8 +126,8 @@ pub extern "C" fn bench_fill(
     texts: &[u8],
 ) -> u64 {
     match open(m, guids, groups, fields, text, 0) {
-        Acted::Done => set_all(m, sheet, texts),
-        Acted::Refused(_) => 0,
+        Ok(()) => set_all(m, sheet, texts),
+        Err(_) => 0,
     }
 }
 
@@ -153,11 +140,8 @@ pub extern "C" fn bench_check(m: &[u8]) -> bool
 }
 
 // 1 if a place was found, otherwise 0.
-fn hit(e: Entry) -> u64 {
-    match e {
-        Entry::At(_) => 1,
-        Entry::Nowhere => 0,
-    }
+fn hit(place: Option<u32>) -> u64 {
+    u64::from(place.is_some())
 }
 
 // The length of a GUID's path. The Rust's lookup answers the path itself, so the path is read here too.
@@ -165,67 +149,18 @@ fn path_length(m: &[u8], guid: u32) -> u64
     requires { WellFormed m.now }
 {
     match find_guid(m, guid) {
-        Entry::At(i) => guid_path(m, i).len() as u64,
-        Entry::Nowhere => 0,
+        Some(i) => guid_path(m, i).len() as u64,
+        None => 0,
     }
 }
 
-// The lookups of a sheet, with one loop for each kind.
-
-fn paths_of_guids(m: &[u8], sheet: &[u8]) -> u64
-    requires { WellFormed m.now }
+// The sum of what `look` answers for the rows of a sheet.
+fn sum_of<F: Fn(Row) -> u64>(sheet: &[u8], look: F) -> u64
+    requires { F.IsAlwaysCallable look }
 {
-    let n = sheet.len() / 24;
     let mut sum: u64 = 0;
-    for i in 0..n {
-        sum = std::num::wrapping_add_u64(sum, path_length(m, row_at(sheet, i).a));
-    }
-    sum
-}
-
-fn by_index(m: &[u8], sheet: &[u8]) -> u64
-    requires { WellFormed m.now }
-{
-    let n = sheet.len() / 24;
-    let mut sum: u64 = 0;
-    for i in 0..n {
-        sum = std::num::wrapping_add_u64(sum, hit(find_index(m, row_at(sheet, i).a)));
-    }
-    sum
-}
-
-fn by_path(m: &[u8], sheet: &[u8], texts: &[u8]) -> u64
-    requires { WellFormed m.now }
-{
-    let n = sheet.len() / 24;
-    let mut sum: u64 = 0;
-    for i in 0..n {
-        let e = find_path_place(m, text_of(texts, row_at(sheet, i)));
-        sum = std::num::wrapping_add_u64(sum, hit(e));
-    }
-    sum
-}
-
-fn by_leaf(m: &[u8], sheet: &[u8], texts: &[u8]) -> u64
-    requires { WellFormed m.now }
-{
-    let n = sheet.len() / 24;
-    let mut sum: u64 = 0;
-    for i in 0..n {
-        let e = unique_leaf_match(m, text_of(texts, row_at(sheet, i)));
-        sum = std::num::wrapping_add_u64(sum, hit(e));
-    }
-    sum
-}
-
-fn by_instance(m: &[u8], sheet: &[u8], texts: &[u8]) -> u64
-    requires { WellFormed m.now }
-{
-    let n = sheet.len() / 24;
-    let mut sum: u64 = 0;
-    for i in 0..n {
-        let e = resolve_cnc_for_instance_name(m, text_of(texts, row_at(sheet, i)));
-        sum = std::num::wrapping_add_u64(sum, hit(e));
+    for i in 0..sheet.len() / 24 {
+        sum = sum.wrapping_add(look(row_at(sheet, i)));
     }
     sum
 }
@@ -236,10 +171,13 @@ pub extern "C" fn bench_look(m: &[u8], what: u32, sheet: &[u8], texts: &[u8]) ->
     requires { WellFormed m.now }
 {
     match what {
-        0 => paths_of_guids(m, sheet),
-        1 => by_index(m, sheet),
-        2 => by_path(m, sheet, texts),
-        3 => by_leaf(m, sheet, texts),
-        _ => by_instance(m, sheet, texts),
+        0 => sum_of(sheet, |r| path_length(m, r.a)),
+        1 => sum_of(sheet, |r| hit(find_index(m, r.a))),
+        2 => sum_of(sheet, |r| hit(find_path_place(m, text_of(texts, r)))),
+        3 => sum_of(sheet, |r| hit(unique_leaf_match(m, text_of(texts, r)))),
+        _ => sum_of(
+            sheet,
+            |r| hit(resolve_cnc_for_instance_name(m, text_of(texts, r))),
+        ),
     }
 }

@@ -2,74 +2,44 @@
 // as long as the book.
 ghost use Rattle.std.specs.Prelude.{◌<◌, length};
 
-use crate::totals::{Totals, try_all};
+use crate::totals::{Broken, Totals, try_all};
 use vrf_words::put_part;
 
 // How many random memories are made of each kind.
 const MANY: u32 = 5_000;
 
-// A different byte for each step.
-fn other(own: u8, step: u32) -> u8
-    requires { step < 256 }
-{
-    std::num::wrapping_add_u8(own, step as u8)
-}
-
 // Gives the byte at `at` every other value, and then its own value again.
-fn each_value(s: &mut [u8], work: &mut [u8], at: usize, totals: Totals) -> Totals
+fn each_value(s: &mut [u8], work: &mut [u8], at: usize, t: &mut Totals) -> Result<(), Broken>
     requires { at < length s.old }
 {
-    let mut t = totals;
     let own = s[at];
-    for step in 1..256 {
-        if t.broken {
-            return t;
-        }
-        s[at] = other(own, step);
-        t = try_all(s, work, t);
+    for step in 1..=255 {
+        s[at] = own.wrapping_add(step);
+        try_all(s, work, t)?;
     }
     s[at] = own;
-    t
+    Ok(())
 }
 
 // Makes every change of one byte.
-fn each_byte(s: &mut [u8], work: &mut [u8], totals: Totals) -> Totals {
-    let mut t = totals;
+fn each_byte(s: &mut [u8], work: &mut [u8], t: &mut Totals) -> Result<(), Broken> {
     for at in 0..s.len() {
-        if t.broken {
-            return t;
-        }
-        t = each_value(s, work, at, t);
+        each_value(s, work, at, t)?;
     }
-    t
-}
-
-// Tries the first n bytes as a memory.
-fn cut(s: &[u8], work: &mut [u8], n: usize, t: Totals) -> Totals {
-    if s.len() < n {
-        return t;
-    }
-    if work.len() < n {
-        return t;
-    }
-    try_all(&s[..n], &mut work[..n], t)
+    Ok(())
 }
 
 // Cuts the book to every shorter length.
-fn each_cut(s: &[u8], work: &mut [u8], totals: Totals) -> Totals {
-    let mut t = totals;
-    for n in 0..s.len() {
-        if t.broken {
-            return t;
-        }
-        t = cut(s, work, n, t);
+fn each_cut(s: &[u8], work: &mut [u8], t: &mut Totals) -> Result<(), Broken> {
+    for n in 0..s.len().min(work.len()) {
+        try_all(&s[..n], &mut work[..n], t)?;
     }
-    t
+    Ok(())
 }
 
 // The next number of a pseudorandom sequence that contains every 32-bit number. The high bits are more random than the low bits.
 fn next(seed: u32) -> u32 {
-    (((seed as u64) * 1_664_525 + 1_013_904_223) % 0x1_0000_0000) as u32
+    seed.wrapping_mul(1_664_525).wrapping_add(1_013_904_223)
 }
 
 fn any_byte(seed: u32) -> u8 {
@@ -81,10 +51,9 @@ fn change_one(s: &mut [u8], seed: u32) -> u32 {
     let x = next(seed);
     let at = (x / 0x40_0000) as usize;
     let y = next(x);
-    if s.len() <= at {
-        return y;
+    if let Some(byte) = s.get_mut(at) {
+        *byte = any_byte(y);
     }
-    s[at] = any_byte(y);
     y
 }
 
@@ -100,9 +69,9 @@ fn change_some(s: &mut [u8], seed: u32) -> u32 {
 // Makes every byte from place `from` on random.
 fn scatter(s: &mut [u8], from: usize, seed: u32) -> u32 {
     let mut x = seed;
-    for k in from..s.len() {
+    for byte in s.iter_mut().skip(from) {
         x = next(x);
-        s[k] = any_byte(x);
+        *byte = any_byte(x);
     }
     x
 }
@@ -118,12 +87,9 @@ fn pointer_byte(k: usize, own: u8, seed: u32) -> u8 {
 // Changes some heads and links of groups. They are together in the memory, from the heads by index to the heads by leaf.
 fn scatter_pointers(s: &mut [u8], seed: u32) -> u32 {
     let mut x = seed;
-    for k in 324..456 {
-        if s.len() <= k {
-            return x;
-        }
+    for (k, byte) in s.iter_mut().enumerate().take(456).skip(324) {
         x = next(x);
-        s[k] = pointer_byte(k, s[k], x);
+        *byte = pointer_byte(k, *byte, x);
     }
     x
 }
@@ -138,25 +104,33 @@ fn scramble(s: &mut [u8], how: u32, seed: u32) -> u32 {
     }
 }
 
-fn by_chance(book: &[u8], s: &mut [u8], work: &mut [u8], how: u32, totals: Totals) -> Totals {
-    let mut t = totals;
-    let mut x: u32 = 1;
+fn by_chance(
+    book: &[u8],
+    s: &mut [u8],
+    work: &mut [u8],
+    how: u32,
+    t: &mut Totals,
+) -> Result<(), Broken> {
     if s.len() < book.len() {
-        return t;
+        return Ok(());
     }
+    let mut x: u32 = 1;
     for _ in 0..MANY {
-        if t.broken {
-            return t;
-        }
         put_part(s, 0, book);
         x = scramble(s, how, x);
-        t = try_all(s, work, t);
+        try_all(s, work, t)?;
     }
-    t
+    Ok(())
 }
 
 // Tries a book as it is (0), with each byte changed (1), cut (2), or changed at random.
-pub fn corrupt(book: &mut [u8], s: &mut [u8], work: &mut [u8], how: u32, t: Totals) -> Totals {
+pub fn corrupt(
+    book: &mut [u8],
+    s: &mut [u8],
+    work: &mut [u8],
+    how: u32,
+    t: &mut Totals,
+) -> Result<(), Broken> {
     match how {
         0 => try_all(book, work, t),
         1 => each_byte(book, work, t),

@@ -8,60 +8,61 @@ mod corrupt;
 mod totals;
 
 use books::{BOOKS, make};
+use calls::OPENING;
 use corrupt::corrupt;
 use std::io;
-use totals::{Totals, nothing};
+use totals::{Broken, Totals};
 
-fn say(rt: &impl Print, what: &[u8], n: u64) -> io::Result<()> {
-    rt.write_all(what)?;
-    rt.print(n)
-}
-
-// Prints how the books are corrupted.
-fn title(rt: &impl Print, how: u32) -> io::Result<()> {
+// How the books are corrupted.
+fn title(how: u32) -> &'static str {
     match how {
-        0 => rt.write_all(b"as they are"),
-        1 => rt.write_all(b"one byte changed"),
-        2 => rt.write_all(b"cut"),
-        3 => rt.write_all(b"some bytes changed"),
-        4 => rt.write_all(b"any bytes behind a header"),
-        5 => rt.write_all(b"other heads and links"),
-        _ => rt.write_all(b"any bytes"),
+        0 => "as they are",
+        1 => "one byte changed",
+        2 => "cut",
+        3 => "some bytes changed",
+        4 => "any bytes behind a header",
+        5 => "other heads and links",
+        _ => "any bytes",
     }
 }
 
-fn report(rt: &impl Print, how: u32, t: Totals) -> io::Result<()> {
-    title(rt, how)?;
-    if t.broken {
-        say(rt, b": broken at memory ", t.copies)?;
-        say(rt, b" by call ", t.call as u64)?;
-        return rt.write_all(b"\n");
+fn report(rt: &impl Print, how: u32, t: Totals, end: Result<(), Broken>) -> io::Result<()> {
+    let title = title(how);
+    if let Err(broken) = end {
+        return println!(rt;
+            "{title}: broken at memory {} by call {}",
+            t.copies, broken.call
+        );
     }
-    say(rt, b": ", t.copies)?;
-    say(rt, b" memories, ", t.accepted)?;
-    say(rt, b" accepted; ", t.calls)?;
-    say(rt, b" calls, ", t.refused)?;
-    rt.write_all(b" refused with 2\n")
+    println!(rt;
+        "{title}: {} memories, {} accepted; {} calls, {} refused with 2",
+        t.copies, t.accepted, t.calls, t.refused
+    )
 }
 
 // Corrupts every book with one kind of change.
-fn each_book(book: &mut [u8], s: &mut [u8], work: &mut [u8], how: u32) -> Totals {
-    let mut t = nothing();
+fn each_book(
+    book: &mut [u8],
+    s: &mut [u8],
+    work: &mut [u8],
+    how: u32,
+    t: &mut Totals,
+) -> Result<(), Broken> {
     for which in 0..BOOKS {
-        if t.broken {
-            return t;
+        if make(book, which).is_err() {
+            return Err(Broken { call: OPENING });
         }
-        make(book, which);
-        t = corrupt(book, s, work, how, t);
+        corrupt(book, s, work, how, t)?;
     }
-    t
+    Ok(())
 }
 
 fn run(rt: &impl Print, book: &mut [u8], s: &mut [u8], work: &mut [u8]) -> io::Result<()> {
     for how in 0..7 {
-        let t = each_book(book, s, work, how);
-        report(rt, how, t)?;
-        if t.broken {
+        let mut t = Totals::default();
+        let end = each_book(book, s, work, how, &mut t);
+        report(rt, how, t, end)?;
+        if end.is_err() {
             break;
         }
     }

@@ -1,10 +1,7 @@
--- The loops that write: `put_bytes`, byte by byte, and `copy_bits`, word by word.
-use mathlib.Core.Path.{◌≡◌, refl, sym, ap, ◌∙◌}
-use mathlib.Core.List.{List, ◌∷◌, ◌++◌}
-use Prim.Native.Nat.{ℕ, zero, suc, ◌+◌, ◌-◌, ◌*◌, ◌/◌, ◌%◌, ◌^◌, ◌<◌, ◌≤◌, min}
-use native.Mathlib.Nat.{zero-add, add-zero, mul-zero, sub-zero, suc-add, lt_of_lt_of_le, mod-eq_of_lt, div-eq_of_lt}
-use native.Mathlib.Omega.{arith}
-use lib.ListN.{length, set, length-set}
+-- The functions that write: `put_word`, `put_bytes`, byte by byte, and `copy_bits`, word by word.
+use Rattle.std.specs.Prelude.{◌≡◌, refl, List, [], ◌∷◌, ◌++◌, ℕ, zero, suc, ◌+◌, ◌-◌, ◌*◌, ◌/◌, ◌%◌, ◌^◌, ◌<◌, ◌≤◌, min, length, set}
+use Rattle.std.proofs.Common.{sym, ap, ◌∙◌, arith, zero-add, add-zero, suc-add, mod-eq_of_lt, length-set}
+use native.Mathlib.Nat.{mul-zero, sub-zero, lt_of_lt_of_le, div-eq_of_lt}
 use lib.Pow.{pow_mono}
 use Rattle.vrf_bitio.specs.Bits.{bits_of, bytes_of, packed_bits, bytes_for}
 use Rattle.vrf_bitio.specs.Number.{low_bytes}
@@ -13,11 +10,23 @@ use Rattle.vrf_bitio.proofs.Laws.Cases.{by_order}
 use Rattle.vrf_bitio.proofs.Laws.Bits.{bits-lt, bits-low, bits-high}
 use Rattle.vrf_bitio.proofs.Laws.Pasted.{pasted-nil, pasted-cons, pasted-append}
 use Rattle.vrf_bitio.proofs.Laws.Window.{bytes-length}
-use Rattle.vrf_bitio.proofs.Words.{cut, join}
+use Rattle.vrf_bitio.proofs.Words.{no_bits, cut, join}
+
+-- `to_le_bytes`, which `put_word` writes
+pub word_bytes : (v : ℕ)
+    → v % 256 ∷ v / 256 % 256 ∷ v / 65536 % 256 ∷ v / 16777216 % 256 ∷ v / 4294967296 % 256 ∷ v / 1099511627776 % 256 ∷ v / 281474976710656 % 256 ∷ v / 72057594037927936 % 256 ∷ [] ≡ low_bytes 8 v
+unfolding low_bytes
+word_bytes v =
+    let e₂ : v / 65536 ≡ v / 256 / 256 = omega arith in
+    let e₃ : v / 16777216 ≡ v / 256 / 256 / 256 = omega arith in
+    let e₄ : v / 4294967296 ≡ v / 256 / 256 / 256 / 256 = omega arith in
+    let e₅ : v / 1099511627776 ≡ v / 256 / 256 / 256 / 256 / 256 = omega arith in
+    let e₆ : v / 281474976710656 ≡ v / 256 / 256 / 256 / 256 / 256 / 256 = omega arith in
+    let e₇ : v / 72057594037927936 ≡ v / 256 / 256 / 256 / 256 / 256 / 256 / 256 = omega arith in
+    rw (e₂, e₃, e₄, e₅, e₆, e₇)
 
 -- `put_bytes` after k of t bytes: l is the list at the start, m the list now, left the number still to be written
 pub record Putting (l m : List ℕ) (at v t k left : ℕ) : Type 0 where
-  pub few : k ≤ t
   pub long : length m ≡ length l
   pub same : pasted m (at + k) (low_bytes (t - k) left) ≡ pasted l at (low_bytes t v)
 
@@ -25,7 +34,7 @@ pub put-start : (l : List ℕ) (at v t : ℕ) → Putting l l at v t 0 v
 put-start l at v t =
     let e : at + 0 ≡ at = omega arith in
     let n : t - 0 ≡ t = omega arith in
-    record { few = omega arith; long = refl; same = rw (e, n) }
+    record { long = refl; same = rw (e, n) }
 
 module _ (l m : List ℕ) (at v t k left : ℕ) (i : Putting l m at v t k left) where
   pub put_step : k < t → at + t ≤ length l → Putting l (set m (at + k) (left % 256)) at v t (k + 1) (left / 256)
@@ -35,7 +44,6 @@ module _ (l m : List ℕ) (at v t k left : ℕ) (i : Putting l m at v t k left) 
       let one : t - k ≡ suc (t - (k + 1)) = omega arith in
       let next : at + (k + 1) ≡ at + k + 1 = omega arith in
       record {
-        few = omega arith;
         long = length-set m (at + k) (left % 256) ∙ i.long;
         same = rw next (sym (pasted-cons m (at + k) (left % 256) (low_bytes (t - (k + 1)) (left / 256)) inside) ∙ rw one at i.same);
       }
@@ -45,10 +53,6 @@ module _ (l m : List ℕ) (at v t k left : ℕ) (i : Putting l m at v t k left) 
   put-end h =
       let none : t - k ≡ 0 = omega arith in
       sym (pasted-nil m (at + k)) ∙ rw none at i.same
-
-no_bits : (s : List ℕ) (p : ℕ) → bits_of s p 0 ≡ 0
-unfolding bits_of
-no_bits s p = refl
 
 -- the bytes of a run of bits are the low bytes of its number
 bytes_low : (s : List ℕ) (p k : ℕ) → bytes_of s p k ≡ low_bytes k (bits_of s p (8 * k))
@@ -101,19 +105,18 @@ packed-low s q (suc k) m h =
     let ih = packed-low s (q + 8) k (m - 8) (omega arith) in
     by_order 8 m (whole-byte s q k m ih) (last_byte s q k m ih)
 
--- `copy_bits` after k of its words: d is the target at the start, m the target now, i the place of the carried word's first byte
-pub record Copying (s d m : List ℕ) (p words i carry k : ℕ) : Type 0 where
-  pub few : k ≤ words
-  pub long : length m ≡ length d
+-- `copy_bits` after k words: d is the target at the start, m the target now, carry the word that is loaded next
+pub record Copying (s d m : List ℕ) (p carry k : ℕ) : Type 0 where
   pub same : m ≡ pasted d 0 (bytes_of s p (8 * k))
-  pub place : i ≡ p / 8 + 8 * k
-  pub held : carry ≡ bits_of s (8 * i) 64
+  pub held : carry ≡ bits_of s (8 * (p / 8 + 8 * k)) 64
 
-pub copy_start : (s d : List ℕ) (p words carry : ℕ) → carry ≡ bits_of s (8 * (p / 8)) 64 → Copying s d d p words (p / 8) carry 0
+pub copy_start : (s d : List ℕ) (p carry : ℕ) → carry ≡ bits_of s (8 * (p / 8)) 64 → Copying s d d p carry 0
 unfolding bytes_of
-copy_start s d p words carry e = record { few = omega arith; long = refl; same = sym (pasted-nil d 0); place = omega arith; held = e }
+copy_start s d p carry e =
+    let here : p / 8 + 0 ≡ p / 8 = omega arith in
+    record { same = sym (pasted-nil d 0); held = rw here e }
 
-module _ (s d m : List ℕ) (p words i carry k : ℕ) (c : Copying s d m p words i carry k) where
+module _ (s d m : List ℕ) (p carry k : ℕ) (c : Copying s d m p carry k) where
   -- after the loop: writing the last n % 64 bits, w, completes the copy
   pub copy-end : (n w : ℕ) → n / 64 ≡ k → bytes_for n ≤ length d → w ≡ bits_of s (p + 64 * k) (n % 64)
       → pasted m (8 * (n / 64)) (low_bytes ((n % 64 + 7) / 8) w) ≡ pasted d 0 (packed_bits s p n (bytes_for n))
@@ -135,27 +138,24 @@ module _ (s d m : List ℕ) (p words i carry k : ℕ) (c : Copying s d m p words
       sym (pasted-nil m (8 * (n / 64))) ∙ rw no_bytes at (copy-end n 0 at-end fits (rw none (sym (no_bits s (p + 64 * k)))))
 
   -- the carried word and the word after it
-  module _ (next w : ℕ) (en : next ≡ bits_of s (8 * (i + 8)) 64) (ew : w ≡ carry / 2 ^ (p % 8) + next % 2 ^ (p % 8) * 2 ^ (64 - p % 8)) where
+  module _ (next w : ℕ) (en : next ≡ bits_of s (8 * (p / 8 + 8 * k + 8)) 64) (ew : w ≡ carry / 2 ^ (p % 8) + next % 2 ^ (p % 8) * 2 ^ (64 - p % 8)) where
     word : w ≡ bits_of s (p + 64 * k) 64
     word =
-        let following : 8 * (i + 8) ≡ 8 * i + 64 = omega arith in
-        let here : 8 * i + p % 8 ≡ p + 64 * k = omega (arith, c.place) in
-        ew ∙ join s (8 * i) (p % 8) carry next (omega arith) c.held (rw following at en) ∙ ap (λ (q : ℕ). bits_of s q 64) here
+        let following : 8 * (p / 8 + 8 * k + 8) ≡ 8 * (p / 8 + 8 * k) + 64 = omega arith in
+        let here : 8 * (p / 8 + 8 * k) + p % 8 ≡ p + 64 * k = omega arith in
+        ew ∙ join s (8 * (p / 8 + 8 * k)) (p % 8) carry next (omega arith) c.held (rw following at en) ∙ ap (λ (q : ℕ). bits_of s q 64) here
 
     -- one turn of the loop
-    pub copy_step : (m' : List ℕ) → m' ≡ pasted m (8 * k) (low_bytes 8 w) → length m' ≡ length m → k < words → 8 * words ≤ length d → Copying s d m' p words (i + 8) next (k + 1)
-    copy_step m' e l more fits =
+    pub copy_step : (m' : List ℕ) → m' ≡ pasted m (8 * k) (low_bytes 8 w) → 8 * k ≤ length d → Copying s d m' p next (k + 1)
+    copy_step m' e space =
         let bytes : low_bytes 8 w ≡ bytes_of s (p + 64 * k) 8 = ap (low_bytes 8) word ∙ sym (bytes_low s (p + 64 * k) 8) in
         let at : 8 * k ≡ 0 + length (bytes_of s p (8 * k)) = rw bytes-length (omega arith) in
-        let space : 8 * k ≤ length d = omega arith in
         let on : 8 * (k + 1) ≡ 8 * k + 8 = omega arith in
         let bit : 64 * k ≡ 8 * (8 * k) = omega arith in
+        let place : p / 8 + 8 * k + 8 ≡ p / 8 + 8 * (k + 1) = omega arith in
         record {
-          few = omega arith;
-          long = l ∙ c.long;
           same = e ∙ rw (c.same, bytes) (pasted-append (bytes_of s p (8 * k)) (bytes_of s (p + 64 * k) 8) d 0 (8 * k) at space ∙ ap (pasted d 0) (rw (on, bytes-append s p (8 * k) 8, bit)));
-          place = omega (arith, c.place);
-          held = en;
+          held = rw place at en;
         }
 
     -- the bits of the last, partial word

@@ -9,5 +9,6 @@ pub mod Reading
 pub mod Window
 pub mod Number
 pub mod Fewest
+pub mod Reasons
 pub mod Answers
 pub mod Determined

@@ -1,7 +1,6 @@
 -- Lemmas that the proofs use, by subject.
 pub mod Words
-pub mod Cursors
-pub mod Signed
+pub mod Readers
 pub mod Packed
 pub mod Copies
 -- what is proved about these definitions

@@ -1,59 +1,57 @@
 -- Lemmas for the functions that load words: bytes and loads combined, low bits first.
-use mathlib.Core.Path.{◌≡◌, sym, ap, ◌∙◌, subst}
-use mathlib.Core.List.{List}
-use Prim.Native.Nat.{ℕ, suc, ◌+◌, ◌-◌, ◌*◌, ◌/◌, ◌%◌, ◌^◌, ◌<◌, ◌≤◌}
+use Rattle.std.specs.Prelude.{◌≡◌, refl, List, ℕ, suc, ◌+◌, ◌-◌, ◌*◌, ◌/◌, ◌%◌, ◌^◌, ◌<◌, ◌≤◌, length, get_or, take, drop}
+use Rattle.std.proofs.Common.{sym, ap, ◌∙◌, arith, get_or-take, get_or-drop}
+use mathlib.Core.Path.{subst}
 use native.Mathlib.Nat.{lt_of_lt_of_le, mod-lt, one-mul, suc-mul, mul_comm, mul_assoc, mul-mod_left, mul-le-mul_right, div-one, mod-eq_of_lt}
-use native.Mathlib.Omega.{arith}
-use lib.ListN.{length, get_or}
 use lib.Pow.{pow_pos, pow-lt, pow_mono, pow-add, mod-pow-add, field, shr_lt, shl-shr, shl_exact}
 use Rattle.vrf_bitio.specs.Bits.{bits_of}
-use Rattle.vrf_bitio.proofs.Laws.Bits.{bits-cons, bits-byte, bits-lt, bits-split, bits-high, bits-low, bits_inside, bits-past}
+use Rattle.vrf_bitio.proofs.Laws.Bits.{bits-cons, bits-lt, bits-split, bits-high, bits-low, bits_inside, bits-past}
 
--- four bytes make 32 bits
-pub half : (s : List ℕ) (i a b c d : ℕ)
-    → (a ≡ get_or s i 0) × (a < 256) → (b ≡ get_or s (i + 1) 0) × (b < 256) → (c ≡ get_or s (i + 2) 0) × (c < 256) → (d ≡ get_or s (i + 3) 0) × (d < 256)
-    → a + b * 256 + c * 65536 + d * 16777216 ≡ bits_of s (8 * i) 32
-half s i a b c d ha hb hc hd =
-    let e1 : i + 1 + 1 ≡ i + 2 = omega arith in
-    let e2 : i + 2 + 1 ≡ i + 3 = omega arith in
-    let h0 : get_or s i 0 < 256 = omega arith in
-    let h1 : get_or s (i + 1) 0 < 256 = omega arith in
-    let h2 : get_or s (i + 2) 0 < 256 = omega arith in
-    let h3 : get_or s (i + 3) 0 < 256 = omega arith in
-    rw (bits-cons s i 24, bits-cons s (i + 1) 16, e1, bits-cons s (i + 2) 8, e2, bits-byte s (i + 3)) (omega arith)
+-- no bits make 0
+pub no_bits : (s : List ℕ) (p : ℕ) → bits_of s p 0 ≡ 0
+unfolding bits_of
+no_bits s p = refl
 
--- two halves make 64 bits
-pub whole : (s : List ℕ) (i a b : ℕ) → a ≡ bits_of s (8 * i) 32 → b ≡ bits_of s (8 * (i + 4)) 32 → a + b * 4294967296 ≡ bits_of s (8 * i) 64
-whole s i a b ha hb =
-    let next : 8 * i + 32 ≡ 8 * (i + 4) = omega arith in
-    rw (bits-split s (8 * i) 32 32, next) (omega arith)
+-- x is `s[i..i + 8]`: its eight bytes make 64 bits
+module _ (s : List ℕ) (i : ℕ) {x : List ℕ} (same : x ≡ take (i + 8 - i) (drop i s)) (small : (k : ℕ) → get_or s k 0 < 256) where
+  byte : (k : ℕ) → k < 8 → get_or x k 0 ≡ get_or s (i + k) 0
+  byte k h = rw same (get_or-take (i + 8 - i) (drop i s) k 0 (omega arith) ∙ get_or-drop i s k 0)
+
+  from : (k w : ℕ) → bits_of s (8 * (i + k)) (8 + w) ≡ get_or s (i + k) 0 + 256 * bits_of s (8 * (i + suc k)) w
+  from k w =
+      let next : i + k + 1 ≡ i + suc k = omega arith in
+      rw (← next) (bits-cons s (i + k) w (small (i + k)))
+
+  pub eight : get_or x 0 0 + get_or x 1 0 * 256 + get_or x 2 0 * 65536 + get_or x 3 0 * 16777216
+      + get_or x 4 0 * 4294967296 + get_or x 5 0 * 1099511627776 + get_or x 6 0 * 281474976710656 + get_or x 7 0 * 72057594037927936
+      ≡ bits_of s (8 * i) 64
+  eight =
+      let start : i + 0 ≡ i = omega arith in
+      rw (← start) (omega (arith, byte 0 (omega arith), byte 1 (omega arith), byte 2 (omega arith), byte 3 (omega arith), byte 4 (omega arith), byte 5 (omega arith), byte 6 (omega arith), byte 7 (omega arith), from 0 56, from 1 48, from 2 40, from 3 32, from 4 24, from 5 16, from 6 8, from 7 0, no_bits s (8 * (i + 8))))
+
+-- The loop of `load_u64_padded`, down to place k: the word is the bits from byte k on, or from byte i on if k is before it.
+abbrev pub Loaded : List ℕ → ℕ → ℕ → ℕ → Type 0
+Loaded s i k word = word ≡ bits_of s (8 * (i + (k - i))) (64 - 8 * (k - i))
+
+-- at its start no byte is left from place k on
+pub start : (s : List ℕ) (i : ℕ) → Loaded s i (length s) 0
+start s i = sym (bits-past s _ _ (omega arith))
 
 -- one more byte below the word so far
-pub below : (s : List ℕ) (i k word b : ℕ) → 0 < k → k ≤ 8 → word ≡ bits_of s (8 * (i + k)) (64 - 8 * k)
-    → (b ≡ get_or s (i + (k - 1)) 0) × (b < 256) → word * 256 + b ≡ bits_of s (8 * (i + (k - 1))) (64 - 8 * (k - 1))
-below s i k word b h0 h8 e hb =
-    let w : 64 - 8 * (k - 1) ≡ 8 + (64 - 8 * k) = omega arith in
-    let n : i + (k - 1) + 1 ≡ i + k = omega arith in
-    let h : get_or s (i + (k - 1)) 0 < 256 = omega arith in
-    rw (w, bits-cons s (i + (k - 1)) (64 - 8 * k), n) (omega arith)
-
--- the loop of `load_u64_padded`: at its start no byte is left after the first k, so the word is 0; at its end the word has all 64 bits
-pub start : (s : List ℕ) (i k : ℕ) → k ≡ length s - i → 0 ≡ bits_of s (8 * (i + k)) (64 - 8 * k)
-start s i k e = sym (bits-past s (8 * (i + k)) (64 - 8 * k) (omega arith))
-
-pub end : (s : List ℕ) (i k word : ℕ) → k ≤ 0 → word ≡ bits_of s (8 * (i + k)) (64 - 8 * k) → word ≡ bits_of s (8 * i) 64
-end s i k word h e =
-    let k0 : k ≡ 0 = omega arith in
-    let i0 : i + 0 ≡ i = omega arith in
-    rw (k0, i0) at e
+pub below : (s : List ℕ) (i k word : ℕ) → i < k → k ≤ i + 8 → get_or s (k - 1) 0 < 256 → Loaded s i k word → Loaded s i (k - 1) (word * 256 + get_or s (k - 1) 0)
+below s i k word more near h e =
+    let at : i + (k - 1 - i) ≡ k - 1 = omega arith in
+    let w : 64 - 8 * (k - 1 - i) ≡ 8 + (64 - 8 * (k - i)) = omega arith in
+    let n : k - 1 + 1 ≡ i + (k - i) = omega arith in
+    rw (at, w, bits-cons s (k - 1) (64 - 8 * (k - i)) h, n) (omega arith)
 
 -- w bits make a number below 2^n if w ≤ n
 pub bits_below : (s : List ℕ) (p w n : ℕ) → w ≤ n → bits_of s p w < 2 ^ n
 bits_below s p w n h = lt_of_lt_of_le (bits-lt s p w) (pow_mono h)
 
--- the loop of `load_u64_padded`: while a byte is missing the word is below 2^56, so the byte fits below it
-pub fits : (s : List ℕ) (i k word : ℕ) → 0 < k → word ≡ bits_of s (8 * (i + k)) (64 - 8 * k) → word < 2 ^ 56
-fits s i k word h e = rw e (bits_below s (8 * (i + k)) (64 - 8 * k) 56 (omega arith))
+-- while a byte is missing the word is below 2^56, so the byte fits below it
+pub fits : (s : List ℕ) (i k word : ℕ) → i < k → Loaded s i k word → word < 2 ^ 56
+fits s i k word h e = rw e (bits_below s _ _ 56 (omega arith))
 
 -- the low w of 64 bits, computed by two shifts
 pub low : (x w : ℕ) → w ≤ 64 → x * 2 ^ (64 - w) % 2 ^ 64 / 2 ^ (64 - w) ≡ x % 2 ^ w
@@ -139,12 +137,3 @@ across s p w word b e h h64 eb =
 pub across-fits : (s : List ℕ) (p w word b : ℕ) → word ≡ bits_of s (8 * (p / 8)) 64 → 64 - p % 8 < w → w ≤ 64 → b ≡ get_or s (p / 8 + 8) 0
     → word / 2 ^ (p % 8) + b % (1 * 2 ^ (w - (64 - p % 8)) % 2 ^ 64) * 2 ^ (64 - p % 8) % 2 ^ 64 < 2 ^ 64
 across-fits s p w word b e h h64 eb = rw (across s p w word b e h h64 eb) (bits_below s p w 64 h64)
-
--- a mask of fewer than 64 bits is not 0
-pub mask-pos : (k : ℕ) → k < 64 → 0 < 1 * 2 ^ k % 2 ^ 64
-mask-pos k h = rw (one-mul, mod-eq_of_lt (pow-lt {i = k} {j = 64} h)) (pow_pos k)
-
--- no bits make 0
-pub none : (s : List ℕ) (p w : ℕ) → w ≡ 0 → 0 ≡ bits_of s p w
-unfolding bits_of
-none s p w e = rw e

@@ -1,2 +1,2 @@
--- Names used in the contracts of the functions that are not exported.
-pub mod Cursor
+-- names used in the contracts of the functions that are not exported
+pub mod Reader

@@ -2,6 +2,7 @@
 pub mod Ascii
 pub mod Bits
 pub mod Reading
+pub mod Reasons
 pub mod Window
 pub mod Number
 pub mod Pasted

@@ -2,18 +2,18 @@
 ghost use Rattle.vrf_model.specs.Setting.{clear};
 ghost use Rattle.vrf_store.specs.Inner.WellFormed.{WellFormed};
 ghost use Rattle.vrf_store.specs.Inner.Stepped.{held};
-ghost use Rattle.vrf_cache.specs.Inner.Taken.{ActedBy};
+ghost use Rattle.vrf_cache.specs.Inner.Taken.{StepBy};
 
-use vrf_model::Acted;
+use vrf_bitio::Refusal;
 use vrf_store::counters::{step_guid, step_schema};
 use vrf_store::open::clear_book;
 
-pub fn clear(m: &mut [u8]) -> Acted
+pub fn clear(m: &mut [u8]) -> Result<(), Refusal>
     requires { WellFormed m.old }
-    ensures { ActedBy (clear (held m.old)) m.old m.new result }
+    ensures { StepBy (clear (held m.old)) m.old m.new result }
 {
     clear_book(m);
     step_schema(m);
     step_guid(m);
-    Acted::Done
+    Ok(())
 }

@@ -9,19 +9,19 @@ ghost use Rattle.vrf_store.specs.Store.{header_of};
 ghost use Rattle.vrf_store.specs.Inner.WellFormed.{WellFormed};
 ghost use Rattle.vrf_store.specs.Inner.Stepped.{held};
 ghost use Rattle.vrf_store.specs.Inner.Fields.{Renamed};
-ghost use Rattle.vrf_cache.specs.Inner.Taken.{PlacedBy};
+ghost use Rattle.vrf_cache.specs.Inner.Taken.{StepBy};
 ghost use Rattle.vrf_cache.specs.Inner.Fields.{FieldToChange, FieldToAdd, name_at, place_of, setting, slot_of};
 
-use crate::full::{full, passes};
+use crate::full::fits;
 use crate::texts::keep_text;
-use vrf_model::Placed;
+use vrf_bitio::Refusal;
 use vrf_path::same;
 use vrf_store::counters::{step_dropped, step_renamed};
 use vrf_store::fields::{push_field, set_field_row};
 use vrf_store::look::{find_field, find_index, group_slots};
 use vrf_store::parts::{field_rows, texts};
 use vrf_store::rows::{text_at, text_len};
-use vrf_table::{Entry, row_text};
+use vrf_table::row_text;
 
 fn row_name(m: &[u8], e: u32) -> &[u8]
     requires { WellFormed m.now × (e < (header_of m.now).fields) }
@@ -31,17 +31,20 @@ fn row_name(m: &[u8], e: u32) -> &[u8]
 }
 
 // Adds a row for an empty slot.
-fn add_field(m: &mut [u8], place: u32, slot: u32, checksum: u32, name: &[u8]) -> Placed
+fn add_field(
+    m: &mut [u8],
+    place: u32,
+    slot: u32,
+    checksum: u32,
+    name: &[u8],
+) -> Result<bool, Refusal>
     requires { FieldToAdd m.old name.now place slot }
-    ensures { PlacedBy (setting (held m.old) place slot checksum name.now) m.old m.new result }
+    ensures { StepBy (setting (held m.old) place slot checksum name.now) m.old m.new result }
 {
-    let which = passes(m, 0, 0, 1, 0, name.len() as u64);
-    if which != 0 {
-        return Placed::Refused(full(which));
-    }
+    fits(m, 0, 0, 1, 0, name.len() as u64)?;
     let at = keep_text(m, name);
     push_field(m, place, slot, at, name.len() as u32, checksum);
-    Placed::Placed
+    Ok(true)
 }
 
 // The name of row e stays at its position.
@@ -55,54 +58,57 @@ fn set_checksum(m: &mut [u8], e: u32, checksum: u32)
 }
 
 // Releases the old name first, so that the old and the new name need not both fit.
-fn rename_field(m: &mut [u8], e: u32, checksum: u32, name: &[u8]) -> Placed
+fn rename_field(m: &mut [u8], e: u32, checksum: u32, name: &[u8]) -> Result<bool, Refusal>
     requires { FieldToChange m.old name.now e × (same (name_at m.old e) name.now ≡ false) }
-    ensures { PlacedBy (setting (held m.old) (place_of m.old e) (slot_of m.old e) checksum name.now) m.old m.new result }
+    ensures { StepBy (setting (held m.old) (place_of m.old e) (slot_of m.old e) checksum name.now) m.old m.new result }
 {
     let old = row_name(m, e).len() as u64;
-    let which = passes(m, 0, 0, 0, old, name.len() as u64);
-    if which != 0 {
-        return Placed::Refused(full(which));
-    }
+    fits(m, 0, 0, 0, old, name.len() as u64)?;
     set_field_row(m, e, 0, 0, checksum);
     let at = keep_text(m, name);
     set_field_row(m, e, at, name.len() as u32, checksum);
     step_renamed(m);
-    Placed::Placed
+    Ok(true)
 }
 
 // An equal name is not written again.
-fn change_field(m: &mut [u8], e: u32, checksum: u32, name: &[u8]) -> Placed
+fn change_field(m: &mut [u8], e: u32, checksum: u32, name: &[u8]) -> Result<bool, Refusal>
     requires { FieldToChange m.old name.now e }
-    ensures { PlacedBy (setting (held m.old) (place_of m.old e) (slot_of m.old e) checksum name.now) m.old m.new result }
+    ensures { StepBy (setting (held m.old) (place_of m.old e) (slot_of m.old e) checksum name.now) m.old m.new result }
 {
     if same(row_name(m, e), name) {
         set_checksum(m, e, checksum);
-        return Placed::Placed;
+        return Ok(true);
     }
     rename_field(m, e, checksum, name)
 }
 
 // Counts a field for which there is no slot.
-fn drop_field(m: &mut [u8]) -> Placed
+fn drop_field(m: &mut [u8]) -> Result<bool, Refusal>
     requires { WellFormed m.old }
-    ensures { PlacedBy (done false (held m.old) dropped_step) m.old m.new result }
+    ensures { StepBy (done false (held m.old) dropped_step) m.old m.new result }
 {
     step_dropped(m);
-    Placed::NotPlaced
+    Ok(false)
 }
 
 // Sets the slot, or drops the field if the group has too few slots.
-fn set_slot(m: &mut [u8], place: u32, slot: u32, checksum: u32, name: &[u8]) -> Placed
+fn set_slot(
+    m: &mut [u8],
+    place: u32,
+    slot: u32,
+    checksum: u32,
+    name: &[u8],
+) -> Result<bool, Refusal>
     requires { WellFormed m.old × IsText name.now }
-    ensures { PlacedBy (set_field_at slot checksum name.now (held m.old) (some place)) m.old m.new result }
+    ensures { StepBy (set_field_at slot checksum name.now (held m.old) (some place)) m.old m.new result }
 {
     if group_slots(m, place) <= slot {
         return drop_field(m);
     }
     match find_field(m, place, slot) {
-        Entry::At(e) => change_field(m, e, checksum, name),
-        Entry::Nowhere => add_field(m, place, slot, checksum, name),
+        Some(e) => change_field(m, e, checksum, name),
+        None => add_field(m, place, slot, checksum, name),
     }
 }
 
@@ -112,12 +118,12 @@ pub fn set_field_on_group(
     handle: u32,
     checksum: u32,
     name: &[u8],
-) -> Placed
+) -> Result<bool, Refusal>
     requires { WellFormed m.old × IsText name.now }
-    ensures { PlacedBy (set_field index handle checksum name.now (held m.old)) m.old m.new result }
+    ensures { StepBy (set_field index handle checksum name.now (held m.old)) m.old m.new result }
 {
     match find_index(m, index) {
-        Entry::At(place) => set_slot(m, place, handle, checksum, name),
-        Entry::Nowhere => drop_field(m),
+        Some(place) => set_slot(m, place, handle, checksum, name),
+        None => drop_field(m),
     }
 }

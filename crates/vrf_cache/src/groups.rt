@@ -9,13 +9,12 @@ ghost use Rattle.vrf_model.specs.Setting.{new_group, add_group_at, add_group};
 ghost use Rattle.vrf_store.specs.Store.{header_of};
 ghost use Rattle.vrf_store.specs.Inner.WellFormed.{WellFormed};
 ghost use Rattle.vrf_store.specs.Inner.Stepped.{held};
-ghost use Rattle.vrf_cache.specs.Inner.Taken.{AddedBy};
+ghost use Rattle.vrf_cache.specs.Inner.Taken.{StepBy};
 ghost use Rattle.vrf_cache.specs.Inner.Groups.{MergeRequest, group_at, replacing, appending, GroupToAdd, GroupRequest, PathFits, PathReleased, PathWritten, merging};
 
-use crate::full::{full, passes};
+use crate::full::fits;
 use crate::texts::keep_text;
-use vrf_bitio::Refusal;
-use vrf_model::{Added, CROSSED_IDENTITY};
+use vrf_bitio::{Reason, Refusal};
 use vrf_path::same;
 use vrf_store::counters::{step_replaced, step_schema};
 use vrf_store::fields::drop_fields;
@@ -24,22 +23,18 @@ use vrf_store::look::{
     field_name, find_index, find_path_place, group_index, group_path, group_slots,
 };
 use vrf_store::parts::{groups, held, text_allowed};
-use vrf_table::Entry;
 
 // Appends a group with an index that no group has.
-pub fn append_group(m: &mut [u8], path: &[u8], index: u32, slots: u32) -> Added
+pub fn append_group(m: &mut [u8], path: &[u8], index: u32, slots: u32) -> Result<u32, Refusal>
     requires { GroupToAdd m.old path.now index slots }
-    ensures { AddedBy (appending (held m.old) (new_group path.now index slots)) m.old m.new result }
+    ensures { StepBy (appending (held m.old) (new_group path.now index slots)) m.old m.new result }
 {
-    let which = passes(m, 0, 1, 0, 0, path.len() as u64);
-    if which != 0 {
-        return Added::Refused(full(which));
-    }
+    fits(m, 0, 1, 0, 0, path.len() as u64)?;
     let n = groups(m);
     let at = keep_text(m, path);
     push_group(m, index, at, path.len() as u32, slots);
     step_schema(m);
-    Added::At(n)
+    Ok(n)
 }
 
 // Releases the path of group e if n more bytes would pass allowance 4. Otherwise the path stays, because `set_group` rebuilds the indexes,
@@ -65,40 +60,34 @@ fn put_path(m: &mut [u8], e: u32, path: &[u8]) -> u32
 }
 
 // Group e takes this path and index, and grows to the slot count.
-fn rename_group(m: &mut [u8], e: u32, path: &[u8], index: u32, slots: u32) -> Added
+fn rename_group(m: &mut [u8], e: u32, path: &[u8], index: u32, slots: u32) -> Result<u32, Refusal>
     requires { GroupRequest m.old path.now e index slots }
-    ensures { AddedBy (merging (held m.old) e path.now index slots) m.old m.new result }
+    ensures { StepBy (merging (held m.old) e path.now index slots) m.old m.new result }
 {
     let gone = group_path(m, e).len() as u64;
-    let which = passes(m, 0, 0, 0, gone, path.len() as u64);
-    if which != 0 {
-        return Added::Refused(full(which));
-    }
+    fits(m, 0, 0, 0, gone, path.len() as u64)?;
     let at = put_path(m, e, path);
     set_group(m, e, index, at, path.len() as u32, slots);
     step_schema(m);
-    Added::At(e)
+    Ok(e)
 }
 
 fn is_named(m: &[u8], e: u32, path: &[u8], index: u32) -> bool
     requires { WellFormed m.now }
     ensures { result ≡ (same path.now (place_or (λ (g : Group). g.path) [] (held m.now).groups e) && eqb index (place_or (λ (g : Group). g.index) 0 (held m.now).groups e)) }
 {
-    if same(path, group_path(m, e)) {
-        return index == group_index(m, e);
-    }
-    false
+    same(path, group_path(m, e)) && index == group_index(m, e)
 }
 
 // A group that already has this path and index only grows, and the indexes stay as they are.
-fn merge_group(m: &mut [u8], e: u32, path: &[u8], index: u32, slots: u32) -> Added
+fn merge_group(m: &mut [u8], e: u32, path: &[u8], index: u32, slots: u32) -> Result<u32, Refusal>
     requires { GroupRequest m.old path.now e index slots }
-    ensures { AddedBy (merging (held m.old) e path.now index slots) m.old m.new result }
+    ensures { StepBy (merging (held m.old) e path.now index slots) m.old m.new result }
 {
     if is_named(m, e, path, index) {
         grow_group(m, e, slots);
         step_schema(m);
-        return Added::At(e);
+        return Ok(e);
     }
     rename_group(m, e, path, index, slots)
 }
@@ -108,72 +97,61 @@ fn group_text(m: &[u8], e: u32) -> u64
     requires { WellFormed m.now × (e < (header_of m.now).groups) }
     ensures { result ≡ group_text (group_at (held m.now) e) }
 {
-    let n = group_slots(m, e);
     let mut total = group_path(m, e).len() as u64;
-    let mut q: u32 = 0;
-    while q < n {
+    for q in 0..group_slots(m, e) {
         total += field_name(m, e, q).len() as u64;
-        q += 1;
     }
     total
 }
 
 // Replaces group e and drops its fields. The allowance is checked first, because a refusal must leave everything as it was.
-fn replace_at(m: &mut [u8], e: u32, path: &[u8], index: u32, slots: u32) -> Added
+fn replace_at(m: &mut [u8], e: u32, path: &[u8], index: u32, slots: u32) -> Result<u32, Refusal>
     requires { GroupRequest m.old path.now e index slots }
-    ensures { AddedBy (replacing (held m.old) e (new_group path.now index slots)) m.old m.new result }
+    ensures { StepBy (replacing (held m.old) e (new_group path.now index slots)) m.old m.new result }
 {
     let gone = group_text(m, e);
-    let which = passes(m, 0, 0, 0, gone, path.len() as u64);
-    if which != 0 {
-        return Added::Refused(full(which));
-    }
+    fits(m, 0, 0, 0, gone, path.len() as u64)?;
     drop_fields(m, e);
     let at = put_path(m, e, path);
     replace_group(m, e, index, at, path.len() as u32, slots);
     step_schema(m);
     step_replaced(m);
-    Added::At(e)
+    Ok(e)
 }
 
 // Path found at group e: merges, or refuses with 23 if another group has the index.
-fn merge_at(m: &mut [u8], e: u32, path: &[u8], index: u32, slots: u32) -> Added
+fn merge_at(m: &mut [u8], e: u32, path: &[u8], index: u32, slots: u32) -> Result<u32, Refusal>
     requires { MergeRequest m.old path.now e slots }
-    ensures { AddedBy (add_group_at path.now index slots (held m.old) (some e) (index_place index (held m.old).groups)) m.old m.new result }
+    ensures { StepBy (add_group_at path.now index slots (held m.old) (some e) (index_place index (held m.old).groups)) m.old m.new result }
 {
     match find_index(m, index) {
-        Entry::At(j) => {
-            if e == j {
-                return merge_group(m, e, path, index, slots);
-            }
-            Added::Refused(Refusal {
-                number: CROSSED_IDENTITY,
-                a: index as u64,
-                b: 0,
-            })
-        }
-        Entry::Nowhere => merge_group(m, e, path, index, slots),
+        Some(j) if j != e => Err(Refusal {
+            reason: Reason::CrossedIdentity,
+            a: index as u64,
+            b: 0,
+        }),
+        _ => merge_group(m, e, path, index, slots),
     }
 }
 
 // Path not found: replaces the group that has the index, or appends if there is none.
-fn add_unknown(m: &mut [u8], path: &[u8], index: u32, slots: u32) -> Added
+fn add_unknown(m: &mut [u8], path: &[u8], index: u32, slots: u32) -> Result<u32, Refusal>
     requires { WellFormed m.old × IsText path.now × (slots ≤ 65536) }
-    ensures { AddedBy (add_group_at path.now index slots (held m.old) none (index_place index (held m.old).groups)) m.old m.new result }
+    ensures { StepBy (add_group_at path.now index slots (held m.old) none (index_place index (held m.old).groups)) m.old m.new result }
 {
     match find_index(m, index) {
-        Entry::At(j) => replace_at(m, j, path, index, slots),
-        Entry::Nowhere => append_group(m, path, index, slots),
+        Some(j) => replace_at(m, j, path, index, slots),
+        None => append_group(m, path, index, slots),
     }
 }
 
 // Answers the group's place. Every accepted call steps the schema generation.
-pub fn add_export_group(m: &mut [u8], path: &[u8], index: u32, slots: u32) -> Added
+pub fn add_export_group(m: &mut [u8], path: &[u8], index: u32, slots: u32) -> Result<u32, Refusal>
     requires { WellFormed m.old × IsText path.now × (slots ≤ 65536) }
-    ensures { AddedBy (add_group path.now index slots (held m.old)) m.old m.new result }
+    ensures { StepBy (add_group path.now index slots (held m.old)) m.old m.new result }
 {
     match find_path_place(m, path) {
-        Entry::At(e) => merge_at(m, e, path, index, slots),
-        Entry::Nowhere => add_unknown(m, path, index, slots),
+        Some(e) => merge_at(m, e, path, index, slots),
+        None => add_unknown(m, path, index, slots),
     }
 }

@@ -6,22 +6,22 @@ ghost use Rattle.std.specs.Prelude.{◌≡◌, true, ◌+◌, ◌*◌, ◌<◌, 
 ghost use Rattle.vrf_path.specs.Answers.{spelled, key_bytes};
 ghost use Rattle.vrf_table.specs.Table.{len};
 ghost use Rattle.vrf_table.specs.TextIndex.{find_path};
-ghost use Rattle.vrf_table.specs.Inner.Answers.{entry, claim};
+ghost use Rattle.vrf_table.specs.Inner.Answers.{claim};
 ghost use Rattle.vrf_store.specs.UpTo.{all_below, sum_below};
 ghost use Rattle.vrf_store.specs.Layout;
 ghost use Rattle.vrf_store.specs.Store.{allowances_of, header_of, store_of};
-ghost use Rattle.vrf_store.specs.Check.{tops_ok, header_ok, bounds_ok, text_ok, is_place, found_ok, not_before, reach_ok, is_settled, store_ok, check};
+ghost use Rattle.vrf_store.specs.Check.{tops_ok, header_ok, bounds_ok, text_ok, found_ok, not_before, reach_ok, is_settled, store_ok, check};
 ghost use Rattle.vrf_store.specs.Inner.Check.{Walked};
 ghost use Rattle.vrf_check.specs.Inner.Steps.{row_ok, slot_in, field_row_ok, keys_reach, leaf_settled, path_ok, sum_ok, texts_ok, guids_ok, groups_ok, fields_ok, rows_ok, paths_ok, InBounds};
 
-use vrf_path::{Key, Leaf, core_alias, default_object_alias, is_absent, leaf_at};
+use vrf_path::{Key, core_alias, default_object_alias, leaf_at};
 use vrf_store::look::{
     field_buckets, group_buckets, guid_buckets, leaf_buckets, path_buckets, row_info, row_key,
 };
 use vrf_store::parts;
 use vrf_store::rows::{text_at, text_len};
 use vrf_table::spell::spell;
-use vrf_table::{ABSENT, AMBIGUOUS, Claim, Entry, find_key, find_path, leaf_claim, row_text};
+use vrf_table::{Claim, find_key, find_path, leaf_claim, row_text};
 use vrf_text::is_utf8;
 
 // The most bytes that a text has.
@@ -36,12 +36,11 @@ fn tops_ok(m: &[u8]) -> bool
     requires { 128 ≤ length m.now }
     ensures { result ≡ tops_ok (allowances_of m.now) }
 {
-    let g = parts::guids_allowed(m) <= 1_000_000;
-    let r = parts::groups_allowed(m) <= 100_000;
-    let f = parts::fields_allowed(m) <= 1_000_000;
-    let t = parts::text_allowed(m) <= 67_108_864;
-    let l = parts::literals_allowed(m) <= 1_000_000;
-    g & (r & (f & (t & l)))
+    parts::guids_allowed(m) <= 1_000_000
+        && parts::groups_allowed(m) <= 100_000
+        && parts::fields_allowed(m) <= 1_000_000
+        && parts::text_allowed(m) <= 67_108_864
+        && parts::literals_allowed(m) <= 1_000_000
 }
 
 // The number of bytes that the allowances need.
@@ -62,29 +61,19 @@ fn header_ok(m: &[u8]) -> bool
     requires { 128 ≤ length m.now }
     ensures { result ≡ header_ok (header_of m.now) }
 {
-    let g = (parts::guids(m) as usize) <= parts::guids_allowed(m);
-    let r = (parts::groups(m) as usize) <= parts::groups_allowed(m);
-    let f = (parts::fields(m) as usize) <= parts::fields_allowed(m);
-    let h = (parts::held(m) as usize) <= parts::text_allowed(m);
-    let u = (parts::used(m) as usize) <= parts::text_allowed(m);
-    let s = parts::half(m) <= 1;
-    g & (r & (f & (h & (u & s))))
+    parts::guids(m) as usize <= parts::guids_allowed(m)
+        && parts::groups(m) as usize <= parts::groups_allowed(m)
+        && parts::fields(m) as usize <= parts::fields_allowed(m)
+        && parts::held(m) as usize <= parts::text_allowed(m)
+        && parts::used(m) as usize <= parts::text_allowed(m)
+        && parts::half(m) <= 1
 }
 
 // Whether the allowances and the header are in bounds, and the memory has the bytes that the allowances need.
 fn bounds_ok(m: &[u8]) -> bool
     ensures { result ≡ bounds_ok (header_of m.now) (length m.now) }
 {
-    if m.len() < 128 {
-        return false;
-    }
-    if !tops_ok(m) {
-        return false;
-    }
-    if m.len() < need(m) {
-        return false;
-    }
-    header_ok(m)
+    128 <= m.len() && tops_ok(m) && need(m) <= m.len() && header_ok(m)
 }
 
 // ---- rows
@@ -95,10 +84,8 @@ fn length_sum(rows: &[u8], n: u32) -> u64
     ensures { (result ≡ sum_below (len rows.now) n) × (result ≤ 4294967295 * n) }
 {
     let mut sum = 0;
-    let mut e = 0;
-    while e < n {
+    for e in 0..n {
         sum += text_len(rows, e) as u64;
-        e += 1;
     }
     sum
 }
@@ -109,37 +96,16 @@ fn text_ok(used: u32, x: &[u8], rows: &[u8], e: u32) -> bool
     ensures { result ≡ text_ok used x.now rows.now e }
 {
     let n = text_len(rows, e) as usize;
-    if (used as usize) < text_at(rows, e) as usize + n {
-        return false;
-    }
-    if TEXT_BYTES < n {
-        return false;
-    }
-    is_utf8(row_text(rows, x, e))
+    text_at(rows, e) as usize + n <= used as usize
+        && n <= TEXT_BYTES
+        && is_utf8(row_text(rows, x, e))
 }
 
 fn each_text_ok(used: u32, x: &[u8], rows: &[u8], n: u32) -> bool
     requires { (24 * n ≤ length rows.now) × (used ≤ length x.now) }
     ensures { result ≡ all_below (text_ok used x.now rows.now) n }
 {
-    let mut e = 0;
-    while e < n {
-        if !text_ok(used, x, rows, e) {
-            return false;
-        }
-        e += 1;
-    }
-    true
-}
-
-// Whether the walk found entry e.
-fn is_place(e: u32, found: Entry) -> bool
-    ensures { result ≡ is_place e (entry found) }
-{
-    match found {
-        Entry::At(i) => i == e,
-        Entry::Nowhere => false,
-    }
+    (0..n).all(|e| text_ok(used, x, rows, e))
 }
 
 // Whether the key of row e finds row e.
@@ -147,7 +113,7 @@ fn found_ok(rows: &[u8], heads: &[u8], b: u32, n: u32, e: u32) -> bool
     requires { (24 * n ≤ length rows.now) × (4 * b ≤ length heads.now) × (0 < b) × (e < n) }
     ensures { result ≡ found_ok rows.now heads.now b n e }
 {
-    is_place(e, find_key(rows, heads, b, n, row_key(rows, e)))
+    find_key(rows, heads, b, n, row_key(rows, e)) == Some(e)
 }
 
 // ---- the rows of each table, without their texts
@@ -157,27 +123,14 @@ fn row_ok(rows: &[u8], heads: &[u8], b: u32, n: u32, most: u32, e: u32) -> bool
     requires { (24 * n ≤ length rows.now) × (4 * b ≤ length heads.now) × (0 < b) × (e < n) }
     ensures { result ≡ row_ok rows.now heads.now b n most e }
 {
-    if 0xFFFF_FFFF < row_key(rows, e) {
-        return false;
-    }
-    if most < row_info(rows, e) {
-        return false;
-    }
-    found_ok(rows, heads, b, n, e)
+    row_key(rows, e) <= 0xFFFF_FFFF && row_info(rows, e) <= most && found_ok(rows, heads, b, n, e)
 }
 
 fn each_row_ok(rows: &[u8], heads: &[u8], b: u32, n: u32, most: u32) -> bool
     requires { (24 * n ≤ length rows.now) × (4 * b ≤ length heads.now) × (0 < b) }
     ensures { result ≡ all_below (row_ok rows.now heads.now b n most) n }
 {
-    let mut e = 0;
-    while e < n {
-        if !row_ok(rows, heads, b, n, most, e) {
-            return false;
-        }
-        e += 1;
-    }
-    true
+    (0..n).all(|e| row_ok(rows, heads, b, n, most, e))
 }
 
 // Whether k is the key of a slot of one of n groups.
@@ -186,47 +139,24 @@ fn slot_ok(groups: &[u8], n: u32, k: u64) -> bool
     ensures { result ≡ slot_in groups.now n k }
 {
     let g = k / 0x1_0000;
-    if (n as u64) <= g {
-        return false;
-    }
-    k % 0x1_0000 < row_info(groups, g as u32) as u64
+    g < n as u64 && k % 0x1_0000 < row_info(groups, g as u32) as u64
 }
 
 fn field_ok(groups: &[u8], g: u32, rows: &[u8], heads: &[u8], b: u32, n: u32, e: u32) -> bool
     requires { (24 * g ≤ length groups.now) × (24 * n ≤ length rows.now) × (4 * b ≤ length heads.now) × (0 < b) × (e < n) }
     ensures { result ≡ field_row_ok groups.now g rows.now heads.now b n e }
 {
-    if !slot_ok(groups, g, row_key(rows, e)) {
-        return false;
-    }
-    found_ok(rows, heads, b, n, e)
+    slot_ok(groups, g, row_key(rows, e)) && found_ok(rows, heads, b, n, e)
 }
 
 fn each_field_ok(groups: &[u8], g: u32, rows: &[u8], heads: &[u8], b: u32, n: u32) -> bool
     requires { (24 * g ≤ length groups.now) × (24 * n ≤ length rows.now) × (4 * b ≤ length heads.now) × (0 < b) }
     ensures { result ≡ all_below (field_row_ok groups.now g rows.now heads.now b n) n }
 {
-    let mut e = 0;
-    while e < n {
-        if !field_ok(groups, g, rows, heads, b, n, e) {
-            return false;
-        }
-        e += 1;
-    }
-    true
+    (0..n).all(|e| field_ok(groups, g, rows, heads, b, n, e))
 }
 
 // ---- the path keys of groups
-
-// Whether the walk found entry e or a later one.
-fn not_before(e: u32, found: Entry) -> bool
-    ensures { result ≡ not_before e (entry found) }
-{
-    match found {
-        Entry::At(i) => e <= i,
-        Entry::Nowhere => false,
-    }
-}
 
 // Whether the key k finds entry e or a later one.
 fn reaches(
@@ -242,7 +172,7 @@ fn reaches(
     requires { Walked rows.now x.now links.now heads.now 12 b n × (length k.now < 2 ^ 31) }
     ensures { result ≡ not_before e (find_path rows.now x.now links.now heads.now b n k.now) }
 {
-    not_before(e, find_path(rows, x, links, heads, b, n, k))
+    find_path(rows, x, links, heads, b, n, k).is_some_and(|i| e <= i)
 }
 
 // Whether an alias finds entry e or a later one. The path must have this alias. It is written out first, since the book does not hold it.
@@ -275,15 +205,12 @@ fn alias_ok(
     n: u32,
     e: u32,
     path: &[u8],
-    key: Key,
+    key: Option<Key>,
 ) -> bool
     requires { Walked rows.now x.now links.now heads.now 12 b n × (length path.now ≤ 4096) }
     ensures { result ≡ reach_ok (find_path rows.now x.now links.now heads.now b n) e (spelled path.now key) }
 {
-    if is_absent(key) {
-        return true;
-    }
-    alias_reaches(rows, x, links, heads, b, n, e, path, key)
+    key.is_none_or(|k| alias_reaches(rows, x, links, heads, b, n, e, path, k))
 }
 
 // Whether each key of group g finds its own entry or a later one.
@@ -293,23 +220,10 @@ fn keys_ok(rows: &[u8], x: &[u8], links: &[u8], heads: &[u8], b: u32, n: u32, g:
 {
     let path = row_text(rows, x, g);
     let e = 3 * g;
-    if !reaches(rows, x, links, heads, b, n, e, path) {
-        return false;
-    }
-    if !alias_ok(
-        rows,
-        x,
-        links,
-        heads,
-        b,
-        n,
-        e + 1,
-        path,
-        default_object_alias(path),
-    ) {
-        return false;
-    }
-    alias_ok(rows, x, links, heads, b, n, e + 2, path, core_alias(path))
+    let default = default_object_alias(path);
+    reaches(rows, x, links, heads, b, n, e, path)
+        && alias_ok(rows, x, links, heads, b, n, e + 1, path, default)
+        && alias_ok(rows, x, links, heads, b, n, e + 2, path, core_alias(path))
 }
 
 // ---- the leaves of groups
@@ -318,13 +232,11 @@ fn keys_ok(rows: &[u8], x: &[u8], links: &[u8], heads: &[u8], b: u32, n: u32, g:
 fn is_settled(g: u32, found: Claim) -> bool
     ensures { result ≡ is_settled g (claim found) }
 {
-    if found == ABSENT {
-        return false;
+    match found {
+        Claim::Absent => false,
+        Claim::Ambiguous => true,
+        Claim::Only(i) => i == g,
     }
-    if found == AMBIGUOUS {
-        return true;
-    }
-    found - 2 == g
 }
 
 // Whether the leaf of group g is claimed by g or ambiguous, if the group has a leaf.
@@ -334,12 +246,31 @@ fn leaf_ok(rows: &[u8], x: &[u8], links: &[u8], heads: &[u8], b: u32, n: u32, g:
 {
     let path = row_text(rows, x, g);
     match leaf_at(path) {
-        Leaf::At(i) => is_settled(g, leaf_claim(rows, x, links, heads, b, n, &path[i..]).claim),
-        Leaf::Absent => true,
+        Some(i) => is_settled(g, leaf_claim(rows, x, links, heads, b, n, &path[i..]).claim),
+        None => true,
     }
 }
 
 // ---- the texts by which groups are found
+
+// Whether group g is found by its keys and by its leaf.
+fn path_ok(
+    rows: &[u8],
+    x: &[u8],
+    links: &[u8],
+    heads: &[u8],
+    b: u32,
+    leaves: &[u8],
+    starts: &[u8],
+    c: u32,
+    n: u32,
+    g: u32,
+) -> bool
+    requires { Walked rows.now x.now links.now heads.now 12 b n × Walked rows.now x.now leaves.now starts.now 4 c n × (g < n) }
+    ensures { result ≡ path_ok rows.now x.now links.now heads.now b leaves.now starts.now c n g }
+{
+    keys_ok(rows, x, links, heads, b, n, g) && leaf_ok(rows, x, leaves, starts, c, n, g)
+}
 
 // Whether each group is found by its keys and by its leaf. The index by key has the links, heads and b buckets; the index by leaf has the
 // links `leaves`, the heads `starts` and c buckets.
@@ -357,17 +288,7 @@ fn each_path_ok(
     requires { Walked rows.now x.now links.now heads.now 12 b n × Walked rows.now x.now leaves.now starts.now 4 c n }
     ensures { result ≡ all_below (path_ok rows.now x.now links.now heads.now b leaves.now starts.now c n) n }
 {
-    let mut g = 0;
-    while g < n {
-        if !keys_ok(rows, x, links, heads, b, n, g) {
-            return false;
-        }
-        if !leaf_ok(rows, x, leaves, starts, c, n, g) {
-            return false;
-        }
-        g += 1;
-    }
-    true
+    (0..n).all(|g| path_ok(rows, x, links, heads, b, leaves, starts, c, n, g))
 }
 
 // ---- the whole memory
@@ -390,13 +311,9 @@ fn texts_ok(m: &[u8]) -> bool
 {
     let used = parts::used(m);
     let x = parts::texts(m);
-    if !each_text_ok(used, x, parts::guid_rows(m), parts::guids(m)) {
-        return false;
-    }
-    if !each_text_ok(used, x, parts::group_rows(m), parts::groups(m)) {
-        return false;
-    }
-    each_text_ok(used, x, parts::field_rows(m), parts::fields(m))
+    each_text_ok(used, x, parts::guid_rows(m), parts::guids(m))
+        && each_text_ok(used, x, parts::group_rows(m), parts::groups(m))
+        && each_text_ok(used, x, parts::field_rows(m), parts::fields(m))
 }
 
 fn guids_ok(m: &[u8]) -> bool
@@ -444,13 +361,7 @@ fn rows_ok(m: &[u8]) -> bool
     requires { InBounds m.now }
     ensures { result ≡ rows_ok (store_of m.now) }
 {
-    if !guids_ok(m) {
-        return false;
-    }
-    if !groups_ok(m) {
-        return false;
-    }
-    fields_ok(m)
+    guids_ok(m) && groups_ok(m) && fields_ok(m)
 }
 
 // Whether all groups are found by their keys and leaves. A walk reads the text of any group, so all texts must have passed before.
@@ -477,24 +388,12 @@ fn store_ok(m: &[u8]) -> bool
     requires { InBounds m.now }
     ensures { result ≡ store_ok (store_of m.now) }
 {
-    if !sum_ok(m) {
-        return false;
-    }
-    if !texts_ok(m) {
-        return false;
-    }
-    if !rows_ok(m) {
-        return false;
-    }
-    paths_ok(m)
+    sum_ok(m) && texts_ok(m) && rows_ok(m) && paths_ok(m)
 }
 
 // Whether the memory is accepted; if not, a call is refused with refusal 2.
 pub fn check(m: &[u8]) -> bool
     ensures { result ≡ check m.now }
 {
-    if !bounds_ok(m) {
-        return false;
-    }
-    store_ok(m)
+    bounds_ok(m) && store_ok(m)
 }

@@ -1,5 +1,5 @@
--- Laws for the proofs about a block: its GUIDs, its groups and the whole block.
+-- Laws for the proofs about a block: how a function ends, its GUIDs and its groups.
+pub mod Ends
 pub mod Guids
 pub mod Sums
 pub mod Groups
-pub mod Block

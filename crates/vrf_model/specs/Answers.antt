@@ -1,54 +1,40 @@
--- Document 01's answer for each case of the code's answer enums, which are declared in src/lib.rt. The contracts use these definitions.
-use Rattle.std.specs.Prelude.{true, false}
+-- Document 01's answer for each case of the code's answers. The contracts use these definitions.
+use Rattle.std.specs.Prelude.{Bool, ℕ, Some, None, Result, Ok, Err}
+use Rattle.std.specs.Prelude as std
 use Rattle.std.proofs.Math.Option.{none, some}
+use Rattle.vrf_bitio.specs.Reasons
 use Rattle.vrf_bitio.specs.declared.Refusal.{Refusal}
 use Rattle.vrf_model.specs.Block.{BlockCounts}
 use Rattle.vrf_model.specs.Writer
 use Rattle.vrf_model.specs.Writer.{written, not_written}
 use Rattle.vrf_model.specs.Calls.{Answer, refusal-of, acted, field_placed, at_place, found, ran, block_counts, number}
-use Rattle.vrf_model.specs.declared.Acted.{Acted}
-use Rattle.vrf_model.specs.declared.Acted.TheVariants.{Done, Refused as NotActed}
-use Rattle.vrf_model.specs.declared.Added.{Added}
-use Rattle.vrf_model.specs.declared.Added.TheVariants.{At as AddedAt, Refused as NotAdded}
 use Rattle.vrf_model.specs.declared.CheckpointTables.{CheckpointTables}
-use Rattle.vrf_model.specs.declared.Found.{Found}
-use Rattle.vrf_model.specs.declared.Found.TheVariants.{At as FoundAt, Absent, Refused as NotFound}
-use Rattle.vrf_model.specs.declared.Number.{Number}
-use Rattle.vrf_model.specs.declared.Number.TheVariants.{Is, Refused as NoNumber}
-use Rattle.vrf_model.specs.declared.Placed.{Placed}
-use Rattle.vrf_model.specs.declared.Placed.TheVariants.{Placed as IsPlaced, NotPlaced, Refused as PlaceRefused}
 use Rattle.vrf_model.specs.declared.Ran.{Ran}
-use Rattle.vrf_model.specs.declared.Ran.TheVariants.{Ended, Refused as NotRan}
-use Rattle.vrf_model.specs.declared.Tables.{Tables}
-use Rattle.vrf_model.specs.declared.Tables.TheVariants.{Read, Refused as NotRead}
-use Rattle.vrf_model.specs.declared.Wrote.{Wrote}
-use Rattle.vrf_model.specs.declared.Wrote.TheVariants.{Length, Refused as NotWrote}
 
 -- a refusal carries a number and details a, b
 abbrev pub refusal_of : Refusal → Answer
-refusal_of r = refusal-of r.number r.a r.b
+refusal_of r = refusal-of (Reasons.number r.reason) r.a r.b
 
-abbrev pub acted_of : Acted → Answer
-acted_of Done = acted
-acted_of (NotActed r) = refusal_of r
+abbrev pub acted_of : Result (Unit {0}) Refusal → Answer
+acted_of (Ok u) = acted
+acted_of (Err r) = refusal_of r
 
-abbrev pub added_of : Added → Answer
-added_of (AddedAt i) = at_place i
-added_of (NotAdded r) = refusal_of r
+abbrev pub added_of : Result ℕ Refusal → Answer
+added_of (Ok i) = at_place i
+added_of (Err r) = refusal_of r
 
-abbrev pub placed_of : Placed → Answer
-placed_of IsPlaced = field_placed true
-placed_of NotPlaced = field_placed false
-placed_of (PlaceRefused r) = refusal_of r
+abbrev pub placed_of : Result Bool Refusal → Answer
+placed_of (Ok placed) = field_placed placed
+placed_of (Err r) = refusal_of r
 
-abbrev pub found_of : Found → Answer
-found_of (FoundAt i) = found (some i)
-found_of Absent = found none
-found_of (NotFound r) = refusal_of r
+abbrev pub found_of : Result (std.Option ℕ) Refusal → Answer
+found_of (Ok (Some i)) = found (some i)
+found_of (Ok None) = found none
+found_of (Err r) = refusal_of r
 
-abbrev pub ran_of : Ran → Answer
-ran_of (Ended n p) = ran n p
-ran_of (NotRan r) = refusal_of r
+abbrev pub ran_of : Result Ran Refusal → Answer
+ran_of (Ok r) = ran r.count r.pos
+ran_of (Err r) = refusal_of r
 
 -- the seven counts
 abbrev pub counts_of : CheckpointTables → BlockCounts
@@ -62,14 +48,14 @@ counts_of t = record {
   resolved = t.resolved_path_indices;
 }
 
-abbrev pub tables_of : Tables → Answer
-tables_of (Read t) = block_counts (counts_of t)
-tables_of (NotRead r) = refusal_of r
+abbrev pub tables_of : Result CheckpointTables Refusal → Answer
+tables_of (Ok t) = block_counts (counts_of t)
+tables_of (Err r) = refusal_of r
 
-abbrev pub number_of : Number → Answer
-number_of (Is n) = number n
-number_of (NoNumber r) = refusal_of r
+abbrev pub number_of : Result ℕ Refusal → Answer
+number_of (Ok n) = number n
+number_of (Err r) = refusal_of r
 
-abbrev pub wrote_of : Wrote → Writer.Written
-wrote_of (Length n) = written n
-wrote_of (NotWrote r) = not_written r.number r.a r.b
+abbrev pub wrote_of : Result ℕ Refusal → Writer.Written
+wrote_of (Ok n) = written n
+wrote_of (Err r) = not_written (Reasons.number r.reason) r.a r.b

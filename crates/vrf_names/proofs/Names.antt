@@ -2,7 +2,7 @@
 use mathlib.Core.Path.{◌≡◌, refl, sym, ap, ◌∙◌}
 use mathlib.Core.List.{List, [], ◌∷◌, ◌++◌, append_assoc}
 use Prim.Native.Char.{code}
-use Prim.Native.Nat.{ℕ, suc, ◌+◌, ◌*◌, ◌/◌, ◌%◌, ◌<◌, ◌≤◌}
+use Prim.Native.Nat.{ℕ, zero, suc, ◌+◌, ◌-◌, ◌*◌, ◌/◌, ◌%◌, ◌<◌, ◌≤◌}
 use native.Mathlib.Omega.{arith}
 use lib.IntN.{ℤ}
 use lib.ListN.{length, take, drop, set, length-append, length-set}
@@ -10,31 +10,56 @@ use lib.Seq.{length-take-le}
 use mir.Facts.{to_z-of_z}
 use mir.Syntax.{w32}
 use mir.Val.{SFits, to_z, of_z}
+use Rattle.std.specs.Prelude.{Ok, Err}
 use Rattle.vrf_bitio.specs.Pasted.{pasted}
+use Rattle.vrf_bitio.specs.Reasons.{number}
+use Rattle.vrf_bitio.specs.declared.Refusal.{Refusal}
+use Rattle.vrf_bitio.proofs.Laws.Cases.{by_order}
 use Rattle.vrf_bitio.proofs.Laws.Pasted.{pasted-nil, pasted-cons, pasted-snoc, pasted-front}
-use Rattle.vrf_names.specs.Names.{decimal, suffix, rendered, refused, rendered_into}
-use Rattle.vrf_names.specs.Answers.{answer_of, RenderedAnswer}
+use Rattle.vrf_names.specs.Names.{decimal, suffix, rendered, rendered_into}
+use Rattle.vrf_names.specs.Answers.{RenderedAnswer}
 use Rattle.vrf_names.specs.Inner.Suffix.{suffix_text}
-use Rattle.vrf_names.proofs.Laws.Names.{decimal-one, decimal-more, more-length, into-long, into-short, into-fits}
-use Rattle.vrf_names.specs.declared.Rendered.{Rendered}
-use Rattle.vrf_names.specs.declared.Rendered.TheVariants.{Length, Refused}
+use Rattle.vrf_names.proofs.Laws.Names.{decimal-one, decimal-more, decimal-some, more-length, into-long, into-short, into-fits}
 use Rattle.vrf_names.specs.declared.Suffix.{Suffix}
 use Rattle.vrf_names.specs.declared.Suffix.TheVariants.{Empty, Plain, Minus}
 
--- a number written to a buffer, last digit first: rest is what is left of it, end the place of its last digit
-module _ (out : List ℕ) (at rest end : ℕ) (e : end + 1 ≡ at + length (decimal rest)) (h : end < length out) where
-  pub digit-next : 10 ≤ rest → pasted out at (decimal rest) ≡ pasted (set out end (code "0" + rest % 10)) at (decimal (rest / 10))
-  digit-next l =
-      let p : end ≡ at + length (decimal (rest / 10)) = omega (arith, more-length rest l) in
-      let b : at + length (decimal (rest / 10)) < length out = omega arith in
-      rw (p, decimal-more rest l) (pasted-snoc out at (code "0" + rest % 10) (decimal (rest / 10)) b)
+-- The k last digits of n, with leading zeros. All digits of n are `decimal n`.
+unfoldable pub last_digits : ℕ → ℕ → List ℕ
+last_digits zero n = []
+last_digits (suc k) n = last_digits k (n / 10) ++ ((code "0" + n % 10) ∷ [])
 
-  pub digit-last : rest < 10 → pasted out at (decimal rest) ≡ set out end (code "0" + rest)
-  digit-last l =
-      let n : length (decimal rest) ≡ 1 = rw (decimal-one rest l) in
-      let p : end ≡ at = omega arith in
-      let b : at < length out = omega arith in
-      rw (p, decimal-one rest l) (pasted-cons out at (code "0" + rest) [] b ∙ pasted-nil (set out at (code "0" + rest)) (at + 1))
+pub all-digits : (k n : ℕ) → length (decimal n) ≡ k → last_digits k n ≡ decimal n
+unfolding last_digits
+all-digits zero n e = absurd (omega (arith, decimal-some n))
+all-digits (suc zero) n e = by_order 10 n
+    (λ many. absurd (omega (arith, more-length n many, decimal-some (n / 10))))
+    λ one. let d : n % 10 ≡ n = omega arith in rw (decimal-one n one, d)
+all-digits (suc (suc k)) n e = by_order 10 n
+    (λ many. rw (decimal-more n many, all-digits (suc k) (n / 10) (omega (arith, more-length n many))))
+    λ one. let l : length (decimal n) ≡ 1 = rw (decimal-one n one) in absurd (omega arith)
+
+last-length : (k n : ℕ) → length (last_digits k n) ≡ k
+unfolding last_digits
+last-length zero n = refl
+last-length (suc k) n = rw (length-append, last-length k (n / 10)) (omega arith)
+
+-- one more digit, at the place before i
+pub digit-next : (out : List ℕ) (at i rest : ℕ) → at < i → i ≤ length out
+    → pasted out at (last_digits (i - at) rest) ≡ pasted (set out (i - 1) (code "0" + rest % 10)) at (last_digits (i - 1 - at) (rest / 10))
+unfolding last_digits
+digit-next out at zero rest h l = absurd (omega arith)
+digit-next out at (suc j) rest h l =
+    let more : suc j - at ≡ suc (j - at) = omega arith in
+    let d : ℕ = code "0" + rest % 10 in
+    let k : length (last_digits (j - at) (rest / 10)) ≡ j - at = last-length (j - at) (rest / 10) in
+    let back : at + (j - at) ≡ j = omega arith in
+    let last : suc j - 1 ≡ j = omega arith in
+    rw (more, last) (rw (k, back) at (pasted-snoc out at d (last_digits (j - at) (rest / 10)) (rw k (omega arith))))
+
+-- all places are written
+pub digits-end : (out : List ℕ) (at i rest : ℕ) → i ≤ at → pasted out at (last_digits (i - at) rest) ≡ out
+unfolding last_digits
+digits-end out at i rest h = let none : i - at ≡ 0 = omega arith in rw none (pasted-nil out at)
 
 -- a suffix written to a buffer
 module _ (out : List ℕ) (at : ℕ) {s : Suffix} where
@@ -60,14 +85,14 @@ module _ (out : List ℕ) (at : ℕ) {s : Suffix} where
 
 -- the answer for a text t of len bytes: it is too long, the buffer of m bytes is too short, or it is written
 module _ (m : ℕ) (t before : List ℕ) {len : ℕ} (en : len ≡ length t) where
-  pub answer-long : 4096 < len → RenderedAnswer (rendered_into m t) before before (Refused (record { number = 41; a = len; b = 0 }))
-  answer-long h = rw (into-long m t (omega arith), en) (record { answer = refl; bytes = refl })
+  pub answer-long : (e : Refusal) → 4096 < len → (number e.reason ≡ 41) × (e.a ≡ len) × (e.b ≡ 0) → RenderedAnswer (rendered_into m t) before before (Err e)
+  answer-long e h k = rw (into-long m t (omega arith)) (record { answer = rw (k.0, k.1, k.2, en); bytes = refl })
 
-  pub answer-short : len ≤ 4096 → m < len → {r : Rendered} → r ≡ answer_of (refused 15 (8 * len) (8 * m)) → RenderedAnswer (rendered_into m t) before before r
-  answer-short l h er = rw (into-short m t (omega arith) (omega arith), er, en) (record { answer = refl; bytes = refl })
+  pub answer-short : (e : Refusal) → len ≤ 4096 → m < len → (number e.reason ≡ 15) × (e.a ≡ 8 * len) × (e.b ≡ 8 * m) → RenderedAnswer (rendered_into m t) before before (Err e)
+  answer-short e l h k = rw (into-short m t (omega arith) (omega arith)) (record { answer = rw (k.0, k.1, k.2, en); bytes = refl })
 
-  pub answer-fits : len ≤ 4096 → len ≤ m → {after : List ℕ} → after ≡ pasted before 0 t → RenderedAnswer (rendered_into m t) before after (Length len)
-  answer-fits l h ea = rw (into-fits m t (omega arith) (omega arith), ea, en) (record { answer = refl; bytes = refl })
+  pub answer-fits : len ≤ 4096 → len ≤ m → {after : List ℕ} → after ≡ pasted before 0 t → RenderedAnswer (rendered_into m t) before after (Ok len)
+  answer-fits l h ea = rw (into-fits m t (omega arith) (omega arith), ea) (record { answer = (t, (refl, en)); bytes = refl })
 
 -- a signed number is passed as its bits, and the callee gets the same number
 as_passed : (z : ℤ) → SFits w32 z → {t : List ℕ} → t ≡ suffix (to_z w32 (of_z w32 z)) → t ≡ suffix z
@@ -88,15 +113,15 @@ module _ (out : List ℕ) (n : ℕ) (base : n ≤ length out) (z : ℤ) (fits : 
   unfolding rendered
   long = rw (er, as_passed z fits e, length-append, length-take-le n out base)
 
-  pub append-long : 4096 < n + r → RenderedAnswer (rendered_into (length out) name) out out (Refused (record { number = 41; a = n + r; b = 0 }))
-  append-long h = answer-long (length out) name out long h
+  pub append-long : (q : Refusal) → 4096 < n + r → (number q.reason ≡ 41) × (q.a ≡ n + r) × (q.b ≡ 0) → RenderedAnswer (rendered_into (length out) name) out out (Err q)
+  append-long q h k = answer-long (length out) name out long q h k
 
-  pub append-short : n + r ≤ 4096 → length out < n + r → {q : Rendered} → q ≡ answer_of (refused 15 (8 * (n + r)) (8 * length out))
-      → RenderedAnswer (rendered_into (length out) name) out out q
-  append-short l h eq = answer-short (length out) name out long l h eq
+  pub append-short : (q : Refusal) → n + r ≤ 4096 → length out < n + r → (number q.reason ≡ 15) × (q.a ≡ 8 * (n + r)) × (q.b ≡ 8 * length out)
+      → RenderedAnswer (rendered_into (length out) name) out out (Err q)
+  append-short q l h k = answer-short (length out) name out long q l h k
 
   pub append-fits : n + r ≤ 4096 → n + r ≤ length out → {p : List ℕ} → p ≡ pasted out n (suffix_text s)
-      → RenderedAnswer (rendered_into (length out) name) out p (Length (n + r))
+      → RenderedAnswer (rendered_into (length out) name) out p (Ok (n + r))
   append-fits l h ep =
       let front : pasted out n (suffix_text s) ≡ pasted out 0 name = written out n z s (as_passed z fits e) er ∙ rw long (sym (pasted-front out name)) in
       answer-fits (length out) name out long l h (ep ∙ front)

@@ -3,15 +3,14 @@
 
 ghost use Rattle.std.specs.Prelude.{◌≡◌, ◌+◌, ◌*◌, ◌≤◌, length, take};
 ghost use Rattle.vrf_bitio.specs.Pasted.{pasted};
-ghost use Rattle.vrf_names.specs.Names.{decimal, suffix, rendered, refused, rendered_into};
-ghost use Rattle.vrf_names.specs.Answers.{put_into, answer_of, RenderedAnswer};
+ghost use Rattle.vrf_bitio.specs.Reasons.{number};
+ghost use Rattle.vrf_names.specs.Names.{decimal, suffix, rendered, rendered_into};
+ghost use Rattle.vrf_names.specs.Answers.{put_into, RenderedAnswer};
 ghost use Rattle.vrf_names.specs.Inner.Suffix.{suffix_text};
 
-use vrf_bitio::{Refusal, SHORT};
+use vrf_bitio::{Reason, Refusal};
 
-// The refusal number of document 01 for a rendered name of more than `NAME_BYTES` bytes.
-pub const NAME_TOO_LONG: u32 = 41;
-
+// The most bytes of a rendered name.
 const NAME_BYTES: usize = 4_096;
 
 // What a number adds to a name: nothing, or `_` and a number that may have a minus sign.
@@ -22,25 +21,11 @@ enum Suffix {
     Minus(u32),
 }
 
-// A rendered name's length, or a refusal. 41: a name above 4,096 bytes, with its bytes. Then 15: a buffer that is too short, with the bits
-// wanted and the bits it has.
-#[derive(Clone, Copy)]
-pub enum Rendered {
-    Length(usize),
-    Refused(Refusal),
-}
-
 // The number of decimal digits of n.
 pub fn decimal_len(n: u64) -> usize
     ensures { (result ≡ length (decimal n)) × (result ≤ 20) }
 {
-    let mut rest = n;
-    let mut len: usize = 1;
-    while 10 <= rest {
-        rest /= 10;
-        len += 1;
-    }
-    len
+    n.max(1).ilog10() as usize + 1
 }
 
 // Writes n in decimal to out from place at on, the last digit first. It must fit.
@@ -49,13 +34,10 @@ fn put_digits(n: u64, out: &mut [u8], at: usize)
     ensures { out.new ≡ pasted out.old at (decimal n) }
 {
     let mut rest = n;
-    let mut end = at + decimal_len(n) - 1;
-    while 10 <= rest {
-        out[end] = b'0' + (rest % 10) as u8;
+    for i in (at..at + decimal_len(n)).rev() {
+        out[i] = b'0' + (rest % 10) as u8;
         rest /= 10;
-        end -= 1;
     }
-    out[end] = b'0' + rest as u8;
 }
 
 // Writes n in decimal to out from place at on. If it does not fit, writes nothing.
@@ -73,27 +55,27 @@ pub fn put_decimal(n: u64, out: &mut [u8], at: usize)
 }
 
 // The refusal of a name of len bytes for a buffer of fewer.
-fn short(len: usize, space: usize) -> Rendered
+fn short(len: usize, space: usize) -> Refusal
     requires { (len ≤ 4096) × (space ≤ len) }
-    ensures { result ≡ answer_of (refused 15 (8 * len) (8 * space)) }
+    ensures { (number result.reason ≡ 15) × (result.a ≡ 8 * len) × (result.b ≡ 8 * space) }
 {
-    Rendered::Refused(Refusal {
-        number: SHORT,
+    Refusal {
+        reason: Reason::Short,
         a: 8 * (len as u64),
         b: 8 * (space as u64),
-    })
+    }
 }
 
-// Writes n in decimal to the first bytes of out, as the name with index n.
-pub fn render_index(n: u32, out: &mut [u8]) -> Rendered
+// Writes n in decimal to the first bytes of out, as the name with index n, and answers its length. Refused as in `render_fname`.
+pub fn render_index(n: u32, out: &mut [u8]) -> Result<usize, Refusal>
     ensures { RenderedAnswer (rendered_into (length out.old) (decimal n)) out.old out.new result }
 {
     let len = decimal_len(n as u64);
     if out.len() < len {
-        return short(len, out.len());
+        return Err(short(len, out.len()));
     }
     put_digits(n as u64, out, 0);
-    Rendered::Length(len)
+    Ok(len)
 }
 
 // What a number adds to a name.
@@ -140,29 +122,30 @@ fn put_suffix(s: Suffix, out: &mut [u8], at: usize)
 }
 
 // Appends a number to the base text, the first n bytes of out.
-fn append_number(out: &mut [u8], n: usize, number: i32) -> Rendered
+fn append_number(out: &mut [u8], n: usize, number: i32) -> Result<usize, Refusal>
     requires { n ≤ length out.old }
     ensures { RenderedAnswer (rendered_into (length out.old) (rendered (take n out.old) number)) out.old out.new result }
 {
     let s = suffix_of(number);
     let len = n + suffix_len(s);
     if NAME_BYTES < len {
-        return Rendered::Refused(Refusal {
-            number: NAME_TOO_LONG,
+        return Err(Refusal {
+            reason: Reason::TextTooLong,
             a: len as u64,
             b: 0,
         });
     }
     if out.len() < len {
-        return short(len, out.len());
+        return Err(short(len, out.len()));
     }
     put_suffix(s, out, n);
-    Rendered::Length(len)
+    Ok(len)
 }
 
-// Appends a number to the base text, as the Rust does to its String. The base is the first n bytes of out, or all of out if it has fewer
-// than n.
-pub fn render_fname(out: &mut [u8], n: usize, number: i32) -> Rendered
+// Appends a number to the base text, as the Rust does to its String, and answers the length of both. The base is the first n bytes of out,
+// or all of out if it has fewer than n. 41: a name above 4,096 bytes, with its bytes. Then 15: a buffer that is too short, with the bits
+// wanted and the bits it has.
+pub fn render_fname(out: &mut [u8], n: usize, number: i32) -> Result<usize, Refusal>
     ensures { RenderedAnswer (rendered_into (length out.old) (rendered (take n out.old) number)) out.old out.new result }
 {
     if out.len() < n {

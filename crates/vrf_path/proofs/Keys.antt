@@ -15,22 +15,13 @@ use Rattle.vrf_path.specs.Keys.{default_prefix, characters_core, has_key, defaul
 use Rattle.vrf_path.specs.Answers.{key_bytes}
 use Rattle.vrf_path.proofs.Laws.Keys.{has-by-parts}
 use Rattle.vrf_path.specs.declared.Key.{Key}
-use Rattle.vrf_path.specs.declared.Key.TheVariants.{Itself, Stripped, Prefixed, Cut, Inserted}
+use Rattle.vrf_path.specs.declared.Key.TheVariants.{Prefixed, Cut, Inserted}
 
 -- the length of a key
 module _ (t : List ℕ) {k : Key} where
-  pub len-stripped : k ≡ Stripped → {r : ℕ} → r ≡ length t - 9 → r ≡ length (key_bytes t k)
-  len-stripped e er = rw (e, length-drop) er
-
   pub len-prefixed : k ≡ Prefixed → 9 + length t ≡ length (key_bytes t k)
   unfolding default_prefix
   len-prefixed e = rw e (omega arith)
-
-  pub len-cut-past : {i : ℕ} → k ≡ Cut i → length t ≤ i → length t + 1 ≡ length (key_bytes t k)
-  len-cut-past e h = rw e (simp (length-append, length-take, length-drop) (omega arith))
-
-  pub len-cut : {i : ℕ} → k ≡ Cut i → i < length t → {r : ℕ} → r ≡ length t - (i + 7) → i + 1 + r ≡ length (key_bytes t k)
-  len-cut e h er = rw e (simp (length-append, length-take, length-drop) (omega arith))
 
   pub len-inserted : k ≡ Inserted → {r : ℕ} → r ≡ length t - 17 → 23 + r ≡ length (key_bytes t k)
   unfolding characters_core
@@ -82,12 +73,6 @@ module _ (t : List ℕ) (at i : ℕ) where
 
 -- the bytes of a key
 module _ (t : List ℕ) {k : Key} (i : ℕ) {r : ℕ} where
-  pub byte-itself : k ≡ Itself → r ≡ get_or t i 0 → r ≡ get_or (key_bytes t k) i 0
-  byte-itself e er = rw e er
-
-  pub byte-stripped : k ≡ Stripped → r ≡ get_or t (i + 9) 0 → r ≡ get_or (key_bytes t k) i 0
-  byte-stripped e er = let c : i + 9 ≡ 9 + i = omega arith in rw (e, get_or-drop, ← c) er
-
   pub byte-prefix : k ≡ Prefixed → i < 9 → r ≡ get_or default_prefix i 0 → r ≡ get_or (key_bytes t k) i 0
   unfolding default_prefix
   byte-prefix e h er = rw e (er ∙ sym (get_or-append default_prefix t 0 i h))
@@ -95,9 +80,6 @@ module _ (t : List ℕ) {k : Key} (i : ℕ) {r : ℕ} where
   pub byte-prefixed : k ≡ Prefixed → 9 ≤ i → r ≡ get_or t (i - 9) 0 → r ≡ get_or (key_bytes t k) i 0
   unfolding default_prefix
   byte-prefixed e h er = rw e (er ∙ sym (past default_prefix t i h))
-
-  pub byte_cut : {at : ℕ} → k ≡ Cut at → r ≡ get_or (key_bytes t (Cut at)) i 0 → r ≡ get_or (key_bytes t k) i 0
-  byte_cut e er = rw e er
 
   pub byte-root : k ≡ Inserted → i < 23 → r ≡ get_or characters_core i 0 → r ≡ get_or (key_bytes t k) i 0
   unfolding characters_core

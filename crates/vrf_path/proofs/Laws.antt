@@ -5,5 +5,5 @@ pub mod Leaf
 pub mod Toggle
 pub mod Stems
 pub mod Base
-pub mod Answers
 pub mod Determined
+pub mod Left

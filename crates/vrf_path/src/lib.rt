@@ -1,22 +1,18 @@
 // Path keys, leaves and stems of document 01. The function names are those of path.rs and resolve.rs.
 #![tactic(auto)]
 
-ghost use Rattle.std.specs.Prelude.{◌≡◌, true, ◌||◌, ◌+◌, ◌-◌, ◌^◌, ◌<◌, ◌≤◌, length, get_or, drop};
-ghost use Rattle.vrf_path.specs.Text.{same, four, eight, starts_with, ends_with, first_from, last_below};
+ghost use Rattle.std.specs.Prelude.{◌≡◌, true, ◌||◌, ◌+◌, ◌-◌, ◌<◌, ◌≤◌, length, get_or, drop};
+ghost use Rattle.std.specs.Iterator.{YieldsFirstRef, item_count};
+ghost use Rattle.vrf_path.specs.Text.{same, eight, starts_with, ends_with, first_from, last_below};
 ghost use Rattle.vrf_path.specs.Keys.{is_separator, has_separator, default_alias, core_alias, has_key, key_is};
-ghost use Rattle.vrf_path.specs.Stems.{is_digit, is_capital, digits_from, digit_stems, capital_stems, stems};
+ghost use Rattle.vrf_path.specs.Stems.{digits_from, digit_stems, capital_stems, stems};
 ghost use Rattle.vrf_path.specs.Base.{cut_at, class_base, leaf_base};
-ghost use Rattle.vrf_path.specs.Answers.{Front, spelled, default_key, core_key, KeyAnswer, key_bytes, absent, LeafAnswer, ToggleAnswer, StemAnswer, stems_after};
+ghost use Rattle.vrf_path.specs.Answers.{Front, spelled, default_key, core_key, KeyAnswer, key_bytes, LeafAnswer, ToggleAnswer, stem_length, stems_after, stems_from};
+ghost use Rattle.vrf_path.specs.Inner.Stems.{StemAnswer};
 ghost use Rattle.vrf_path.specs.Inner.Text.{place, Differ};
 
-#[derive(Clone, Copy)]
-enum TextPlace {
-    At(usize),
-    Nowhere,
-}
-
 // One of a path's keys, as the recipe that makes it from the bytes of the path. So a key is compared and hashed without being built.
-#[derive(Clone, Copy)]
+#[derive(Clone, Copy, Debug, PartialEq, Eq)]
 pub enum Key {
     // The path itself.
     Itself,
@@ -28,61 +24,53 @@ pub enum Key {
     Cut(usize),
     // With `/Game/Characters/_Core/` for the leading `/Game/Characters/`.
     Inserted,
-    // The path has no such key.
-    Absent,
-}
-
-// Where a path's leaf starts.
-#[derive(Clone, Copy)]
-pub enum Leaf {
-    At(usize),
-    Absent,
 }
 
 // A key's `_ClassNetCache` toggle: its first n bytes, or the key with the suffix appended.
-#[derive(Clone, Copy)]
+#[derive(Clone, Copy, Debug, PartialEq, Eq)]
 pub enum Toggle {
     Stripped(usize),
     Appended,
-    Absent,
 }
 
 // The rule that made a stem: cut at `_`, without the trailing digits, or also without a capital.
-#[derive(Clone, Copy)]
-pub enum Phase {
+#[derive(Clone, Copy, Debug, PartialEq, Eq)]
+enum Phase {
     Underscore,
     Digits,
     Capital,
 }
 
-// A stem of a name: its first n bytes. `first_stem` and then `next_stem`, until `End`, give `stems name`, in order.
-#[derive(Clone, Copy)]
-pub enum Stem {
-    At(usize, Phase),
-    End,
+// A stem of a name: its first `len` bytes.
+#[derive(Clone, Copy, Debug, PartialEq, Eq)]
+struct Stem {
+    len: usize,
+    phase: Phase,
 }
 
-// A byte as a number of 64 bits.
-fn wide(x: u8) -> u64
-    ensures { (result ≡ x) × (result < 256) }
-{
-    x as u64
+// The stems of a name, in order.
+#[derive(Drop)]
+pub struct Stems<'a> {
+    name: &'a [u8],
+    stem: Option<Stem>,
+    ghost within: { stem_length stem ≤ length name.now },
 }
 
-// The four bytes from i on as one number, low byte first.
-fn four(t: &[u8], i: usize) -> u64
-    requires { i + 4 ≤ length t.now }
-    ensures { (result ≡ four t.now i) × (result < 2 ^ 32) }
-{
-    wide(t[i]) + 0x100 * wide(t[i + 1]) + 0x1_0000 * wide(t[i + 2]) + 0x100_0000 * wide(t[i + 3])
-}
-
-// The eight bytes from i on as one number, low byte first. This compiles to one load.
+// The eight bytes from i on as one number, low byte first. This compiles to one load; `first_chunk` would test the length too.
 fn eight(t: &[u8], i: usize) -> u64
     requires { i + 8 ≤ length t.now }
     ensures { result ≡ eight t.now i }
 {
-    four(t, i) + 0x1_0000_0000 * four(t, i + 4)
+    u64::from_le_bytes([
+        t[i],
+        t[i + 1],
+        t[i + 2],
+        t[i + 3],
+        t[i + 4],
+        t[i + 5],
+        t[i + 6],
+        t[i + 7],
+    ])
 }
 
 // Compares two texts of one length byte by byte.
@@ -90,14 +78,7 @@ fn same_bytes(a: &[u8], b: &[u8]) -> bool
     requires { length a.now ≡ length b.now }
     ensures { result ≡ same a.now b.now }
 {
-    let mut i = 0;
-    while i < a.len() {
-        if a[i] != b[i] {
-            return false;
-        }
-        i += 1;
-    }
-    true
+    a.iter().zip(b).all(|(x, y)| *x == *y)
 }
 
 // Whether the eight bytes from i on differ in two texts.
@@ -126,12 +107,13 @@ fn last_differ(a: &[u8], b: &[u8]) -> bool
 {
     let n = a.len();
     eight_differ(a, b, n - 8)
-        | eight_differ(a, b, left(n, 16))
-        | eight_differ(a, b, left(n, 24))
-        | eight_differ(a, b, left(n, 32))
+        | eight_differ(a, b, n.saturating_sub(16))
+        | eight_differ(a, b, n.saturating_sub(24))
+        | eight_differ(a, b, n.saturating_sub(32))
 }
 
 // Compares two texts of one length, at least eight bytes: 32 bytes in each turn, and then the last 32.
+// The library's `==` takes two to five times as long where texts are equal, and `chunks_exact(32)` in this loop twice as long up to 32 bytes.
 fn same_words(a: &[u8], b: &[u8]) -> bool
     requires { (length a.now ≡ length b.now) × (8 ≤ length a.now) }
     ensures { result ≡ same a.now b.now }
@@ -162,6 +144,7 @@ pub fn same(a: &[u8], b: &[u8]) -> bool
     same_words(a, b)
 }
 
+// The library's `starts_with` and `ends_with` take more than five times as long at the prefixes and endings of this crate.
 fn starts_with(text: &[u8], p: &[u8]) -> bool
     ensures { result ≡ starts_with p.now text.now }
 {
@@ -183,36 +166,30 @@ fn ends_with(text: &[u8], p: &[u8]) -> bool
 }
 
 // The first place at which a text has p, which is not empty. The whole of p is compared only where its first byte is found.
-fn find(text: &[u8], p: &[u8]) -> TextPlace
+fn find(text: &[u8], p: &[u8]) -> Option<usize>
     requires { 0 < length p.now }
     ensures { place result ≡ first_from p.now 0 text.now }
 {
     let first = p[0];
-    let mut i = 0;
-    while i < text.len() {
-        if text[i] == first {
-            if starts_with(&text[i..], p) {
-                return TextPlace::At(i);
-            }
+    for (i, b) in text.iter().enumerate() {
+        if *b == first && starts_with(&text[i..], p) {
+            return Some(i);
         }
-        i += 1;
     }
-    TextPlace::Nowhere
+    None
 }
 
-// The last place below n at which a text has the byte b.
-fn rfind(text: &[u8], b: u8, n: usize) -> TextPlace
+// The last place below n at which a text has the byte b. `rposition` takes a third longer.
+fn rfind(text: &[u8], b: u8, n: usize) -> Option<usize>
     requires { n ≤ length text.now }
     ensures { place result ≡ last_below b text.now n }
 {
-    let mut i = n;
-    while 0 < i {
-        i -= 1;
+    for i in (0..n).rev() {
         if text[i] == b {
-            return TextPlace::At(i);
+            return Some(i);
         }
     }
-    TextPlace::Nowhere
+    None
 }
 
 // One of `/ . :`.
@@ -242,14 +219,7 @@ fn eight_separators(t: &[u8], i: usize) -> bool
 fn few_separators(text: &[u8]) -> bool
     ensures { result ≡ has_separator text.now }
 {
-    let mut i = 0;
-    while i < text.len() {
-        if is_separator(text[i]) {
-            return true;
-        }
-        i += 1;
-    }
-    false
+    text.iter().any(|b| is_separator(*b))
 }
 
 // Whether the last 16 bytes of a text have a separator, or any byte if there are fewer. The two words then overlap.
@@ -258,10 +228,11 @@ fn last_separators(t: &[u8]) -> bool
     ensures { has_separator (drop (length t.now - 16) t.now) ≡ result }
 {
     let n = t.len();
-    eight_separators(t, left(n, 16)) | eight_separators(t, n - 8)
+    eight_separators(t, n.saturating_sub(16)) | eight_separators(t, n - 8)
 }
 
-// Whether a text of at least eight bytes has a separator: 16 bytes in each turn, and then the last 16.
+// Whether a text of at least eight bytes has a separator: 16 bytes in each turn, and then the last 16. `any`, which tests one byte in each
+// turn, takes six times as long at 64 bytes, and `chunks_exact(16)` in this loop twice to three times as long.
 fn many_separators(text: &[u8]) -> bool
     requires { 8 ≤ length text.now }
     ensures { result ≡ has_separator text.now }
@@ -288,58 +259,43 @@ pub fn has_path_separator(text: &[u8]) -> bool
 }
 
 // The default alias: a leading `Default__` removed, or added to a bare name.
-pub fn default_object_alias(path: &[u8]) -> Key
+pub fn default_object_alias(path: &[u8]) -> Option<Key>
     ensures { KeyAnswer path.now default_alias default_key result }
 {
     if starts_with(path, b"Default__") {
-        return Key::Stripped;
+        return Some(Key::Stripped);
     }
     if has_path_separator(path) {
-        return Key::Absent;
+        return None;
     }
-    Key::Prefixed
+    Some(Key::Prefixed)
 }
 
 // The core alias: the first `/_Core/` becomes `/`, or `_Core/` is inserted after a leading `/Game/Characters/`.
-pub fn core_alias(path: &[u8]) -> Key
+pub fn core_alias(path: &[u8]) -> Option<Key>
     ensures { KeyAnswer path.now core_alias core_key result }
 {
-    match find(path, b"/_Core/") {
-        TextPlace::At(i) => Key::Cut(i),
-        TextPlace::Nowhere => {
-            if starts_with(path, b"/Game/Characters/") {
-                return Key::Inserted;
-            }
-            Key::Absent
-        }
+    if let Some(i) = find(path, b"/_Core/") {
+        return Some(Key::Cut(i));
     }
-}
-
-pub fn is_absent(key: Key) -> bool
-    ensures { result ≡ absent key }
-{
-    match key {
-        Key::Absent => true,
-        Key::Itself => false,
-        Key::Stripped => false,
-        Key::Prefixed => false,
-        Key::Cut(_) => false,
-        Key::Inserted => false,
+    if starts_with(path, b"/Game/Characters/") {
+        return Some(Key::Inserted);
     }
+    None
 }
 
 // n - k, or 0 if k is larger.
 pub fn left(n: usize, k: usize) -> usize
     ensures { result ≡ n - k }
 {
-    vrf_bitio::left_from(n, k)
+    n.saturating_sub(k)
 }
 
 // The byte at i, 0 past the end.
 fn byte_at(text: &[u8], i: usize) -> u8
     ensures { result ≡ get_or text.now i 0 }
 {
-    if i < text.len() { text[i] } else { 0 }
+    text.get(i).copied().unwrap_or(0)
 }
 
 // The byte `skip` places after i, 0 past the end.
@@ -360,16 +316,15 @@ pub fn key_len(path: &[u8], key: Key) -> usize
     let n = path.len();
     match key {
         Key::Itself => n,
-        Key::Stripped => left(n, 9),
+        Key::Stripped => n.saturating_sub(9),
         Key::Prefixed => 9 + n,
         Key::Cut(i) => {
             if n <= i {
                 return n + 1;
             }
-            i + 1 + left(n, i + 7)
+            i + 1 + n.saturating_sub(i + 7)
         }
-        Key::Inserted => 23 + left(n, 17),
-        Key::Absent => 0,
+        Key::Inserted => 23 + n.saturating_sub(17),
     }
 }
 
@@ -410,7 +365,6 @@ pub fn key_byte(path: &[u8], key: Key, i: usize) -> u8
             }
             byte_after(path, i - 23, 17)
         }
-        Key::Absent => 0,
     }
 }
 
@@ -421,24 +375,22 @@ fn same_key(path: &[u8], key: Key, text: &[u8]) -> bool
     if key_len(path, key) != text.len() {
         return false;
     }
-    let mut i = 0;
-    while i < text.len() {
-        if key_byte(path, key, i) != text[i] {
+    for (i, b) in text.iter().enumerate() {
+        if key_byte(path, key, i) != *b {
             return false;
         }
-        i += 1;
     }
     true
 }
 
 // Whether the path has this key and it is this text.
-pub fn is_key(path: &[u8], key: Key, text: &[u8]) -> bool
+pub fn is_key(path: &[u8], key: Option<Key>, text: &[u8]) -> bool
     ensures { result ≡ key_is (spelled path.now key) text.now }
 {
-    if is_absent(key) {
-        return false;
+    match key {
+        Some(key) => same_key(path, key, text),
+        None => false,
     }
-    same_key(path, key, text)
 }
 
 // Whether a text is one of a path's keys. The core alias is 6 bytes longer or shorter than the path, so most texts need no search for it.
@@ -461,42 +413,34 @@ pub fn has_key(path: &[u8], text: &[u8]) -> bool
 }
 
 // The place where a path's leaf starts: the non-empty text after its last dot.
-pub fn leaf_at(path: &[u8]) -> Leaf
+pub fn leaf_at(path: &[u8]) -> Option<usize>
     ensures { LeafAnswer path.now result }
 {
-    let n = path.len();
-    match rfind(path, b'.', n) {
-        TextPlace::Nowhere => Leaf::Absent,
-        TextPlace::At(i) => {
-            if i + 1 < n {
-                return Leaf::At(i + 1);
-            }
-            Leaf::Absent
-        }
+    let i = rfind(path, b'.', path.len())?;
+    if i + 1 < path.len() {
+        return Some(i + 1);
     }
+    None
 }
 
 // A key's `_ClassNetCache` toggle: the suffix removed if present, otherwise appended. A key that is only the suffix has no toggle.
-pub fn toggle_class_net_cache(key: &[u8]) -> Toggle
+pub fn toggle_class_net_cache(key: &[u8]) -> Option<Toggle>
     ensures { ToggleAnswer key.now result }
 {
     if ends_with(key, b"_ClassNetCache") {
         if 14 < key.len() {
-            return Toggle::Stripped(key.len() - 14);
+            return Some(Toggle::Stripped(key.len() - 14));
         }
-        return Toggle::Absent;
+        return None;
     }
-    Toggle::Appended
+    Some(Toggle::Appended)
 }
 
 // The last byte of a text, 0 if it is empty.
 fn last_byte(t: &[u8]) -> u8
     ensures { result ≡ get_or t.now (length t.now - 1) 0 }
 {
-    if t.len() == 0 {
-        return 0;
-    }
-    t[t.len() - 1]
+    t.last().copied().unwrap_or(0)
 }
 
 // The length of t without its ending p; all of t if it does not end with p.
@@ -532,105 +476,104 @@ pub fn leaf_base(l: &[u8]) -> usize
     class_base(l)
 }
 
-// An ASCII digit.
-fn is_digit(b: u8) -> bool
-    ensures { result ≡ is_digit b }
-{
-    if b < b'0' {
-        return false;
-    }
-    b <= b'9'
-}
-
-// An ASCII capital.
-fn is_capital(b: u8) -> bool
-    ensures { result ≡ is_capital b }
-{
-    if b < b'A' {
-        return false;
-    }
-    b <= b'Z'
-}
-
 // The length of a name without its trailing digits.
 fn digits_from(name: &[u8]) -> usize
     ensures { (result ≡ digits_from name.now (length name.now)) × (result ≤ length name.now) }
 {
-    let mut i = name.len();
-    while 0 < i {
-        if !is_digit(name[i - 1]) {
-            return i;
+    for i in (0..name.len()).rev() {
+        if !name[i].is_ascii_digit() {
+            return i + 1;
         }
-        i -= 1;
     }
     0
 }
 
 // The stem without the trailing digits, if there are some and something is left.
-fn digit_stem(name: &[u8]) -> Stem
+fn digit_stem(name: &[u8]) -> Option<Stem>
     ensures { StemAnswer name.now (digit_stems name.now (digits_from name.now (length name.now))) result }
 {
     let n = digits_from(name);
     if n == 0 {
-        return Stem::End;
+        return None;
     }
     if n < name.len() {
-        return Stem::At(n, Phase::Digits);
+        return Some(Stem {
+            len: n,
+            phase: Phase::Digits,
+        });
     }
-    Stem::End
+    None
 }
 
 // The stem of n bytes without one trailing capital, if something is left.
-fn capital_stem(name: &[u8], n: usize) -> Stem
+fn capital_stem(name: &[u8], n: usize) -> Option<Stem>
+    requires { n ≤ length name.now }
     ensures { StemAnswer name.now (capital_stems name.now n) result }
 {
     if n < 2 {
-        return Stem::End;
+        return None;
     }
-    if name.len() < n {
-        return Stem::End;
+    if name[n - 1].is_ascii_uppercase() {
+        return Some(Stem {
+            len: n - 1,
+            phase: Phase::Capital,
+        });
     }
-    if is_capital(name[n - 1]) {
-        return Stem::At(n - 1, Phase::Capital);
-    }
-    Stem::End
+    None
 }
 
 // The stem cut at the last `_` below place n and above place 0. If there is none, the first of the stems that come after the cuts.
-fn cut_stem(name: &[u8], n: usize) -> Stem
+fn cut_stem(name: &[u8], n: usize) -> Option<Stem>
     requires { n ≤ length name.now }
     ensures { StemAnswer name.now (stems_after name.now n Phase.Underscore) result }
 {
     match rfind(name, b'_', n) {
-        TextPlace::Nowhere => digit_stem(name),
-        TextPlace::At(i) => {
-            if 0 < i {
-                return Stem::At(i, Phase::Underscore);
-            }
-            digit_stem(name)
+        None => digit_stem(name),
+        Some(0) => digit_stem(name),
+        Some(len) => Some(Stem {
+            len,
+            phase: Phase::Underscore,
+        }),
+    }
+}
+
+// The stem after the one of len bytes that this rule made.
+fn next_stem(name: &[u8], stem: Stem) -> Option<Stem>
+    requires { stem.len ≤ length name.now }
+    ensures { StemAnswer name.now (stems_after name.now stem.len stem.phase) result }
+{
+    match stem.phase {
+        Phase::Underscore => cut_stem(name, stem.len),
+        Phase::Digits => capital_stem(name, stem.len),
+        Phase::Capital => None,
+    }
+}
+
+impl<'a> Stems<'a> {
+    // The first stem of a name is the whole name.
+    pub fn new(name: &'a [u8]) -> Stems<'a>
+        ensures { stems_from result.name.now result.stem ≡ stems name.now }
+    {
+        Stems {
+            name,
+            stem: Some(Stem {
+                len: name.len(),
+                phase: Phase::Underscore,
+            }),
         }
     }
 }
 
-// The first stem of a name is the whole name.
-pub fn first_stem(name: &[u8]) -> Stem
-    ensures { StemAnswer name.now (stems name.now) result }
-{
-    Stem::At(name.len(), Phase::Underscore)
-}
+impl<'a> Iterator for Stems<'a> {
+    type Item = &'a [u8];
 
-// The stem after the one of len bytes that this rule made.
-pub fn next_stem(name: &[u8], len: usize, phase: Phase) -> Stem
-    ensures { StemAnswer name.now (stems_after name.now len phase) result }
-{
-    match phase {
-        Phase::Underscore => {
-            if name.len() < len {
-                return cut_stem(name, name.len());
-            }
-            cut_stem(name, len)
-        }
-        Phase::Digits => capital_stem(name, len),
-        Phase::Capital => Stem::End,
+    ghost next_gives = { YieldsFirstRef (λ s. stems_from s.name.now s.stem) };
+
+    ghost remaining = { item_count (λ s. stems_from s.name.now s.stem) };
+
+    fn next(&mut self) -> Option<&'a [u8]> {
+        let stem = self.stem?;
+        self.stem = next_stem(self.name, stem);
+        Some(&self.name[..stem.len])
     }
 }

@@ -1,4 +1,5 @@
-// Readers of export runs and objects (reader.rs), on a well-formed memory.
+// Readers of export runs and objects (reader.rs), on a well-formed memory. Each takes the bit reader, the memory and the scratch buffer one by
+// one, as reader.rs takes reader and cache: with a struct of three `&mut`, each contract would also say that the struct keeps all three.
 #![tactic(auto)]
 
 pub mod fields;
@@ -6,19 +7,3 @@ pub mod guids;
 pub mod names;
 pub mod objects;
 pub mod runs;
-
-use vrf_bitio::{Cursor, Refusal};
-
-// A number that a reader answers (a run's count, an object's GUID, a block's end byte), and the cursor after it.
-#[derive(Clone, Copy)]
-pub enum ReadNumber {
-    Of(u32, Cursor),
-    Refused(Refusal),
-}
-
-// The end of one part of a run: the cursor after it, or a refusal.
-#[derive(Clone, Copy)]
-pub enum Advanced {
-    To(Cursor),
-    Refused(Refusal),
-}

@@ -1,57 +1,27 @@
 // The two export runs: a packed count, then that many entries of one kind.
-ghost use Rattle.vrf_model.specs.Parser.{times};
+ghost use Rattle.std.specs.Prelude.{◌≤◌, length};
+ghost use Rattle.vrf_model.specs.Parser.{Parser};
 ghost use Rattle.vrf_model.specs.Runs.{run_of};
-ghost use Rattle.vrf_reader.specs.Inner.Simulates.{Refines, cursor_outcome, number_outcome};
-ghost use Rattle.vrf_reader.specs.Inner.Runs.{entry_of, RunAsked};
+ghost use Rattle.vrf_store.specs.Inner.WellFormed.{WellFormed};
+ghost use Rattle.vrf_reader.specs.Inner.Simulates.{Refines};
+ghost use Rattle.vrf_reader.specs.Inner.Runs.{ReadsEntries};
 
-use crate::fields::export_entry;
-use crate::guids::guid_entry;
-use crate::{Advanced, ReadNumber};
-use vrf_bitio::{Cursor, Word};
-
-fn read_entry(s: &[u8], c: Cursor, m: &mut [u8], scratch: &mut [u8], guids: bool) -> Advanced
-    requires { RunAsked guids s.now c m.old scratch.old }
-    ensures { Refines s.now (entry_of guids) c m.old m.new (cursor_outcome result) }
-{
-    if guids {
-        return guid_entry(s, c, m, scratch);
-    }
-    export_entry(s, c, m, scratch)
-}
-
-fn read_entries(
-    s: &[u8],
-    c: Cursor,
-    m: &mut [u8],
-    scratch: &mut [u8],
-    n: u32,
-    guids: bool,
-) -> Advanced
-    requires { RunAsked guids s.now c m.old scratch.old }
-    ensures { Refines s.now (times n (entry_of guids)) c m.old m.new (cursor_outcome result) }
-{
-    let mut at = c;
-    let mut i: u32 = 0;
-    while i < n {
-        match read_entry(s, at, m, scratch, guids) {
-            Advanced::Refused(r) => return Advanced::Refused(r),
-            Advanced::To(next) => at = next,
-        }
-        i += 1;
-    }
-    Advanced::To(at)
-}
+use vrf_bitio::{BitReader, Refusal};
 
 // Answers the count of entries. A refused run leaves all it took before the refused step.
-pub fn read_run(s: &[u8], c: Cursor, m: &mut [u8], scratch: &mut [u8], guids: bool) -> ReadNumber
-    requires { RunAsked guids s.now c m.old scratch.old }
-    ensures { Refines s.now (run_of (entry_of guids)) c m.old m.new (number_outcome result) }
+pub fn read_run<F: FnMut(&mut BitReader<'_>, &mut [u8], &mut [u8]) -> Result<(), Refusal>>(
+    reader: &mut BitReader<'_>,
+    m: &mut [u8],
+    scratch: &mut [u8],
+    mut read_entry: F,
+) -> Result<u32, Refusal>
+    ghost entry: { Parser (Unit {0}) }
+    requires { WellFormed m.old × ((4096 ≤ length scratch.old) × ReadsEntries F.FnMut entry reader.old) }
+    ensures { Refines (run_of entry) reader.old reader.new m.old m.new result }
 {
-    match c.read_int_packed(s) {
-        Word::Refused(r) => ReadNumber::Refused(r),
-        Word::Value(n, next) => match read_entries(s, next, m, scratch, n, guids) {
-            Advanced::Refused(r) => ReadNumber::Refused(r),
-            Advanced::To(end) => ReadNumber::Of(n, end),
-        },
+    let n = reader.read_int_packed()?;
+    for _ in 0..n {
+        read_entry(reader, m, scratch)?;
     }
+    Ok(n)
 }

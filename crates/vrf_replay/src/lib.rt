@@ -2,118 +2,143 @@
 // Windows and blocks are in the scratch buffer.
 #![tactic(auto)]
 
-mod calls;
 mod tallies;
 
-ghost use Rattle.std.specs.Prelude.{◌≤◌, ◌<◌, length};
+ghost use Rattle.std.specs.Prelude.{◌≤◌, length, IfOk};
 ghost use Rattle.vrf_script_calls.specs.Inner.Areas.{total};
 ghost use Rattle.vrf_script_calls.specs.Inner.Blocks.{KeptIn};
 
-use vrf_script::run::Run;
-use vrf_script::{answer, items};
-use vrf_script_calls::turn::Turn;
-use vrf_script_calls::{blocks, books};
+use std::fmt;
+use std::fmt::Write;
+use vrf_script::answers::Answers;
+use vrf_script::bits;
+use vrf_script::call::{BookCall, Call};
+use vrf_script::script::{Script, Stop};
+use vrf_script_calls::books::Books;
+use vrf_script_calls::{blocks, books, calls};
 
 // The first four bytes of a script, `VJS1`, as one number.
 const HEAD: u32 = 0x3153_4A56;
 
-// The calls that move no book and keep the last written block.
-fn play_still(
-    script: &[u8],
-    code: u8,
-    memory: &mut [u8],
-    scratch: &mut [u8],
-    out: &mut [u8],
-    turn: Turn,
-) -> Run
-    requires { (turn.run.at ≤ length script.now) × (total turn.books ≤ length memory.old) × (KeptIn (length scratch.old) turn.kept) }
-{
-    let run = turn.run;
-    let books = turn.books;
-    let kept = turn.kept;
-    match code {
-        0x03..=0x06 | 0x10..=0x13 | 0x20..=0x2E | 0x30..=0x31 => {
-            calls::play(script, code, memory, &mut scratch[kept..], out, run, books)
-        }
-        0x15 => calls::play_written(memory, &scratch[0..kept], out, run, books),
-        _ => run.unknown(out),
-    }
+// What a call leaves for the next one: the books, and the length of the last written block, which is at the front of the scratch buffer.
+#[derive(Clone, Copy, Debug, PartialEq, Eq)]
+struct Played {
+    books: Books,
+    kept: usize,
 }
 
-// The call with the given code. The run is at its arguments.
-fn play_code(
-    script: &[u8],
-    code: u8,
-    memory: &mut [u8],
+// A call on an opened book. Answers the length of the last written block.
+fn on_book(
+    call: BookCall<'_>,
+    book: &mut [u8],
     scratch: &mut [u8],
-    out: &mut [u8],
-    turn: Turn,
-) -> Turn
-    requires { (turn.run.at ≤ length script.now) × (total turn.books ≤ length memory.old) × (KeptIn (length scratch.old) turn.kept) }
-    ensures { (total result.books ≤ length memory.old) × (KeptIn (length scratch.old) result.kept) }
+    kept: usize,
+    answers: &mut Answers<'_>,
+) -> Result<usize, Stop>
+    requires { KeptIn (length scratch.old) kept }
+    ensures { IfOk result (KeptIn (length scratch.old)) }
 {
-    match code {
-        0x01 => books::open(script, memory, out, turn),
-        0x02 => books::choose(script, out, turn),
-        0x14 => blocks::play(script, memory, scratch, out, turn),
+    match call {
+        BookCall::Write(n) => blocks::write(book, n, scratch, kept, answers),
+        BookCall::ReadWritten => {
+            calls::play_written(book, &scratch[..kept], answers)?;
+            Ok(kept)
+        }
         _ => {
-            let run = play_still(script, code, memory, scratch, out, turn);
-            turn.after(run)
+            calls::play(book, call, &mut scratch[kept..], answers)?;
+            Ok(kept)
         }
     }
 }
 
-// Call number n, at the run's place, which is before the script's end.
 fn play_call(
-    script: &[u8],
-    n: u64,
+    call: Call<'_>,
+    script: &mut Script<'_>,
     memory: &mut [u8],
     scratch: &mut [u8],
-    out: &mut [u8],
-    turn: Turn,
-) -> Turn
-    requires { (turn.run.at < length script.now) × (total turn.books ≤ length memory.old) × (KeptIn (length scratch.old) turn.kept) }
-    ensures { (total result.books ≤ length memory.old) × (KeptIn (length scratch.old) result.kept) }
+    played: Played,
+    answers: &mut Answers<'_>,
+) -> Result<Played, Stop>
+    requires { (total played.books ≤ length memory.old) × (KeptIn (length scratch.old) played.kept) }
+    ensures { IfOk result (λ p. (total p.books ≤ length memory.old) × (KeptIn (length scratch.old) p.kept)) }
 {
-    let run = turn.run;
-    let at = run.at;
-    let next = turn.after(run.numbered(n, at + 1));
-    play_code(script, script[at], memory, scratch, out, next)
+    let mut books = played.books;
+    let kept = played.kept;
+    match call {
+        Call::Open { book, allowances } => {
+            books.choose(book);
+            let books = books::open(memory, books, allowances, answers)?;
+            Ok(Played { books, kept })
+        }
+        Call::Use(book) => {
+            books.choose(book);
+            answers.line("using")?;
+            Ok(Played { books, kept })
+        }
+        Call::OnBook(call) => {
+            let area = books.area(memory);
+            if area.from == area.to {
+                answers.line("no book")?;
+                return Ok(played);
+            }
+            let book = &mut memory[area.from..area.to];
+            let kept = on_book(call, book, scratch, kept, answers)?;
+            Ok(Played { books, kept })
+        }
+        Call::Bits(blob) => {
+            bits::play(blob.bytes(&mut scratch[kept..])?, script, answers)?;
+            Ok(played)
+        }
+        Call::Tally(blob) => {
+            tallies::play(blob.bytes(&mut scratch[kept..])?, answers)?;
+            Ok(played)
+        }
+    }
 }
 
 // A call has at least one byte, so a script has at most as many calls as bytes.
-fn play_calls(script: &[u8], memory: &mut [u8], scratch: &mut [u8], out: &mut [u8]) -> usize {
-    let mut turn = Turn::first();
-    for call in 0..script.len() {
-        let run = turn.run;
-        if script.len() <= run.at {
-            return run.to;
-        }
-        if run.over {
-            return run.to;
-        }
-        turn = play_call(script, call as u64, memory, scratch, out, turn);
+fn play_calls(
+    bytes: &[u8],
+    memory: &mut [u8],
+    scratch: &mut [u8],
+    answers: &mut Answers<'_>,
+) -> Result<(), Stop> {
+    let mut script = Script::new(bytes);
+    if script.take_u32()? != HEAD {
+        return Err(Stop::NoScript);
     }
-    let run = turn.run;
-    run.to
+    let mut played = Played {
+        books: Books::unopened(),
+        kept: 0,
+    };
+    for n in 0..bytes.len() {
+        let Some(code) = script.next_byte() else {
+            break;
+        };
+        answers.call = n as u64;
+        let call = Call::take(code, &mut script)?;
+        played = play_call(call, &mut script, memory, scratch, played, answers)?;
+    }
+    Ok(())
+}
+
+fn stopped(stop: Stop, answers: &mut Answers<'_>) -> fmt::Result {
+    answers.begin()?;
+    write!(answers, "{stop}")?;
+    answers.end();
+    Ok(())
 }
 
 // Answers the length of the answers.
 pub fn play(script: &[u8], memory: &mut [u8], scratch: &mut [u8], out: &mut [u8]) -> usize
     ensures { result ≤ length out.old }
 {
-    if items::word_at(script, 0) != HEAD {
-        let run = Run {
-            call: 0,
-            at: 0,
-            to: 0,
-            over: false,
-        }
-        .cut(out);
-        return answer::clipped(out, run.to);
+    let mut answers = Answers::new(&mut *out);
+    if let Err(stop) = play_calls(script, memory, scratch, &mut answers) {
+        let _ = stopped(stop, &mut answers);
     }
-    let to = play_calls(script, memory, scratch, out);
-    answer::clipped(out, to)
+    let n = answers.len();
+    n.min(out.len())
 }
 
 // `play` as `vrf_replay_c` exports it to C.

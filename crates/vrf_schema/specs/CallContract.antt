@@ -1,8 +1,11 @@
 -- The contract of every exported book call and lookup, on a memory m that the call leaves as m'. If m fails the check, the call is refused
 -- with 2 and m stays as it was. If m passes, then m' passes too and holds the book that document 01 makes of the book in m, and the answer
 -- is document 01's. A function that borrows the book only to read it has m' = m.
-use Rattle.std.specs.Prelude.{◌≡◌, true, false, List, [], ℕ, length}
+use Rattle.std.specs.Prelude.{◌≡◌, true, false, List, ℕ, length, Result, Ok, Err}
+use Rattle.std.specs.Borrow.{Bor}
+use Rattle.vrf_bitio.specs.declared.Refusal.{Refusal}
 use Rattle.vrf_model.specs.Calls.{Lookup, Call, lookup, Answer, refusal-of, text, run, run_book}
+use Rattle.vrf_model.specs.Answers.{refusal_of}
 use Rattle.vrf_store.specs.Store.{book_of}
 use Rattle.vrf_store.specs.Check.{check}
 
@@ -24,12 +27,7 @@ pub record CallContract (c : Call) (m m' : List ℕ) (r : Answer) : Type 0 where
 abbrev pub LookupContract : Lookup → List ℕ → Answer → Type 0
 LookupContract l m r = CallContract (lookup l) m m r
 
--- A lookup of a text answers the part of the book that holds the text. An enum cannot hold a reference, so the number of the refusal is a
--- second result: 0 means none. A refused lookup answers the empty part.
-abbrev pub text_of : ℕ → List ℕ → Answer
-text_of ℕ.zero t = text t
-text_of (ℕ.suc n) t = refusal-of (ℕ.suc n) 0 0
-
-pub record TextLookupContract (l : Lookup) (m : List ℕ) (refused : ℕ) (part : List ℕ) : Type 0 where
-  pub called : LookupContract l m (text_of refused part)
-  pub empty : (refused ≡ 0 → ⊥) → part ≡ []
+-- a lookup of a text answers the part of the book that holds the text
+abbrev pub text_of : Result (Bor (List ℕ)) Refusal → Answer
+text_of (Ok t) = text t.now
+text_of (Err r) = refusal_of r

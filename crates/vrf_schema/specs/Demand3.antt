@@ -1,15 +1,13 @@
 -- Demand 3 (document 01, The book), stated over the contracts of the exported functions: a reader who joins late, from a written block,
 -- always agrees with one who was there from the start. The statement mentions the code only through `OpenContract`, `CallContract` and
 -- `WriteContract`, the contracts of the exported functions. `Laws.Demand3` proves it.
-use Rattle.std.specs.Prelude.{◌≡◌, List, [], ◌∷◌, ℕ, ◌≤◌, length, take}
+use Rattle.std.specs.Prelude.{◌≡◌, List, [], ◌∷◌, ℕ, ◌≤◌, length, take, Result, Ok}
+use Rattle.vrf_bitio.specs.declared.Refusal.{Refusal}
 use Rattle.vrf_model.specs.Book.{Allowances, fresh_book}
 use Rattle.vrf_model.specs.Writer.{write}
 use Rattle.vrf_model.specs.Calls.{GroupLookup, of_groups, Call, lookup, Answer, block_counts, whole, read_checkpoint_tables, look_groups, play, answers}
 use Rattle.vrf_model.specs.Answers.{wrote_of}
 use Rattle.vrf_model.specs.LateJoin.{Writing, counts_of_block, counters_of_block, apart}
-use Rattle.vrf_model.specs.declared.Acted.TheVariants.{Done}
-use Rattle.vrf_model.specs.declared.Wrote.{Wrote}
-use Rattle.vrf_model.specs.declared.Wrote.TheVariants.{Length}
 use Rattle.vrf_store.specs.Store.{book_of}
 use Rattle.vrf_schema.specs.CallContract.{CallContract}
 use Rattle.vrf_schema.specs.OpenContract.{OpenContract}
@@ -68,12 +66,12 @@ pub record LateJoin (a : Allowances) (calls : List Call) (rs : List Answer) (m :
   pub book : book_of m ≡ play calls (fresh_book a)
   pub answered : rs ≡ answers calls (fresh_book a)
   -- For all allowances: the writer is refused exactly if some group's path is a key of an earlier group (44) or the block is too long (45).
-  pub writing : {before after : List ℕ} {r : Wrote} → WriteContract m before after r → (wrote_of r ≡ write (length before) (book_of m).content) × Writing (length before) (book_of m).content
+  pub writing : {before after : List ℕ} {r : Result ℕ Refusal} → WriteContract m before after r → (wrote_of r ≡ write (length before) (book_of m).content) × Writing (length before) (book_of m).content
   -- If the writer is not refused, a late memory that is opened with the same allowances reads the block, and from then on the two readers
   -- agree. The allowance of literals must be at least that of GUIDs: the writer sends every GUID's path as a literal, so with fewer
   -- literals some blocks could not be read.
-  pub joins : a.guids ≤ a.literals → {before after : List ℕ} {n : ℕ} → WriteContract m before after (Length n)
-      → {lent late₀ late : List ℕ} {r : Answer} → OpenContract a lent late₀ Done → CallContract (read_checkpoint_tables (whole (take n after))) late₀ late r
+  pub joins : a.guids ≤ a.literals → {before after : List ℕ} {n : ℕ} → WriteContract m before after (Ok n)
+      → {lent late₀ late : List ℕ} {r : Answer} → OpenContract a lent late₀ (Ok tt) → CallContract (read_checkpoint_tables (whole (take n after))) late₀ late r
       → LateReader m late r
   -- For all allowances: the early reader's lookups of groups depend on the group list alone. `Agree` states this for both readers after
   -- further calls. A late memory that could not read the block is also an opened memory after a list of calls, so this covers it too.
@@ -81,4 +79,4 @@ pub record LateJoin (a : Allowances) (calls : List Call) (rs : List Answer) (m :
 
 -- Demand 3, for every set of allowances with which a book was opened, and for every list of calls.
 pub record Demand-3 : Type 0 where
-  pub late_join : (a : Allowances) {lent m₀ m : List ℕ} → OpenContract a lent m₀ Done → (calls : List Call) {rs : List Answer} → Trace calls m₀ rs m → LateJoin a calls rs m
+  pub late_join : (a : Allowances) {lent m₀ m : List ℕ} → OpenContract a lent m₀ (Ok tt) → (calls : List Call) {rs : List Answer} → Trace calls m₀ rs m → LateJoin a calls rs m

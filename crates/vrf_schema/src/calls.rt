@@ -7,11 +7,9 @@ ghost use Rattle.vrf_schema.specs.CallContract.{CallContract};
 ghost use Rattle.vrf_schema.specs.OpenContract.{OpenContract};
 
 use crate::checked::{check_book, check_book_text};
-use vrf_bitio::Refusal;
+use vrf_bitio::{Reason, Refusal};
 use vrf_cache::{clear, fields, groups, guids};
-use vrf_model::{Acted, Added, Placed, TOO_MANY_SLOTS};
 use vrf_store::open;
-use vrf_text::Caller;
 
 // The number of bytes that `open` needs; 0 if `open` refuses the allowances.
 pub fn memory_needed(guids: u64, groups: u64, fields: u64, text: u64, literals: u64) -> u64
@@ -28,48 +26,45 @@ pub fn open(
     fields: u64,
     text: u64,
     literals: u64,
-) -> Acted
+) -> Result<(), Refusal>
     ensures { OpenContract (record { guids = guids; groups = groups; fields = fields; text = text; literals = literals }) book.old book.new result }
 {
     open::open(book, guids, groups, fields, text, literals)
 }
 
-pub fn clear(book: &mut [u8]) -> Acted
+pub fn clear(book: &mut [u8]) -> Result<(), Refusal>
     ensures { CallContract clear_book book.old book.new (acted_of result) }
 {
-    match check_book(book) {
-        Caller::Refused(r) => Acted::Refused(r),
-        Caller::Accepted => clear::clear(book),
-    }
+    check_book(book)?;
+    clear::clear(book)
 }
 
 // Sets the path and the outer of a GUID. Outer 0 means none.
-pub fn set_net_guid_path(book: &mut [u8], guid: u32, path: &[u8], outer: u32) -> Acted
+pub fn set_net_guid_path(book: &mut [u8], guid: u32, path: &[u8], outer: u32) -> Result<(), Refusal>
     ensures { CallContract (set_net_guid_path guid path.now outer) book.old book.new (acted_of result) }
 {
-    match check_book_text(book, path) {
-        Caller::Refused(r) => Acted::Refused(r),
-        Caller::Accepted => guids::set_net_guid_path(book, guid, path, outer),
-    }
+    check_book_text(book, path)?;
+    guids::set_net_guid_path(book, guid, path, outer)
 }
 
 // Adds a group, merges it into the group that its path finds, or replaces the group that has its index.
-pub fn add_export_group(book: &mut [u8], path: &[u8], index: u32, slots: u32) -> Added
+pub fn add_export_group(
+    book: &mut [u8],
+    path: &[u8],
+    index: u32,
+    slots: u32,
+) -> Result<u32, Refusal>
     ensures { CallContract (add_export_group path.now index slots) book.old book.new (added_of result) }
 {
-    match check_book_text(book, path) {
-        Caller::Refused(r) => Added::Refused(r),
-        Caller::Accepted => {
-            if 65536 < slots {
-                return Added::Refused(Refusal {
-                    number: TOO_MANY_SLOTS,
-                    a: slots as u64,
-                    b: 0,
-                });
-            }
-            groups::add_export_group(book, path, index, slots)
-        }
+    check_book_text(book, path)?;
+    if 65536 < slots {
+        return Err(Refusal {
+            reason: Reason::TooManySlots,
+            a: slots as u64,
+            b: 0,
+        });
     }
+    groups::add_export_group(book, path, index, slots)
 }
 
 // Puts a field into the slot of its handle, in the group with the given path-name index.
@@ -79,11 +74,9 @@ pub fn set_field_on_group(
     handle: u32,
     checksum: u32,
     name: &[u8],
-) -> Placed
+) -> Result<bool, Refusal>
     ensures { CallContract (set_field_on_group index handle checksum name.now) book.old book.new (placed_of result) }
 {
-    match check_book_text(book, name) {
-        Caller::Refused(r) => Placed::Refused(r),
-        Caller::Accepted => fields::set_field_on_group(book, index, handle, checksum, name),
-    }
+    check_book_text(book, name)?;
+    fields::set_field_on_group(book, index, handle, checksum, name)
 }

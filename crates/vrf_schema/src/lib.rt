@@ -7,13 +7,3 @@ pub mod checked;
 pub mod lookups;
 pub mod reading;
 pub mod writing;
-
-use vrf_bitio::Refusal;
-use vrf_store::counters::BookCounters;
-
-// The answer of `get_counters`.
-#[derive(Clone, Copy)]
-pub enum CountersRead {
-    Are(BookCounters),
-    Refused(Refusal),
-}

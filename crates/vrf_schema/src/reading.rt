@@ -3,66 +3,68 @@ ghost use Rattle.std.specs.Prelude.{◌≡◌, ◌-◌};
 ghost use Rattle.vrf_model.specs.Calls.{read_net_field_exports, read_export_guids, load_object, read_checkpoint_tables};
 ghost use Rattle.vrf_model.specs.Answers.{ran_of, tables_of};
 ghost use Rattle.vrf_schema.specs.CallContract.{CallContract};
-ghost use Rattle.vrf_schema.specs.Inner.Reading.{CheckedWindow, ran_by};
+ghost use Rattle.vrf_schema.specs.Inner.Reading.{CheckedWindow};
 
 use crate::checked::check_book;
-use vrf_bitio::{Cursor, Opened};
+use vrf_bitio::{BitReader, Refusal};
 use vrf_checkpoint::block;
-use vrf_model::{Ran, Tables};
-use vrf_reader::{ReadNumber, fields, guids, objects};
-use vrf_text::Caller;
+use vrf_model::{CheckpointTables, Ran};
+use vrf_reader::{fields, guids, objects};
 
 // The checks before a call with a window: first the check of the book, then those of the window.
-fn check_book_window(book: &[u8], window: &[u8], first: u64, count: u64) -> Opened
-    ensures { CheckedWindow book.now window.now first count result }
+fn check_book_window<'a>(
+    book: &[u8],
+    window: &'a [u8],
+    first: u64,
+    count: u64,
+) -> Result<BitReader<'a>, Refusal>
+    ensures { CheckedWindow book.now window.entry first count result }
 {
-    match check_book(book) {
-        Caller::Refused(r) => Opened::Refused(r),
-        Caller::Accepted => Cursor::window(window, first, count),
-    }
-}
-
-// The call's answer, which holds the position after what was read instead of the cursor.
-fn ended(w: ReadNumber) -> Ran
-    ensures { result ≡ ran_by w }
-{
-    match w {
-        ReadNumber::Of(n, next) => Ran::Ended(n, next.pos),
-        ReadNumber::Refused(r) => Ran::Refused(r),
-    }
+    check_book(book)?;
+    BitReader::window(window, first, count)
 }
 
 // The depth left: an object at depth 16 or more is refused.
 fn depth_left(depth: u32) -> u32
     ensures { result ≡ 16 - depth }
 {
-    if depth < 16 { 16 - depth } else { 0 }
+    16u32.saturating_sub(depth)
 }
 
 // Reads a fields run.
-pub fn read_net_field_exports(book: &mut [u8], window: &[u8], first: u64, count: u64) -> Ran
+pub fn read_net_field_exports(
+    book: &mut [u8],
+    window: &[u8],
+    first: u64,
+    count: u64,
+) -> Result<Ran, Refusal>
     ensures { CallContract (read_net_field_exports (record { bytes = window.now; first = first; count = count })) book.old book.new (ran_of result) }
 {
-    match check_book_window(book, window, first, count) {
-        Opened::Refused(r) => Ran::Refused(r),
-        Opened::Window(c) => {
-            let mut scratch = [0u8; 4096];
-            ended(fields::read_net_field_exports(window, c, book, &mut scratch))
-        }
-    }
+    let mut reader = check_book_window(book, window, first, count)?;
+    let mut scratch = [0u8; 4096];
+    let count = fields::read_net_field_exports(&mut reader, book, &mut scratch)?;
+    Ok(Ran {
+        count,
+        pos: reader.pos,
+    })
 }
 
 // Reads a GUID run.
-pub fn read_export_guids(book: &mut [u8], window: &[u8], first: u64, count: u64) -> Ran
+pub fn read_export_guids(
+    book: &mut [u8],
+    window: &[u8],
+    first: u64,
+    count: u64,
+) -> Result<Ran, Refusal>
     ensures { CallContract (read_export_guids (record { bytes = window.now; first = first; count = count })) book.old book.new (ran_of result) }
 {
-    match check_book_window(book, window, first, count) {
-        Opened::Refused(r) => Ran::Refused(r),
-        Opened::Window(c) => {
-            let mut scratch = [0u8; 4096];
-            ended(guids::read_export_guids(window, c, book, &mut scratch))
-        }
-    }
+    let mut reader = check_book_window(book, window, first, count)?;
+    let mut scratch = [0u8; 4096];
+    let count = guids::read_export_guids(&mut reader, book, &mut scratch)?;
+    Ok(Ran {
+        count,
+        pos: reader.pos,
+    })
 }
 
 // Reads an object at the given starting depth.
@@ -73,27 +75,28 @@ pub fn load_object(
     count: u64,
     exporting: bool,
     depth: u32,
-) -> Ran
+) -> Result<Ran, Refusal>
     ensures { CallContract (load_object (record { bytes = window.now; first = first; count = count }) exporting depth) book.old book.new (ran_of result) }
 {
-    match check_book_window(book, window, first, count) {
-        Opened::Refused(r) => Ran::Refused(r),
-        Opened::Window(c) => {
-            let mut scratch = [0u8; 4096];
-            let left = depth_left(depth);
-            ended(objects::load_object(window, c, book, &mut scratch, exporting, left))
-        }
-    }
+    let mut reader = check_book_window(book, window, first, count)?;
+    let mut scratch = [0u8; 4096];
+    let left = depth_left(depth);
+    let guid = objects::load_object(&mut reader, book, &mut scratch, exporting, left)?;
+    Ok(Ran {
+        count: guid,
+        pos: reader.pos,
+    })
 }
 
-pub fn read_checkpoint_tables(book: &mut [u8], window: &[u8], first: u64, count: u64) -> Tables
+pub fn read_checkpoint_tables(
+    book: &mut [u8],
+    window: &[u8],
+    first: u64,
+    count: u64,
+) -> Result<CheckpointTables, Refusal>
     ensures { CallContract (read_checkpoint_tables (record { bytes = window.now; first = first; count = count })) book.old book.new (tables_of result) }
 {
-    match check_book_window(book, window, first, count) {
-        Opened::Refused(r) => Tables::Refused(r),
-        Opened::Window(c) => {
-            let mut scratch = [0u8; 4096];
-            block::read_checkpoint_tables(window, c, book, &mut scratch)
-        }
-    }
+    let mut reader = check_book_window(book, window, first, count)?;
+    let mut scratch = [0u8; 4096];
+    block::read_checkpoint_tables(&mut reader, book, &mut scratch)
 }

@@ -1,10 +1,8 @@
-// What a script of calls is made of (docs/SCRIPTS.md): the items in it, the arguments of a call, the lines of answers, and the call `bits`,
-// which needs no book.
+// What a script of calls is made of (docs/SCRIPTS.md): the items in it, its calls, the lines of answers, and the call `bits`, which needs no
+// book.
 #![tactic(auto)]
 
-pub mod answer;
+pub mod answers;
 pub mod bits;
-pub mod given;
-pub mod items;
-pub mod run;
-mod windows;
+pub mod call;
+pub mod script;

@@ -1,4 +1,2 @@
--- A law that the proofs of this crate share: what is written stays inside the lent buffer.
+-- What the calls use of the writer's contract.
 pub mod Written
--- laws
-pub mod Laws

@@ -1,18 +1,18 @@
-// The four books of a run, and the calls that open and choose one.
+// The four books of a run, and the call that opens one.
 //
 // The books are one after another at the front of the memory, in the order of their numbers. The memory after the last book is free. An
 // unopened book has no bytes; every opened book has some. When a book is opened with a new size, the books after it are moved, so there is
 // no unused memory between books. An opening fails for lack of memory only if all the books together are longer than the memory.
-ghost use Rattle.std.specs.Prelude.{◌≡◌, ◌+◌, ◌<◌, ◌≤◌, length};
+ghost use Rattle.std.specs.Prelude.{◌≡◌, ◌+◌, ◌≤◌, length, IfOk};
 ghost use Rattle.vrf_script_calls.specs.Inner.Areas.{total};
 
-use crate::turn::Turn;
-use vrf_model::Acted;
-use vrf_script::items;
-use vrf_script::run::Run;
+use std::fmt;
+use std::fmt::Write;
+use vrf_script::answers::Answers;
+use vrf_script::call::Allowances;
 
 // The number of the current book, and the size of each book in bytes.
-#[derive(Clone, Copy)]
+#[derive(Clone, Copy, Debug, PartialEq, Eq)]
 pub struct Books {
     pub current: u8,
     pub a: usize,
@@ -22,219 +22,134 @@ pub struct Books {
 }
 
 // Where the current book begins and ends, and where the last book ends.
-#[derive(Clone, Copy)]
+#[derive(Clone, Copy, Debug, PartialEq, Eq)]
 pub struct Area {
     pub from: usize,
     pub to: usize,
     pub end: usize,
 }
 
-// The area of the current book, and the books with a new size of the current book.
-#[derive(Clone, Copy)]
-struct SizedArea {
-    area: Area,
-    books: Books,
-}
-
-// The allowances that a book is opened with.
-#[derive(Clone, Copy)]
-struct AllowanceNumbers {
-    guids: u64,
-    groups: u64,
-    fields: u64,
-    text: u64,
-    literals: u64,
-}
-
-fn books_of(current: u8, a: usize, b: usize, c: usize, d: usize) -> Books
-    ensures { total result ≡ a + b + c + d }
-{
-    Books {
-        current,
-        a,
-        b,
-        c,
-        d,
-    }
-}
-
-fn sized_at(from: usize, to: usize, end: usize, books: Books) -> SizedArea
-    ensures { (result.area.from ≡ from) × (result.area.to ≡ to) × (result.area.end ≡ end) × (total result.books ≡ total books) }
-{
-    SizedArea {
-        area: Area { from, to, end },
-        books,
-    }
-}
-
 impl Books {
     pub fn unopened() -> Books
         ensures { total result ≡ 0 }
     {
-        books_of(0, 0, 0, 0, 0)
+        Books {
+            current: 0,
+            a: 0,
+            b: 0,
+            c: 0,
+            d: 0,
+        }
     }
 
     // Numbers of books are taken modulo 4.
-    pub fn choosing(self, number: u8) -> Books
-        ensures { total result ≡ total self }
+    pub fn choose(&mut self, number: u8)
+        ensures { total self.new ≡ total self.old }
     {
-        books_of(number % 4, self.a, self.b, self.c, self.d)
+        self.current = number % 4;
     }
 
+    // The current book's area.
     pub fn area(self, memory: &[u8]) -> Area
         requires { total self ≤ length memory.now }
         ensures { (result.from ≤ result.to) × (result.to ≤ total self) }
     {
-        let sized = self.sized(memory, 0);
-        sized.area
+        self.resized(memory, 0).0
     }
 
-    // The memory is a parameter only because its length bounds the sums.
-    fn sized(self, memory: &[u8], n: usize) -> SizedArea
+    // The area of the current book, and the books with n bytes for it. The memory is a parameter only because its length bounds the sums.
+    fn resized(self, memory: &[u8], n: usize) -> (Area, Books)
         requires { total self ≤ length memory.now }
-        ensures { (result.area.from ≤ result.area.to) × (result.area.to ≤ result.area.end) × (result.area.end ≡ total self) × (total result.books + result.area.to ≡ result.area.from + n + result.area.end) }
+        ensures { (result.0.from ≤ result.0.to) × (result.0.to ≤ result.0.end) × (result.0.end ≡ total self) × (total result.1 + result.0.to ≡ result.0.from + n + result.0.end) }
     {
-        let current = self.current;
-        let a = self.a;
-        let b = self.b;
-        let c = self.c;
-        let d = self.d;
+        let Books {
+            current,
+            a,
+            b,
+            c,
+            d,
+        } = self;
         let end = a + b + c + d;
-        match current {
-            0 => sized_at(0, a, end, books_of(current, n, b, c, d)),
-            1 => sized_at(a, a + b, end, books_of(current, a, n, c, d)),
-            2 => sized_at(a + b, a + b + c, end, books_of(current, a, b, n, d)),
-            _ => sized_at(a + b + c, end, end, books_of(current, a, b, c, n)),
-        }
+        let (from, to) = match current {
+            0 => (0, a),
+            1 => (a, a + b),
+            2 => (a + b, a + b + c),
+            _ => (a + b + c, end),
+        };
+        let books = match current {
+            0 => Books { a: n, ..self },
+            1 => Books { b: n, ..self },
+            2 => Books { c: n, ..self },
+            _ => Books { d: n, ..self },
+        };
+        (Area { from, to, end }, books)
     }
-}
-
-// Step k of a move of n bytes is for this byte: the first byte is moved first, or the last one.
-fn moved_at(from_end: bool, n: usize, k: usize) -> usize
-    requires { k < n }
-    ensures { result < n }
-{
-    if from_end { n - 1 - k } else { k }
 }
 
 // Moves n bytes. The order is such that a byte that is overwritten has been moved already.
 pub fn move_part(memory: &mut [u8], from: usize, to: usize, n: usize)
     requires { (from + n ≤ length memory.old) × (to + n ≤ length memory.old) }
 {
-    for k in 0..n {
-        let i = moved_at(from < to, n, k);
-        memory[to + i] = memory[from + i];
+    if from < to {
+        for k in (0..n).rev() {
+            memory[to + k] = memory[from + k];
+        }
+    } else {
+        for k in 0..n {
+            memory[to + k] = memory[from + k];
+        }
     }
 }
 
-fn allowances_at(script: &[u8], at: usize) -> AllowanceNumbers
-    requires { at + 40 ≤ length script.now }
-{
-    AllowanceNumbers {
-        guids: items::long_at(script, at),
-        groups: items::long_at(script, at + 8),
-        fields: items::long_at(script, at + 16),
-        text: items::long_at(script, at + 24),
-        literals: items::long_at(script, at + 32),
+fn open_book(book: &mut [u8], w: Allowances, answers: &mut Answers<'_>) -> fmt::Result {
+    answers.begin()?;
+    match vrf_schema::calls::open(book, w.guids, w.groups, w.fields, w.text, w.literals) {
+        Ok(()) => answers.write_str("opened")?,
+        Err(r) => write!(answers, "{r}")?,
     }
+    answers.end();
+    Ok(())
 }
 
-fn open_book(book: &mut [u8], w: AllowanceNumbers) -> Acted {
-    vrf_schema::calls::open(book, w.guids, w.groups, w.fields, w.text, w.literals)
-}
-
-fn opened(answer: Acted, out: &mut [u8], run: Run) -> Run {
-    match answer {
-        Acted::Done => run.line(out, b"opened"),
-        Acted::Refused(r) => run.refused(out, r),
-    }
-}
-
-// Opens a book over n bytes from place `from` on, and moves the books that follow to the place after these bytes. The old book is
-// overwritten: `open` is not refused, because n is what `memory_needed` answered.
-fn open_at(
-    area: Area,
-    w: AllowanceNumbers,
-    n: usize,
+// Opens the current book over n bytes, if the memory has space for all books then. The books that follow are moved to the place after
+// these bytes. The old book is overwritten: `open` is not refused, because n is what `memory_needed` answered.
+fn open_sized(
     memory: &mut [u8],
-    out: &mut [u8],
-    run: Run,
-) -> Run
-    requires { (area.to ≤ area.end) × (area.end ≤ length memory.old) × (area.from + n + area.end ≤ length memory.old + area.to) }
+    books: Books,
+    w: Allowances,
+    n: usize,
+    answers: &mut Answers<'_>,
+) -> Result<Books, fmt::Error>
+    requires { total books ≤ length memory.old }
+    ensures { IfOk result (λ b. total b ≤ length memory.old) × (length memory.new ≡ length memory.old) }
 {
-    let from = area.from;
-    let end = from + n;
-    move_part(memory, area.to, end, area.end - area.to);
-    opened(open_book(&mut memory[from..end], w), out, run)
+    let (Area { from, to, end }, resized) = books.resized(memory, n);
+    if memory.len() - from - (end - to) < n {
+        answers.line("no memory")?;
+        return Ok(books);
+    }
+    let next = from + n;
+    move_part(memory, to, next, end - to);
+    open_book(&mut memory[from..next], w, answers)?;
+    Ok(resized)
 }
 
-fn no_memory(out: &mut [u8], turn: Turn) -> Turn
-    ensures { (total result.books ≡ total turn.books) × (result.kept ≡ turn.kept) }
+// The call `open`. The book becomes the current one, even if it is not opened. If `memory_needed` answers 0, `open` refuses the allowances.
+// It is then called over no bytes, so that the old book stays.
+pub fn open(
+    memory: &mut [u8],
+    books: Books,
+    w: Allowances,
+    answers: &mut Answers<'_>,
+) -> Result<Books, fmt::Error>
+    requires { total books ≤ length memory.old }
+    ensures { IfOk result (λ b. total b ≤ length memory.old) × (length memory.new ≡ length memory.old) }
 {
-    let run = turn.run;
-    turn.after(run.line(out, b"no memory"))
-}
-
-// Opens the current book over n bytes, if the memory has space for all books then.
-fn open_sized(w: AllowanceNumbers, n: usize, memory: &mut [u8], out: &mut [u8], turn: Turn) -> Turn
-    requires { total turn.books ≤ length memory.old }
-    ensures { (total result.books ≤ length memory.old) × (result.kept ≡ turn.kept) }
-{
-    let books = turn.books;
-    let sized = books.sized(memory, n);
-    let area = sized.area;
-    if memory.len() - area.from - (area.end - area.to) < n {
-        return no_memory(out, turn);
+    match vrf_schema::calls::memory_needed(w.guids, w.groups, w.fields, w.text, w.literals) {
+        0 => {
+            open_book(&mut memory[..0], w, answers)?;
+            Ok(books)
+        }
+        n => open_sized(memory, books, w, n as usize, answers),
     }
-    let books = sized.books;
-    Turn {
-        run: open_at(area, w, n, memory, out, turn.run),
-        books,
-        kept: turn.kept,
-    }
-}
-
-// If `memory_needed` answers 0, `open` refuses the allowances. It is then called over no bytes, so that the old book stays.
-fn open_with(w: AllowanceNumbers, memory: &mut [u8], out: &mut [u8], turn: Turn) -> Turn
-    requires { total turn.books ≤ length memory.old }
-    ensures { (total result.books ≤ length memory.old) × (result.kept ≡ turn.kept) }
-{
-    let n = vrf_schema::calls::memory_needed(w.guids, w.groups, w.fields, w.text, w.literals);
-    if n == 0 {
-        let run = turn.run;
-        return turn.after(opened(open_book(&mut memory[0..0], w), out, run));
-    }
-    open_sized(w, n as usize, memory, out, turn)
-}
-
-// The call `open`. The book becomes the current one, even if it is not opened.
-pub fn open(script: &[u8], memory: &mut [u8], out: &mut [u8], turn: Turn) -> Turn
-    requires { total turn.books ≤ length memory.old }
-    ensures { (total result.books ≤ length memory.old) × (result.kept ≡ turn.kept) }
-{
-    let run = turn.run;
-    let at = run.at;
-    if items::left(script, at) < 41 {
-        return turn.after(run.cut(out));
-    }
-    let w = allowances_at(script, at + 1);
-    open_with(
-        w,
-        memory,
-        out,
-        turn.choosing(script[at], run.following(at + 41)),
-    )
-}
-
-// The call `use`.
-pub fn choose(script: &[u8], out: &mut [u8], turn: Turn) -> Turn
-    ensures { (total result.books ≡ total turn.books) × (result.kept ≡ turn.kept) }
-{
-    let run = turn.run;
-    let at = run.at;
-    if script.len() <= at {
-        return turn.after(run.cut(out));
-    }
-    let following = run.following(at + 1);
-    turn.choosing(script[at], following.line(out, b"using"))
 }

@@ -4,7 +4,6 @@
 
 pub mod blocks;
 pub mod books;
-pub mod changes;
-pub mod dump;
+pub mod calls;
+mod dump;
 mod lookups;
-pub mod turn;

@@ -1,118 +1,104 @@
 // The lookups, which do not change a book.
+use std::fmt;
+use std::fmt::Write;
 use vrf_bitio::Refusal;
-use vrf_model::{Found, Number};
-use vrf_schema::CountersRead;
-use vrf_script::answer;
-use vrf_script::given::Numbers;
-use vrf_store::counters::BookCounters;
+use vrf_schema::lookups;
+use vrf_script::answers::Answers;
+use vrf_script::call::Lookup;
 
 // What was found, after its label.
-fn found(answer: Found, what: &[u8], out: &mut [u8], to: usize) -> usize {
+fn found(
+    answer: Result<Option<u32>, Refusal>,
+    label: &str,
+    answers: &mut Answers<'_>,
+) -> fmt::Result {
     match answer {
-        Found::At(n) => answer::labelled(out, to, what, n as u64),
-        Found::Absent => answer::word(out, to, b"absent"),
-        Found::Refused(r) => answer::refusal(out, to, r),
+        Ok(Some(n)) => write!(answers, "{label} {n}"),
+        Ok(None) => answers.write_str("absent"),
+        Err(r) => write!(answers, "{r}"),
     }
 }
 
-fn number(what: &[u8], answer: Number, out: &mut [u8], to: usize) -> usize {
+// A place of a group or of a GUID record.
+fn place(answer: Result<Option<u32>, Refusal>, answers: &mut Answers<'_>) -> fmt::Result {
+    found(answer, "place", answers)
+}
+
+fn number(label: &str, answer: Result<u32, Refusal>, answers: &mut Answers<'_>) -> fmt::Result {
     match answer {
-        Number::Is(n) => answer::labelled(out, to, what, n as u64),
-        Number::Refused(r) => answer::refusal(out, to, r),
+        Ok(n) => write!(answers, "{label}{n}"),
+        Err(r) => write!(answers, "{r}"),
     }
 }
 
-// A text of the book after its label, or the refusal if its number is not 0. The details of such a refusal are zeros.
-fn titled(what: &[u8], text: &[u8], refused: u32, out: &mut [u8], to: usize) -> usize {
-    if refused != 0 {
-        let r = Refusal {
-            number: refused,
-            a: 0,
-            b: 0,
-        };
-        return answer::refusal(out, to, r);
-    }
-    let after = answer::word(out, to, what);
-    answer::quoted(out, after, text)
-}
-
-fn group_path(book: &[u8], place: u32, out: &mut [u8], to: usize) -> usize {
-    let mut refused: u32 = 0;
-    let path = vrf_schema::lookups::group_path(book, place, &mut refused);
-    titled(b"path ", path, refused, out, to)
-}
-
-pub fn group(book: &[u8], place: u32, out: &mut [u8], to: usize) -> usize {
-    let path = group_path(book, place, out, to);
-    let index = vrf_schema::lookups::group_index(book, place);
-    let indexed = number(b" index ", index, out, path);
-    let slots = vrf_schema::lookups::group_slots(book, place);
-    number(b" slots ", slots, out, indexed)
-}
-
-pub fn name(what: &[u8], book: &[u8], place: u32, slot: u32, out: &mut [u8], to: usize) -> usize {
-    let mut refused: u32 = 0;
-    let text = vrf_schema::lookups::field_name(book, place, slot, &mut refused);
-    titled(what, text, refused, out, to)
-}
-
-pub fn guid(book: &[u8], place: u32, out: &mut [u8], to: usize) -> usize {
-    let mut refused: u32 = 0;
-    let path = vrf_schema::lookups::guid_path(book, place, &mut refused);
-    titled(b"path ", path, refused, out, to)
-}
-
-fn all(n: BookCounters, out: &mut [u8], to: usize) -> usize {
-    let schema = answer::labelled(out, to, b"counters schema ", n.schema);
-    let guid = answer::labelled(out, schema, b" guid ", n.guid);
-    let dropped = answer::labelled(out, guid, b" dropped ", n.dropped);
-    let replaced = answer::labelled(out, dropped, b" replaced ", n.replaced);
-    answer::labelled(out, replaced, b" renamed ", n.renamed)
-}
-
-fn counters(book: &[u8], out: &mut [u8], to: usize) -> usize {
-    match vrf_schema::lookups::get_counters(book) {
-        CountersRead::Are(n) => all(n, out, to),
-        CountersRead::Refused(r) => answer::refusal(out, to, r),
+// A text of the book after its label.
+fn titled(label: &str, text: Result<&[u8], Refusal>, answers: &mut Answers<'_>) -> fmt::Result {
+    match text {
+        Ok(text) => {
+            answers.write_str(label)?;
+            answers.quoted(text)
+        }
+        Err(r) => write!(answers, "{r}"),
     }
 }
 
-fn outer_guid(book: &[u8], guid: u32, out: &mut [u8], to: usize) -> usize {
-    found(
-        vrf_schema::lookups::get_outer_guid(book, guid),
-        b"guid ",
-        out,
-        to,
-    )
+pub fn group(book: &[u8], place: u32, answers: &mut Answers<'_>) -> fmt::Result {
+    titled("path ", lookups::group_path(book, place), answers)?;
+    number(" index ", lookups::group_index(book, place), answers)?;
+    number(" slots ", lookups::group_slots(book, place), answers)
 }
 
-fn field(book: &[u8], place: u32, slot: u32, out: &mut [u8], to: usize) -> usize {
-    let answer = vrf_schema::lookups::get_field(book, place, slot);
-    found(answer, b"checksum ", out, to)
+pub fn name(
+    label: &str,
+    book: &[u8],
+    place: u32,
+    slot: u32,
+    answers: &mut Answers<'_>,
+) -> fmt::Result {
+    titled(label, lookups::field_name(book, place, slot), answers)
 }
 
-// The lookups that answer a place.
-fn place(book: &[u8], code: u8, n: Numbers, text: &[u8]) -> Found {
-    match code {
-        0x20 => vrf_schema::lookups::get_group_by_index(book, n.x),
-        0x21 => vrf_schema::lookups::get_group_by_path(book, text),
-        0x22 => vrf_schema::lookups::get_path_by_guid(book, n.x),
-        0x24 => vrf_schema::lookups::get_outer_path(book, n.x),
-        0x25 => vrf_schema::lookups::get_gameplay_tag_name(book, n.x),
-        0x2A => vrf_schema::lookups::unique_leaf_match(book, text),
-        0x2B => vrf_schema::lookups::resolve_cnc_for_instance_name(book, text),
-        _ => vrf_schema::lookups::find_class_net_cache_key(book, text),
+pub fn guid(book: &[u8], place: u32, answers: &mut Answers<'_>) -> fmt::Result {
+    titled("path ", lookups::guid_path(book, place), answers)
+}
+
+fn counters(book: &[u8], answers: &mut Answers<'_>) -> fmt::Result {
+    match lookups::get_counters(book) {
+        Ok(n) => {
+            let (schema, guid, dropped) = (n.schema, n.guid, n.dropped);
+            let (replaced, renamed) = (n.replaced, n.renamed);
+            write!(
+                answers,
+                "counters schema {schema} guid {guid} dropped {dropped}"
+            )?;
+            write!(answers, " replaced {replaced} renamed {renamed}")
+        }
+        Err(r) => write!(answers, "{r}"),
     }
 }
 
-pub fn say(book: &[u8], code: u8, n: Numbers, text: &[u8], out: &mut [u8], to: usize) -> usize {
-    match code {
-        0x23 => outer_guid(book, n.x, out, to),
-        0x26 => field(book, n.x, n.y, out, to),
-        0x27 => group(book, n.x, out, to),
-        0x28 => name(b"name ", book, n.x, n.y, out, to),
-        0x29 => guid(book, n.x, out, to),
-        0x2D => counters(book, out, to),
-        _ => found(place(book, code, n, text), b"place ", out, to),
+// The answer of a lookup. A lookup by a text is given its text.
+pub fn say(book: &[u8], lookup: Lookup<'_>, text: &[u8], answers: &mut Answers<'_>) -> fmt::Result {
+    match lookup {
+        Lookup::GroupByIndex(i) => place(lookups::get_group_by_index(book, i), answers),
+        Lookup::GroupByPath(_) => place(lookups::get_group_by_path(book, text), answers),
+        Lookup::PathByGuid(guid) => place(lookups::get_path_by_guid(book, guid), answers),
+        Lookup::OuterGuid(guid) => found(lookups::get_outer_guid(book, guid), "guid", answers),
+        Lookup::OuterPath(guid) => place(lookups::get_outer_path(book, guid), answers),
+        Lookup::GameplayTagName(tag) => place(lookups::get_gameplay_tag_name(book, tag), answers),
+        Lookup::Field { place, slot } => {
+            found(lookups::get_field(book, place, slot), "checksum", answers)
+        }
+        Lookup::Group(place) => group(book, place, answers),
+        Lookup::FieldName { place, slot } => name("name ", book, place, slot, answers),
+        Lookup::GuidPath(place) => guid(book, place, answers),
+        Lookup::UniqueLeafMatch(_) => place(lookups::unique_leaf_match(book, text), answers),
+        Lookup::ResolveCncForInstanceName(_) => {
+            place(lookups::resolve_cnc_for_instance_name(book, text), answers)
+        }
+        Lookup::FindClassNetCacheKey(_) => {
+            place(lookups::find_class_net_cache_key(book, text), answers)
+        }
+        Lookup::Counters => counters(book, answers),
     }
 }

@@ -4,7 +4,6 @@ ghost use Rattle.vrf_model.specs.Setting.{schema_step, guid_step, dropped_step, 
 ghost use Rattle.vrf_store.specs.Store.{counters_of};
 ghost use Rattle.vrf_store.specs.Inner.Counters.{CountersStepped, replaced_alone, long_to, up};
 
-use std::num::wrapping_add_u64;
 use vrf_words::{get64, put64};
 
 #[derive(Clone, Copy)]
@@ -35,7 +34,7 @@ fn step(m: &mut [u8], i: usize)
     ensures { m.new ≡ long_to m.old i (up m.old i) }
 {
     let n = get64(m, i);
-    put64(m, i, wrapping_add_u64(n, 1));
+    put64(m, i, n.wrapping_add(1));
 }
 
 pub fn step_schema(m: &mut [u8])

@@ -91,10 +91,8 @@ fn pass_rows(t: &mut [u8], cap: usize, place: u32, n: u32) -> KeptRows
     // heads start empty, so that none points past the rows kept so far
     zero_words(t, 6 * cap, 4 * cap + 1);
     let mut kept = KeptRows { rows: 0, gone: 0 };
-    let mut e = 0;
-    while e < n {
+    for e in 0..n {
         kept = pass_row(t, cap, place, e, kept);
-        e += 1;
     }
     kept
 }

@@ -9,7 +9,7 @@ ghost use Rattle.vrf_model.specs.Setting.{with_groups, new_group, merged_group};
 ghost use Rattle.vrf_table.specs.Table.{info, text};
 ghost use Rattle.vrf_table.specs.TextIndex.{text_bucket, claim_of};
 ghost use Rattle.vrf_table.specs.Inner.TextIndex.{leaf_bucket};
-ghost use Rattle.vrf_table.specs.Inner.Answers.{RowTexts};
+ghost use Rattle.vrf_table.specs.Inner.Answers.{entry, RowTexts};
 ghost use Rattle.vrf_store.specs.Store.{allowances_of, header_of, store_of, words};
 ghost use Rattle.vrf_store.specs.Inner.WellFormed.{Enough, WellFormed};
 ghost use Rattle.vrf_store.specs.Inner.Check.{Walked};
@@ -17,33 +17,26 @@ ghost use Rattle.vrf_store.specs.Inner.Memory.{WrittenStore, push_row};
 ghost use Rattle.vrf_store.specs.Inner.Stepped.{Stepped, held};
 ghost use Rattle.vrf_store.specs.Inner.Fields.{with_group};
 ghost use Rattle.vrf_store.specs.Inner.Groups.{bucket_of, unless_shared, joined_by, linked, headed, BucketBelow, push_key, push_path, push_leaf, leaf_of, Unindexed, Indexable, Pushable, MoreIndexed};
-ghost use Rattle.vrf_store.specs.Inner.Groups.{bucketed, BucketsOf, put_group, NewGroup, grown_group, OldGroup, Handles, group_of, Emptied};
+ghost use Rattle.vrf_store.specs.Inner.Groups.{BucketsOf, put_group, NewGroup, grown_group, OldGroup, Handles, group_of, Emptied};
 
 use crate::look::{leaf_buckets, row_info};
 use crate::parts::{
     group_rows, groups, groups_allowed, guids_allowed, held, leaf_heads, leaf_links, texts,
 };
 use crate::rows::text_len;
-use vrf_path::{Key, Leaf, core_alias, default_object_alias, is_absent, leaf_at};
+use vrf_path::{Key, core_alias, default_object_alias, leaf_at};
 use vrf_table::spell::spell;
-use vrf_table::{AMBIGUOUS, key_bucket, leaf_claim, put_key, put_text, row_text, text_bucket};
+use vrf_table::{Claim, key_bucket, leaf_claim, put_key, put_text, row_text, text_bucket};
 use vrf_words::{get32, get64, put32, zero_words};
 
-// The bucket that an entry joins, if it joins one.
-#[derive(Clone, Copy)]
-enum Bucket {
-    Of(u32),
-    Absent,
-}
-
-// The buckets of a group: for its index, for the three keys of its path, and for its leaf.
+// The buckets that a group's entries join, for its index, for the three keys of its path, and for its leaf. An entry can have none.
 #[derive(Clone, Copy)]
 struct Buckets {
-    key: Bucket,
-    own: Bucket,
-    default: Bucket,
-    core: Bucket,
-    leaf: Bucket,
+    key: Option<u32>,
+    own: Option<u32>,
+    default: Option<u32>,
+    core: Option<u32>,
+    leaf: Option<u32>,
 }
 
 // The bucket of a path's key, out of b buckets. The key is first written out on the stack. A path has at most 4096 bytes, a key 23 more.
@@ -57,19 +50,15 @@ fn spelled_bucket(path: &[u8], key: Key, b: u32) -> u32
 }
 
 // The bucket of an alias, out of b buckets, if the path has that alias.
-fn alias_bucket(path: &[u8], key: Key, b: u32) -> Bucket
+fn alias_bucket(path: &[u8], key: Option<Key>, b: u32) -> Option<u32>
     requires { length path.now ≤ 4096 }
-    ensures { bucketed result ≡ bucket_of (text_bucket b) (spelled path.now key) }
+    ensures { entry result ≡ bucket_of (text_bucket b) (spelled path.now key) }
 {
-    if is_absent(key) {
-        return Bucket::Absent;
-    }
-    Bucket::Of(spelled_bucket(path, key, b))
+    Some(spelled_bucket(path, key?, b))
 }
 
 // The bucket that leaf l joins, out of b buckets. If two of the n groups have the leaf already, it joins none: it is ambiguous and stays
-// so.
-// So a chain holds each leaf at most twice, and a walk does not pass many groups that have another leaf with the same base.
+// so. So a chain holds each leaf at most twice, and a walk does not pass many groups that have another leaf with the same base.
 fn joined_bucket(
     rows: &[u8],
     x: &[u8],
@@ -78,46 +67,43 @@ fn joined_bucket(
     b: u32,
     n: u32,
     l: &[u8],
-) -> Bucket
+) -> Option<u32>
     requires { Dotless l.now × (24 * n ≤ length rows.now) × (4 * n ≤ length links.now) × (4 * b ≤ length heads.now) × (0 < b) × (n ≤ 100000) × RowTexts rows.now x.now n × (length l.now < 2 ^ 31) }
-    ensures { bucketed result ≡ unless_shared (claim_of rows.now x.now links.now heads.now b n l.now) (leaf_bucket b l.now) }
+    ensures { entry result ≡ unless_shared (claim_of rows.now x.now links.now heads.now b n l.now) (leaf_bucket b l.now) }
 {
     let found = leaf_claim(rows, x, links, heads, b, n, l);
-    if found.claim == AMBIGUOUS {
-        return Bucket::Absent;
+    match found.claim {
+        Claim::Ambiguous => None,
+        _ => Some(found.bucket),
     }
-    Bucket::Of(found.bucket)
 }
 
 // The bucket that group g's leaf joins, out of b buckets, if the group has a leaf.
-fn leaf_bucket_of(rows: &[u8], x: &[u8], links: &[u8], heads: &[u8], b: u32, g: u32) -> Bucket
+fn leaf_bucket_of(rows: &[u8], x: &[u8], links: &[u8], heads: &[u8], b: u32, g: u32) -> Option<u32>
     requires { Walked rows.now x.now links.now heads.now 4 b (g + 1) }
-    ensures { bucketed result ≡ joined_by (claim_of rows.now x.now links.now heads.now b g) (leaf_bucket b) (leaf (text rows.now x.now g)) }
+    ensures { entry result ≡ joined_by (claim_of rows.now x.now links.now heads.now b g) (leaf_bucket b) (leaf (text rows.now x.now g)) }
 {
     let path = row_text(rows, x, g);
-    match leaf_at(path) {
-        Leaf::At(i) => joined_bucket(rows, x, links, heads, b, g, &path[i..]),
-        Leaf::Absent => Bucket::Absent,
-    }
+    let i = leaf_at(path)?;
+    joined_bucket(rows, x, links, heads, b, g, &path[i..])
 }
 
 // The bucket that group g's leaf joins, read from the memory.
-fn leaf_bucket_in(m: &[u8], g: u32) -> Bucket
+fn leaf_bucket_in(m: &[u8], g: u32) -> Option<u32>
     requires { Indexable m.now g }
-    ensures { bucketed result ≡ leaf_of (store_of m.now) g }
+    ensures { entry result ≡ leaf_of (store_of m.now) g }
 {
     let b = leaf_buckets(m);
     leaf_bucket_of(group_rows(m), texts(m), leaf_links(m), leaf_heads(m), b, g)
 }
 
 // Puts an entry at the front of the chain of its bucket, if it has one. From word `at` on there are n words of links, then k heads. Word i
-// of
-// the links is the link of the entry. p is the pointer to the entry.
-fn push_entry(m: &mut [u8], at: usize, n: usize, k: usize, i: usize, b: Bucket, p: u32)
-    requires { (4 * at + 4 * n + 4 * k ≤ length m.old) × (i < n) × BucketBelow k (bucketed b) }
-    ensures { m.new ≡ pasted m.old (4 * at) (linked (words m.old at n) (words m.old (at + n) k) i (bucketed b) ++ headed (words m.old (at + n) k) p (bucketed b)) }
+// of the links is the link of the entry. p is the pointer to the entry.
+fn push_entry(m: &mut [u8], at: usize, n: usize, k: usize, i: usize, b: Option<u32>, p: u32)
+    requires { (4 * at + 4 * n + 4 * k ≤ length m.old) × (i < n) × BucketBelow k (entry b) }
+    ensures { m.new ≡ pasted m.old (4 * at) (linked (words m.old at n) (words m.old (at + n) k) i (entry b) ++ headed (words m.old (at + n) k) p (entry b)) }
 {
-    if let Bucket::Of(h) = b {
+    if let Some(h) = b {
         let head = at + n + (h as usize);
         let link = get32(m, head);
         put32(m, at + i, link);
@@ -126,9 +112,9 @@ fn push_entry(m: &mut [u8], at: usize, n: usize, k: usize, i: usize, b: Bucket, 
 }
 
 // These three put one entry of a group at the front of a chain: in the index by path-name index, by path key and by leaf.
-fn push_key(m: &mut [u8], e: u32, b: Bucket)
-    requires { Pushable m.old 1 ((allowances_of m.old).groups + 1) e (bucketed b) }
-    ensures { WrittenStore m.old m.new (push_key (store_of m.old) e (bucketed b)) }
+fn push_key(m: &mut [u8], e: u32, b: Option<u32>)
+    requires { Pushable m.old 1 ((allowances_of m.old).groups + 1) e (entry b) }
+    ensures { WrittenStore m.old m.new (push_key (store_of m.old) e (entry b)) }
 {
     let g = guids_allowed(m);
     let r = groups_allowed(m);
@@ -136,9 +122,9 @@ fn push_key(m: &mut [u8], e: u32, b: Bucket)
     push_entry(m, 33 + 10 * g, 6 * r, r + 1, link, b, e + 1);
 }
 
-fn push_path(m: &mut [u8], e: u32, b: Bucket)
-    requires { Pushable m.old 3 (3 * (allowances_of m.old).groups + 1) e (bucketed b) }
-    ensures { WrittenStore m.old m.new (push_path (store_of m.old) e (bucketed b)) }
+fn push_path(m: &mut [u8], e: u32, b: Option<u32>)
+    requires { Pushable m.old 3 (3 * (allowances_of m.old).groups + 1) e (entry b) }
+    ensures { WrittenStore m.old m.new (push_path (store_of m.old) e (entry b)) }
 {
     let g = guids_allowed(m);
     let r = groups_allowed(m);
@@ -153,9 +139,9 @@ fn push_path(m: &mut [u8], e: u32, b: Bucket)
     );
 }
 
-fn push_leaf(m: &mut [u8], e: u32, b: Bucket)
-    requires { Pushable m.old 1 (2 * (allowances_of m.old).groups + 1) e (bucketed b) }
-    ensures { WrittenStore m.old m.new (push_leaf (store_of m.old) e (bucketed b)) }
+fn push_leaf(m: &mut [u8], e: u32, b: Option<u32>)
+    requires { Pushable m.old 1 (2 * (allowances_of m.old).groups + 1) e (entry b) }
+    ensures { WrittenStore m.old m.new (push_leaf (store_of m.old) e (entry b)) }
 {
     let g = guids_allowed(m);
     let r = groups_allowed(m);
@@ -173,8 +159,8 @@ fn buckets_of(m: &[u8], g: u32) -> Buckets
     let path = row_text(rows, texts(m), g);
     let row = 6 * (g as usize);
     Buckets {
-        key: Bucket::Of(key_bucket(get64(rows, row), r + 1)),
-        own: Bucket::Of(text_bucket(path, b)),
+        key: Some(key_bucket(get64(rows, row), r + 1)),
+        own: Some(text_bucket(path, b)),
         default: alias_bucket(path, default_object_alias(path), b),
         core: alias_bucket(path, core_alias(path), b),
         leaf: leaf_bucket_in(m, g),
@@ -187,16 +173,11 @@ fn index_group(m: &mut [u8], g: u32)
     ensures { MoreIndexed m.old m.new g (g + 1) }
 {
     let b = buckets_of(m, g);
-    let key = b.key;
-    let own = b.own;
-    let default = b.default;
-    let core = b.core;
-    let leaf = b.leaf;
-    push_key(m, g, key);
-    push_path(m, 3 * g, own);
-    push_path(m, 3 * g + 1, default);
-    push_path(m, 3 * g + 2, core);
-    push_leaf(m, g, leaf);
+    push_key(m, g, b.key);
+    push_path(m, 3 * g, b.own);
+    push_path(m, 3 * g + 1, b.default);
+    push_path(m, 3 * g + 2, b.core);
+    push_leaf(m, g, b.leaf);
 }
 
 // Writes row e of a table. The link is set later, when the row joins the index.
@@ -261,10 +242,8 @@ pub fn rebuild_group_indexes(m: &mut [u8])
 {
     let n = groups(m);
     clear_heads(m);
-    let mut g: u32 = 0;
-    while g < n {
+    for g in 0..n {
         index_group(m, g);
-        g += 1;
     }
 }
 
@@ -279,18 +258,12 @@ fn set_row(m: &mut [u8], e: u32, index: u32, at: u32, len: u32, slots: u32)
     rebuild_group_indexes(m);
 }
 
-fn larger(a: u32, b: u32) -> u32
-    ensures { result ≡ a + (b - a) }
-{
-    if a < b { b } else { a }
-}
-
 // Gives group e a new index and path, and at least `slots` slots.
 pub fn set_group(m: &mut [u8], e: u32, index: u32, at: u32, len: u32, slots: u32)
     requires { OldGroup m.old e index at len slots }
     ensures { Stepped m.old m.new (with_group (held m.old) e (merged_group (part (store_of m.old).texts at len) index slots)) }
 {
-    let most = larger(row_info(group_rows(m), e), slots);
+    let most = row_info(group_rows(m), e).max(slots);
     set_row(m, e, index, at, len, most);
 }
 

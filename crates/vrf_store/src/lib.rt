@@ -11,9 +11,3 @@ pub mod open;
 pub mod parts;
 pub mod rows;
 pub mod texts;
-
-#[derive(Clone, Copy)]
-pub enum MaybeNumber {
-    Is(u32),
-    Nothing,
-}

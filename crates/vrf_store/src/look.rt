@@ -10,16 +10,15 @@ ghost use Rattle.vrf_table.specs.Inner.Answers.{entry, claim};
 ghost use Rattle.vrf_store.specs.Layout;
 ghost use Rattle.vrf_store.specs.Store.{allowances_of, store_of, slot_key, content_of};
 ghost use Rattle.vrf_store.specs.Inner.WellFormed.{WellFormed};
-ghost use Rattle.vrf_store.specs.Inner.Lookups.{number_found, NameLeaves};
+ghost use Rattle.vrf_store.specs.Inner.Lookups.{NameLeaves};
 ghost use Rattle.vrf_store.specs.Inner.Fields.{field_found, slot_row};
 
-use crate::MaybeNumber;
 use crate::parts::{
     field_heads, field_rows, fields, fields_allowed, group_heads, group_rows, groups,
     groups_allowed, guid_heads, guid_rows, guids, guids_allowed, leaf_heads, leaf_links,
     path_heads, path_links, texts,
 };
-use vrf_table::{Claim, Entry, find_key, find_path, first_claim, row_text, text_bucket};
+use vrf_table::{Claim, find_key, find_path, first_claim, row_text, text_bucket};
 use vrf_words::{get32, get64};
 
 // The number of buckets of each index.
@@ -74,7 +73,7 @@ pub fn row_info(rows: &[u8], e: u32) -> u32
 }
 
 // The place of the record with this GUID.
-pub fn find_guid(m: &[u8], guid: u32) -> Entry
+pub fn find_guid(m: &[u8], guid: u32) -> Option<u32>
     requires { WellFormed m.now }
     ensures { entry result ≡ guid_place guid (content_of (store_of m.now)).guids }
 {
@@ -88,7 +87,7 @@ pub fn find_guid(m: &[u8], guid: u32) -> Entry
 }
 
 // The place of the group with this path-name index.
-pub fn find_index(m: &[u8], index: u32) -> Entry
+pub fn find_index(m: &[u8], index: u32) -> Option<u32>
     requires { WellFormed m.now }
     ensures { entry result ≡ index_place index (content_of (store_of m.now)).groups }
 {
@@ -102,24 +101,22 @@ pub fn find_index(m: &[u8], index: u32) -> Entry
 }
 
 // The place of the last group with the key k.
-pub fn find_path_place(m: &[u8], k: &[u8]) -> Entry
+pub fn find_path_place(m: &[u8], k: &[u8]) -> Option<u32>
     requires { WellFormed m.now × (length k.now < 2 ^ 31) }
     ensures { entry result ≡ path_place k.now (content_of (store_of m.now)).groups }
 {
     let b = path_buckets(m);
     let n = groups(m);
-    match find_path(
+    let e = find_path(
         group_rows(m),
         texts(m),
         path_links(m),
         path_heads(m),
         b,
         n,
-        &k[..],
-    ) {
-        Entry::At(e) => Entry::At(e / 3),
-        Entry::Nowhere => Entry::Nowhere,
-    }
+        k,
+    )?;
+    Some(e / 3)
 }
 
 // The pointer at which the chain of the leaves with this base starts.
@@ -128,7 +125,7 @@ fn leaf_start(m: &[u8], base: &[u8]) -> u32
     ensures { result ≡ text_start (store_of m.now).leaf_heads (Layout.leaf_buckets (allowances_of m.now)) base.now }
 {
     let b = leaf_buckets(m);
-    get32(leaf_heads(m), text_bucket(&base[..], b) as usize)
+    get32(leaf_heads(m), text_bucket(base, b) as usize)
 }
 
 // The pointer at which the chain for the first n bytes of a name starts. q is the pointer for the whole name. Mostly n is the whole length.
@@ -143,8 +140,7 @@ fn front_start(m: &[u8], name: &[u8], n: usize, q: u32) -> u32
 }
 
 // The first claim that is not absent, among the name with the suffixes s, t and u. The name is the base of the last two leaves, and its
-// first
-// n bytes are the base of the first leaf.
+// first n bytes are the base of the first leaf.
 pub fn claim_of(m: &[u8], name: &[u8], n: usize, s: &[u8], t: &[u8], u: &[u8]) -> Claim
     requires { WellFormed m.now × NameLeaves name.now n s.now t.now u.now }
     ensures { claim result ≡ claim_or_later (leaf_claim (name.now ++ s.now) (content_of (store_of m.now)).groups) (claim_or_later (leaf_claim (name.now ++ t.now) (content_of (store_of m.now)).groups) (leaf_claim (name.now ++ u.now) (content_of (store_of m.now)).groups)) }
@@ -157,7 +153,7 @@ pub fn claim_of(m: &[u8], name: &[u8], n: usize, s: &[u8], t: &[u8], u: &[u8]) -
 }
 
 // The row of the field with the key of this place and slot. Both can be any numbers.
-pub fn find_field(m: &[u8], place: u32, slot: u32) -> Entry
+pub fn find_field(m: &[u8], place: u32, slot: u32) -> Option<u32>
     requires { WellFormed m.now }
     ensures { entry result ≡ field_found (store_of m.now) (slot_key place slot) }
 {
@@ -179,7 +175,7 @@ pub fn guid_path(m: &[u8], i: u32) -> &[u8]
     if i < guids(m) {
         return row_text(guid_rows(m), texts(m), i);
     }
-    &m[0..0]
+    b""
 }
 
 // The outer of the GUID record at place i; 0 past the records.
@@ -201,7 +197,7 @@ pub fn group_path(m: &[u8], i: u32) -> &[u8]
     if i < groups(m) {
         return row_text(group_rows(m), texts(m), i);
     }
-    &m[0..0]
+    b""
 }
 
 // The path-name index of the group at place i; 0 past the groups.
@@ -227,25 +223,23 @@ pub fn group_slots(m: &[u8], i: u32) -> u32
 }
 
 // The row of the field in a group's slot. No group has a slot 65536 or above: its key would be the key of another group's slot.
-pub fn slot_row(m: &[u8], place: u32, slot: u32) -> Entry
+pub fn slot_row(m: &[u8], place: u32, slot: u32) -> Option<u32>
     requires { WellFormed m.now }
     ensures { entry result ≡ slot_row (store_of m.now) place slot }
 {
     if slot < 65536 {
         return find_field(m, place, slot);
     }
-    Entry::Nowhere
+    None
 }
 
 // The checksum of the field in a group's slot, if the slot is filled.
-pub fn field_checksum(m: &[u8], place: u32, slot: u32) -> MaybeNumber
+pub fn field_checksum(m: &[u8], place: u32, slot: u32) -> Option<u32>
     requires { WellFormed m.now }
-    ensures { number_found result ≡ slot_checksum (slot_at (content_of (store_of m.now)).groups place slot) }
+    ensures { entry result ≡ slot_checksum (slot_at (content_of (store_of m.now)).groups place slot) }
 {
-    match slot_row(m, place, slot) {
-        Entry::At(e) => MaybeNumber::Is(row_info(field_rows(m), e)),
-        Entry::Nowhere => MaybeNumber::Nothing,
-    }
+    let e = slot_row(m, place, slot)?;
+    Some(row_info(field_rows(m), e))
 }
 
 // The name of the field in a group's slot; empty if the slot is empty.
@@ -254,60 +248,52 @@ pub fn field_name(m: &[u8], place: u32, slot: u32) -> &[u8]
     ensures { result.now ≡ slot_name (slot_at (content_of (store_of m.now)).groups place slot) }
 {
     match slot_row(m, place, slot) {
-        Entry::At(e) => row_text(field_rows(m), texts(m), e),
-        Entry::Nowhere => &m[0..0],
+        Some(e) => row_text(field_rows(m), texts(m), e),
+        None => b"",
     }
 }
 
 // An outer GUID, where 0 means none.
-fn unless_zero(guid: u32) -> MaybeNumber
-    ensures { number_found result ≡ (if nat_eq guid 0 then none else some guid) }
+fn unless_zero(guid: u32) -> Option<u32>
+    ensures { entry result ≡ (if nat_eq guid 0 then none else some guid) }
 {
     if guid == 0 {
-        return MaybeNumber::Nothing;
+        return None;
     }
-    MaybeNumber::Is(guid)
+    Some(guid)
 }
 
-pub fn get_outer_guid(m: &[u8], guid: u32) -> MaybeNumber
+pub fn get_outer_guid(m: &[u8], guid: u32) -> Option<u32>
     requires { WellFormed m.now }
-    ensures { number_found result ≡ outer_guid guid (content_of (store_of m.now)).guids }
+    ensures { entry result ≡ outer_guid guid (content_of (store_of m.now)).guids }
 {
-    match find_guid(m, guid) {
-        Entry::At(i) => unless_zero(guid_outer(m, i)),
-        Entry::Nowhere => MaybeNumber::Nothing,
-    }
+    let i = find_guid(m, guid)?;
+    unless_zero(guid_outer(m, i))
 }
 
 // The place of the record of a GUID's outer. The path of that record is the outer path.
-pub fn get_outer_path(m: &[u8], guid: u32) -> Entry
+pub fn get_outer_path(m: &[u8], guid: u32) -> Option<u32>
     requires { WellFormed m.now }
     ensures { entry result ≡ outer_path guid (content_of (store_of m.now)).guids }
 {
-    match get_outer_guid(m, guid) {
-        MaybeNumber::Is(outer) => find_guid(m, outer),
-        MaybeNumber::Nothing => Entry::Nowhere,
-    }
+    let outer = get_outer_guid(m, guid)?;
+    find_guid(m, outer)
 }
 
 // The place of a group, if this slot of it is filled.
-fn if_filled(m: &[u8], place: u32, slot: u32) -> Entry
+fn if_filled(m: &[u8], place: u32, slot: u32) -> Option<u32>
     requires { WellFormed m.now }
     ensures { entry result ≡ if_filled place (slot_at (content_of (store_of m.now)).groups place slot) }
 {
-    match slot_row(m, place, slot) {
-        Entry::At(_) => Entry::At(place),
-        Entry::Nowhere => Entry::Nowhere,
-    }
+    slot_row(m, place, slot)?;
+    Some(place)
 }
 
 // The place of the group of gameplay tags, if its slot `tag` is filled. The tag's name is the name of that field.
-pub fn get_gameplay_tag_name(m: &[u8], tag: u32) -> Entry
+pub fn get_gameplay_tag_name(m: &[u8], tag: u32) -> Option<u32>
     requires { WellFormed m.now }
     ensures { entry result ≡ gameplay_tag tag (content_of (store_of m.now)).groups }
 {
-    match find_path_place(m, b"NetworkGameplayTagNodeIndex") {
-        Entry::At(place) => if_filled(m, place, tag),
-        Entry::Nowhere => Entry::Nowhere,
-    }
+    let place = find_path_place(m, b"NetworkGameplayTagNodeIndex")?;
+    if_filled(m, place, tag)
 }

@@ -2,38 +2,38 @@
 ghost use Rattle.std.specs.Prelude.{◌≡◌, ◌≤◌, length};
 ghost use Rattle.vrf_model.specs.Book.{zero_counters, fresh};
 ghost use Rattle.vrf_model.specs.Lawful.{Allowed};
+ghost use Rattle.vrf_table.specs.Inner.Answers.{entry};
 ghost use Rattle.vrf_store.specs.Layout;
 ghost use Rattle.vrf_store.specs.Store.{header_of, counters_of};
 ghost use Rattle.vrf_store.specs.Opening.{above_top, memory_needed};
 ghost use Rattle.vrf_store.specs.Inner.WellFormed.{Enough, WellFormed};
 ghost use Rattle.vrf_store.specs.Inner.Stepped.{Stepped, held};
-ghost use Rattle.vrf_store.specs.Inner.Opening.{empty_header, OpenedMemory, BetweenWritten, or_zero};
+ghost use Rattle.vrf_store.specs.Inner.Opening.{empty_header, OpenedMemory, BetweenWritten};
 
 use crate::parts::{fields_allowed, groups_allowed, guids_allowed};
-use vrf_bitio::Refusal;
-use vrf_model::{ALLOWANCE_ABOVE_TOP, Acted, MEMORY_TOO_SHORT};
+use vrf_bitio::{Reason, Refusal};
 use vrf_words::{put32, zero_words};
 
-// The lowest allowance above its top, or 0 if none is.
-fn above_top(guids: u64, groups: u64, fields: u64, text: u64, literals: u64) -> u64
-    ensures { result ≡ or_zero (above_top (record { guids = guids; groups = groups; fields = fields; text = text; literals = literals })) }
+// The number of the lowest allowance above its top, if one is.
+fn above_top(guids: u64, groups: u64, fields: u64, text: u64, literals: u64) -> Option<u64>
+    ensures { entry result ≡ above_top (record { guids = guids; groups = groups; fields = fields; text = text; literals = literals }) }
 {
     if 1_000_000 < guids {
-        return 1;
+        return Some(1);
     }
     if 100_000 < groups {
-        return 2;
+        return Some(2);
     }
     if 1_000_000 < fields {
-        return 3;
+        return Some(3);
     }
     if 67_108_864 < text {
-        return 4;
+        return Some(4);
     }
     if 1_000_000 < literals {
-        return 5;
+        return Some(5);
     }
-    0
+    None
 }
 
 // The number of bytes that the allowances need. They must not be above their tops.
@@ -44,14 +44,14 @@ fn needed(guids: u64, groups: u64, fields: u64, text: u64, literals: u64) -> u64
     4 * (37 + 10 * guids + 16 * groups + 10 * fields + literals) + 2 * text
 }
 
-// The number of bytes to lend to `open`, or 0 if it refuses the allowances.
+// The number of bytes to lend to `open`, or 0 if it refuses the allowances: the C interface answers one number.
 pub fn memory_needed(guids: u64, groups: u64, fields: u64, text: u64, literals: u64) -> u64
     ensures { result ≡ memory_needed (record { guids = guids; groups = groups; fields = fields; text = text; literals = literals }) }
 {
-    if 0 < above_top(guids, groups, fields, text, literals) {
-        return 0;
+    match above_top(guids, groups, fields, text, literals) {
+        Some(_) => 0,
+        None => needed(guids, groups, fields, text, literals),
     }
-    needed(guids, groups, fields, text, literals)
 }
 
 // Writes the header of a book that holds nothing, with all counters at 0.
@@ -84,21 +84,27 @@ pub fn zero_heads(m: &mut [u8])
     zero_words(m, 36 + 10 * g + 16 * r + 6 * f, 4 * f + 1);
 }
 
-pub fn open(m: &mut [u8], guids: u64, groups: u64, fields: u64, text: u64, literals: u64) -> Acted
+pub fn open(
+    m: &mut [u8],
+    guids: u64,
+    groups: u64,
+    fields: u64,
+    text: u64,
+    literals: u64,
+) -> Result<(), Refusal>
     ensures { OpenedMemory (record { guids = guids; groups = groups; fields = fields; text = text; literals = literals }) m.old m.new result }
 {
-    let which = above_top(guids, groups, fields, text, literals);
-    if 0 < which {
-        return Acted::Refused(Refusal {
-            number: ALLOWANCE_ABOVE_TOP,
+    if let Some(which) = above_top(guids, groups, fields, text, literals) {
+        return Err(Refusal {
+            reason: Reason::AllowanceAboveTop,
             a: which,
             b: 0,
         });
     }
     let bytes = needed(guids, groups, fields, text, literals);
     if (m.len() as u64) < bytes {
-        return Acted::Refused(Refusal {
-            number: MEMORY_TOO_SHORT,
+        return Err(Refusal {
+            reason: Reason::MemoryTooShort,
             a: bytes,
             b: 0,
         });
@@ -112,7 +118,7 @@ pub fn open(m: &mut [u8], guids: u64, groups: u64, fields: u64, text: u64, liter
         literals as u32,
     );
     zero_heads(m);
-    Acted::Done
+    Ok(())
 }
 
 // Removes all records of a book. The counters, and the half of the texts that is in use, stay.

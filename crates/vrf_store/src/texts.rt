@@ -40,10 +40,8 @@ fn move_texts(m: &mut [u8], rows: usize, n: usize, from: usize, to: usize, used:
     ensures { TextsMoved m.old m.new rows n from to used result }
 {
     let mut end = used;
-    let mut e = 0;
-    while e < n {
+    for e in 0..n {
         end = move_text(m, rows + 6 * e, from, to, end);
-        e += 1;
     }
     end
 }

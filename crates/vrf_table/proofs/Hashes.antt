@@ -1,5 +1,5 @@
 -- Laws for the hash functions: sums and products fit 64 bits, and a text is hashed word by word.
-use Rattle.std.proofs.Common.{◌≡◌, ℕ, suc, ◌+◌, ◌-◌, ◌*◌, ◌/◌, ◌%◌, ◌^◌, ◌<◌, ◌≤◌, List, length, get_or, take, drop, ap, ◌∙◌, mul-le-mul_right, arith, get_or-drop}
+use Rattle.std.proofs.Common.{◌≡◌, ℕ, ◌+◌, ◌-◌, ◌*◌, ◌/◌, ◌%◌, ◌^◌, ◌<◌, ◌≤◌, List, length, get_or, take, drop, ap, ◌∙◌, mul-le-mul_right, add-one, arith, get_or-drop}
 use Rattle.vrf_path.specs.Text.{four, eight}
 use Rattle.vrf_words.specs.Words.{word}
 use Rattle.vrf_table.specs.TextIndex.{turn, four_turns, hash_up_to, last_turns, text_hash}
@@ -43,21 +43,16 @@ hash-short t a b h i j k short ea eb eh ei ej ek =
     let whole : length t % 2 ^ 32 ≡ length t = omega arith in
     rw (none, e32, e24, e16, e8, whole, ← ea, ← eb) cc
 
--- the hash of a long text: after i bytes, i / 32 turns are done
+-- the hash of a long text: one step for each of its turns
 module _ (t : List ℕ) where
   pub hash-start : length t < 2 ^ 32 → length t ≡ hash_up_to t 0
   unfolding hash_up_to
   hash-start h = omega arith
 
-  pub hash-next : (i h n : ℕ) → i % 32 ≡ 0 → h ≡ hash_up_to t (i / 32) → n ≡ four_turns h t i (i + 8) (i + 16) (i + 24) → n ≡ hash_up_to t ((i + 32) / 32)
+  pub hash-next : (i h n : ℕ) → h ≡ hash_up_to t i → n ≡ four_turns h t (32 * i) (32 * i + 8) (32 * i + 16) (32 * i + 24) → n ≡ hash_up_to t (i + 1)
   unfolding hash_up_to
-  hash-next i h n e eh en =
-      let next : (i + 32) / 32 ≡ suc (i / 32) = omega arith in
-      let here : 32 * (i / 32) ≡ i = omega arith in
-      rw (next, here, ← eh) en
+  hash-next i h n eh en = rw (add-one, ← eh) en
 
-  pub hash-end : (i h n : ℕ) → i % 32 ≡ 0 → length t - 32 ≤ i → i < length t → h ≡ hash_up_to t (i / 32) → n ≡ last_turns h t → n ≡ text_hash t
+  pub hash-end : (i h n : ℕ) → i ≡ (length t - 1) / 32 → h ≡ hash_up_to t i → n ≡ last_turns h t → n ≡ text_hash t
   unfolding text_hash
-  hash-end i h n e le lt eh en =
-      let all : (length t - 1) / 32 ≡ i / 32 = omega arith in
-      rw (all, ← eh) en
+  hash-end i h n all eh en = rw (← all, ← eh) en

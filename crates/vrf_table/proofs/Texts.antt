@@ -1,5 +1,5 @@
 -- Laws for the functions that compare texts: the part of the memory that holds a row's text, keys by number, and leaves.
-use Rattle.std.proofs.Common.{◌≡◌, ℕ, zero, suc, ◌+◌, ◌-◌, ◌<◌, Bool, true, false, ◌&&◌, eqb, List, [], ◌∷◌, ◌++◌, length, get_or, take, drop, sym, refl, ap, ◌∙◌, arith, length-drop, take-append-drop, length-take, take_all, drop-drop}
+use Rattle.std.proofs.Common.{◌≡◌, ℕ, zero, suc, ◌+◌, ◌-◌, ◌<◌, ◌≤◌, Bool, true, false, ◌&&◌, eqb, List, [], ◌∷◌, ◌++◌, length, get_or, take, drop, sym, refl, ap, ◌∙◌, arith, length-drop, take-append-drop, length-take, take_all, drop-drop}
 use mathlib.Core.Bool.{and-true, and-false}
 use Rattle.vrf_bitio.proofs.Laws.Cases.{clash}
 use Rattle.vrf_path.specs.Text.{same}
@@ -18,11 +18,11 @@ pub text-part : (r x : List ℕ) (e from n : ℕ) → from ≡ at r e → n ≡ 
 unfolding text part
 text-part r x e from n ef en = let size : from + n - from ≡ n = omega arith in rw (size, ef, en)
 
-pub numbered-core : (t : List ℕ) (n : ℕ) → (n ≡ 0 → ⊥) → (n ≡ 1 → ⊥) → key_numbered t n ≡ core_alias t
+pub numbered-core : (t : List ℕ) (n : ℕ) → 2 ≤ n → key_numbered t n ≡ core_alias t
 unfolding key_numbered
-numbered-core t zero a b = absurd (a refl)
-numbered-core t (suc zero) a b = absurd (b refl)
-numbered-core t (suc (suc n)) a b = refl
+numbered-core t zero h = absurd (omega arith)
+numbered-core t (suc zero) h = absurd (omega arith)
+numbered-core t (suc (suc n)) h = refl
 
 -- ---- leaves
 

@@ -1,48 +1,46 @@
 -- Laws for the search loops: one turn at the entry that pointer p points to, and claims as two walks.
 use Rattle.std.proofs.Common.{◌≡◌, ℕ, suc, ◌-◌, ◌<◌, ◌≤◌, Bool, true, false, cond, sym, ap, ◌∙◌, arith}
-use mathlib.Core.Option.{Option, none, some}
+use Rattle.std.specs.Prelude.{Option as Answer, Some, None}
+use mathlib.Core.Option.{none, some}
 use Rattle.vrf_model.specs.Lookup.{absent, ambiguous, claimed}
 use Rattle.vrf_table.specs.Chain.{walk}
 use Rattle.vrf_table.specs.Index.{claim_unless_second, claim_from, claim_walk}
 use Rattle.vrf_table.specs.Inner.Answers.{entry}
 use Rattle.vrf_table.proofs.Laws.Chain.{walk_at, walk-past, walk-skip, walk-nil, walk-passes}
-use Rattle.vrf_table.specs.declared.Entry.{Entry}
-use Rattle.vrf_table.specs.declared.Entry.TheVariants.{At, Nowhere}
 
--- one turn at the pointer p: so far, the walk below limit finds what the whole walk finds
-module _ (hit : ℕ → Bool) (link : ℕ → ℕ) (limit p : ℕ) {o : Option ℕ} (same : o ≡ walk hit link limit p) where
-  pub walk-ended : p ≤ 0 → none ≡ o
-  walk-ended h = let z : p ≡ 0 = omega arith in sym (same ∙ rw z (walk-nil hit link limit))
+-- one turn at the pointer p, where `below` entries are left
+module _ (hit : ℕ → Bool) (link : ℕ → ℕ) (below p : ℕ) where
+  pub walk-ended : p ≤ 0 → none ≡ walk hit link below p
+  walk-ended h = let z : p ≡ 0 = omega arith in sym (rw z (walk-nil hit link below))
 
-  module _ (h : 0 < p) where
-    pub walk-beyond : limit ≤ p - 1 → none ≡ o
-    walk-beyond k = sym (same ∙ walk-past hit link limit p (omega arith))
+  pub walk-beyond : below < p → none ≡ walk hit link below p
+  walk-beyond k = sym (walk-past hit link below p (omega arith))
 
-    module _ (k : p - 1 < limit) where
-      meets : o ≡ cond (hit (p - 1)) (some (p - 1)) (walk hit link (p - 1) (link (p - 1)))
-      meets = let z : p ≡ suc (p - 1) = omega arith in same ∙ walk-skip hit link limit p (omega arith) ∙ ap (λ (i : ℕ). walk hit link i i) z ∙ walk_at hit link (p - 1)
+  module _ (h : 0 < p) (k : p ≤ below) where
+    meets : walk hit link below p ≡ cond (hit (p - 1)) (some (p - 1)) (walk hit link (p - 1) (link (p - 1)))
+    meets = let z : p ≡ suc (p - 1) = omega arith in walk-skip hit link below p (omega arith) ∙ ap (λ (i : ℕ). walk hit link i i) z ∙ walk_at hit link (p - 1)
 
-      pub walk-found : {b : Bool} → b ≡ hit (p - 1) → b ≡ true → some (p - 1) ≡ o
-      walk-found e t = sym (meets ∙ rw (sym e ∙ t))
+    pub walk-found : {b : Bool} → b ≡ hit (p - 1) → b ≡ true → some (p - 1) ≡ walk hit link below p
+    walk-found e t = sym (meets ∙ rw (sym e ∙ t))
 
-      pub walk-on : {b : Bool} → b ≡ hit (p - 1) → b ≡ false → {q : ℕ} → q ≡ link (p - 1) → o ≡ walk hit link (p - 1) q
-      walk-on e t eq = meets ∙ rw (sym e ∙ t, eq)
+    pub walk-on : {b : Bool} → b ≡ hit (p - 1) → b ≡ false → {q : ℕ} → q ≡ link (p - 1) → walk hit link below p ≡ walk hit link (p - 1) q
+    walk-on e t eq = meets ∙ rw (sym e ∙ t, eq)
 
 -- r is what the walk found from pointer p on, where the chain starts
-module _ (hit : ℕ → Bool) (link : ℕ → ℕ) (n : ℕ) {p s : ℕ} (ep : p ≡ s) {r : Entry} (er : entry r ≡ walk hit link n p) where
-  pub found_below : {e : ℕ} → r ≡ At e → e < n
+module _ (hit : ℕ → Bool) (link : ℕ → ℕ) (n : ℕ) {p s : ℕ} (ep : p ≡ s) {r : Answer ℕ} (er : entry r ≡ walk hit link n p) where
+  pub found_below : {e : ℕ} → r ≡ Some e → e < n
   found_below e = (rw (sym er ∙ ap entry e) at (walk-passes hit link n p)).0
 
-  pub claim-absent : r ≡ Nowhere → absent ≡ claim_walk hit link n s
+  pub claim-absent : r ≡ None → absent ≡ claim_walk hit link n s
   unfolding claim_walk claim_from
   claim-absent e = rw (← ep, sym er ∙ ap entry e)
 
   -- r' is what the walk found after it
-  module _ {e : ℕ} (ee : r ≡ At e) {p' : ℕ} (ep' : p' ≡ link e) {r' : Entry} (er' : entry r' ≡ walk hit link e p') where
-    pub claim-one : r' ≡ Nowhere → claimed e ≡ claim_walk hit link n s
+  module _ {e : ℕ} (ee : r ≡ Some e) {p' : ℕ} (ep' : p' ≡ link e) {r' : Answer ℕ} (er' : entry r' ≡ walk hit link e p') where
+    pub claim-one : r' ≡ None → claimed e ≡ claim_walk hit link n s
     unfolding claim_walk claim_from claim_unless_second
     claim-one e' = rw (← ep, sym er ∙ ap entry ee, ← ep', sym er' ∙ ap entry e')
 
-    pub claim-several : {i : ℕ} → r' ≡ At i → ambiguous ≡ claim_walk hit link n s
+    pub claim-several : {i : ℕ} → r' ≡ Some i → ambiguous ≡ claim_walk hit link n s
     unfolding claim_walk claim_from claim_unless_second
     claim-several e' = rw (← ep, sym er ∙ ap entry ee, ← ep', sym er' ∙ ap entry e')

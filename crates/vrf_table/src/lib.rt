@@ -3,7 +3,7 @@
 
 pub mod spell;
 
-ghost use Rattle.std.specs.Prelude.{◌≡◌, ◌+◌, ◌*◌, ◌/◌, ◌^◌, ◌<◌, ◌≤◌, ◌++◌, length, drop, slice_index};
+ghost use Rattle.std.specs.Prelude.{◌≡◌, ℕ, ◌+◌, ◌*◌, ◌/◌, ◌^◌, ◌<◌, ◌≤◌, Bool, ◌++◌, length, drop, slice_index};
 ghost use Rattle.vrf_path.specs.Text.{four, eight, same};
 ghost use Rattle.vrf_path.specs.Keys.{key_is};
 ghost use Rattle.vrf_path.specs.Leaf.{leaf};
@@ -14,25 +14,18 @@ ghost use Rattle.vrf_table.specs.Table.{at, len, text, bucket, key_hash, key_buc
 ghost use Rattle.vrf_table.specs.TextIndex.{turn, four_turns, last_turns, text_hash, mixed, text_bucket, key_numbered, path_hit, find_path, leaf_hit, claim_at, claim_of};
 ghost use Rattle.vrf_table.specs.Inner.Table.{set_key, set_text};
 ghost use Rattle.vrf_table.specs.Inner.TextIndex.{leaf_bucket, first_at};
-ghost use Rattle.vrf_table.specs.Inner.Answers.{entry, claim, Suffixed, RowTexts};
+ghost use Rattle.vrf_table.specs.Inner.Answers.{entry, claim, Gives, Suffixed, RowTexts};
 
 use vrf_path::{core_alias, default_object_alias, is_key, leaf_base, left, same};
 use vrf_words::{get32, get64, put32, put64};
 
-// The answer of a search.
-#[derive(Clone, Copy)]
-pub enum Entry {
-    At(u32),
-    Nowhere,
+// Which entry has a key: none, several, or only this one.
+#[derive(Clone, Copy, Debug, PartialEq, Eq)]
+pub enum Claim {
+    Absent,
+    Ambiguous,
+    Only(u32),
 }
-
-// Which entry is the only one with a key, as a number: 0 if no entry has it, 1 if several have it, otherwise the entry's number plus 2.
-// A number is passed in a register; an enum would be passed in memory.
-pub type Claim = u32;
-
-pub const ABSENT: Claim = 0;
-
-pub const AMBIGUOUS: Claim = 1;
 
 // The bucket of a hash, out of b buckets.
 fn bucket_of(hash: u64, b: u32) -> u32
@@ -60,26 +53,42 @@ pub fn key_bucket(k: u64, b: u32) -> u32
     bucket_of(key_hash(k / 64), b - 63) + (k % 64) as u32
 }
 
+// The newest entry below n that passes the test, in the chain that starts at pointer p. No `for`: only the links give the next entry.
+fn walk<Hit: Fn(u32) -> bool, Link: Fn(u32) -> u32>(
+    p: u32,
+    n: u32,
+    hit: Hit,
+    link: Link,
+) -> Option<u32>
+    requires hit_in { (e : ℕ) → e < n → Hit.pre hit e }
+    requires link_in { (e : ℕ) → e < n → Link.pre link e }
+    ensures { (test : ℕ → Bool) (next : ℕ → ℕ) → Gives (Hit.post hit) test n → Gives (Link.post link) next n → entry result ≡ walk test next n p }
+{
+    let mut p = p;
+    let mut limit = n;
+    while 0 < p && p <= limit {
+        let e = p - 1;
+        if hit(e) {
+            return Some(e);
+        }
+        limit = e;
+        p = link(e);
+    }
+    None
+}
+
 // The newest row with the key k, out of n rows.
-pub fn find_key(rows: &[u8], heads: &[u8], b: u32, n: u32, k: u64) -> Entry
+pub fn find_key(rows: &[u8], heads: &[u8], b: u32, n: u32, k: u64) -> Option<u32>
     requires { (24 * n ≤ length rows.now) × (4 * b ≤ length heads.now) × (0 < b) }
     ensures { entry result ≡ find_key rows.now heads.now b n k }
 {
-    let mut p = get32(heads, key_bucket(k, b) as usize);
-    let mut limit = n;
-    while 0 < p {
-        let e = p - 1;
-        if limit <= e {
-            return Entry::Nowhere;
-        }
-        let row = 6 * (e as usize);
-        if get64(rows, row) == k {
-            return Entry::At(e);
-        }
-        limit = e;
-        p = get32(rows, row + 2);
-    }
-    Entry::Nowhere
+    let p = get32(heads, key_bucket(k, b) as usize);
+    walk(
+        p,
+        n,
+        |e| get64(rows, 6 * (e as usize)) == k,
+        |e| get32(rows, 6 * (e as usize) + 2),
+    )
 }
 
 // Writes the key and the link of row e.
@@ -118,10 +127,7 @@ pub fn row_text<'a>(rows: &[u8], x: &'a [u8], e: u32) -> &'a [u8]
 fn byte_at(t: &[u8], i: usize) -> u64
     ensures { (result ≡ slice_index t.now i) × (result < 256) }
 {
-    if i < t.len() {
-        return t[i] as u64;
-    }
-    0
+    t.get(i).map_or(0, |b| u64::from(*b))
 }
 
 // The four bytes from i on as one number. A byte past the end counts as 0.
@@ -149,7 +155,7 @@ fn turn(h: u64, w: u64) -> u64
 {
     let low = (w % 0x1_0000_0000 + 2654435761) % 0x1_0000_0000;
     let high = (w / 0x1_0000_0000 + 2246822519) % 0x1_0000_0000;
-    std::num::wrapping_add_u64(h, low * high)
+    h.wrapping_add(low * high)
 }
 
 // The hash of a text shorter than eight bytes.
@@ -189,12 +195,9 @@ fn long_hash(t: &[u8]) -> u64
     requires { (8 ≤ length t.now) × (length t.now < 2 ^ 32) }
     ensures { result ≡ text_hash t.now }
 {
-    let n = t.len();
-    let mut h = n as u64;
-    let mut i = 0;
-    while 32 < n - i {
-        h = four_turns(h, t, i);
-        i += 32;
+    let mut h = t.len() as u64;
+    for i in 0..(t.len() - 1) / 32 {
+        h = four_turns(h, t, 32 * i);
     }
     last_turns(h, t)
 }
@@ -227,24 +230,18 @@ pub fn text_bucket(t: &[u8], b: u32) -> u32
 }
 
 // Whether the path's key with this number is k. A core alias is 6 bytes longer or shorter than the path. Most texts have another length,
-// and
-// then the path is not searched.
+// and then the path is not searched.
 fn key_is(path: &[u8], number: u32, k: &[u8]) -> bool
     ensures { result ≡ key_is (key_numbered path.now number) k.now }
 {
-    if number == 0 {
-        return same(path, k);
+    match number {
+        0 => same(path, k),
+        1 => is_key(path, default_object_alias(path), k),
+        _ => {
+            (k.len() + 6 == path.len() || path.len() + 6 == k.len())
+                && is_key(path, core_alias(path), k)
+        }
     }
-    if number == 1 {
-        return is_key(path, default_object_alias(path), k);
-    }
-    if k.len() + 6 == path.len() {
-        return is_key(path, core_alias(path), k);
-    }
-    if path.len() + 6 == k.len() {
-        return is_key(path, core_alias(path), k);
-    }
-    false
 }
 
 // Whether entry e is the key k. Entry e is key e % 3 of group e / 3.
@@ -264,24 +261,17 @@ pub fn find_path(
     b: u32,
     n: u32,
     k: &[u8],
-) -> Entry
+) -> Option<u32>
     requires { (24 * n ≤ length rows.now) × (12 * n ≤ length links.now) × (4 * b ≤ length heads.now) × (0 < b) × (n ≤ 100000) × RowTexts rows.now x.now n × (length k.now < 2 ^ 31) }
     ensures { entry result ≡ find_path rows.now x.now links.now heads.now b n k.now }
 {
-    let mut p = get32(heads, text_bucket(&k[..], b) as usize);
-    let mut limit = 3 * n;
-    while 0 < p {
-        let e = p - 1;
-        if limit <= e {
-            return Entry::Nowhere;
-        }
-        if path_hit(rows, x, e, k) {
-            return Entry::At(e);
-        }
-        limit = e;
-        p = get32(links, e as usize);
-    }
-    Entry::Nowhere
+    let p = get32(heads, text_bucket(k, b) as usize);
+    walk(
+        p,
+        3 * n,
+        |e| path_hit(rows, x, e, k),
+        |e| get32(links, e as usize),
+    )
 }
 
 // The bucket of a leaf, out of b buckets. It is the bucket of the leaf's base, so that all the leaves tried for a name are in one chain.
@@ -299,10 +289,7 @@ fn ends_with_name(path: &[u8], from: usize, name: &[u8], suffix: &[u8]) -> bool
     ensures { result ≡ same (drop from path.now) (name.now ++ suffix.now) }
 {
     let following = from + name.len();
-    if same(&path[following..], suffix) {
-        return same(&path[from..following], name);
-    }
-    false
+    same(&path[following..], suffix) && same(&path[from..following], name)
 }
 
 // Whether a path's leaf is the name followed by the suffix. Neither has a dot, so this holds if the path ends with a dot, the name and the
@@ -342,24 +329,16 @@ fn find_leaf(
     p: u32,
     name: &[u8],
     suffix: &[u8],
-) -> Entry
+) -> Option<u32>
     requires { Suffixed name.now suffix.now × (24 * n ≤ length rows.now) × (4 * n ≤ length links.now) × RowTexts rows.now x.now n }
     ensures { entry result ≡ walk (leaf_hit rows.now x.now (name.now ++ suffix.now)) (word links.now) n p }
 {
-    let mut p = p;
-    let mut limit = n;
-    while 0 < p {
-        let e = p - 1;
-        if limit <= e {
-            return Entry::Nowhere;
-        }
-        if leaf_hit(rows, x, e, name, suffix) {
-            return Entry::At(e);
-        }
-        limit = e;
-        p = get32(links, e as usize);
-    }
-    Entry::Nowhere
+    walk(
+        p,
+        n,
+        |e| leaf_hit(rows, x, e, name, suffix),
+        |e| get32(links, e as usize),
+    )
 }
 
 // The claim of that leaf among n groups, found in the chain that starts at pointer p.
@@ -376,10 +355,10 @@ fn claim_from(
     ensures { claim result ≡ claim_at rows.now x.now links.now n p (name.now ++ suffix.now) }
 {
     match find_leaf(rows, x, links, n, p, name, suffix) {
-        Entry::Nowhere => ABSENT,
-        Entry::At(e) => match find_leaf(rows, x, links, e, get32(links, e as usize), name, suffix) {
-            Entry::Nowhere => e + 2,
-            Entry::At(_) => AMBIGUOUS,
+        None => Claim::Absent,
+        Some(e) => match find_leaf(rows, x, links, e, get32(links, e as usize), name, suffix) {
+            None => Claim::Only(e),
+            Some(_) => Claim::Ambiguous,
         },
     }
 }
@@ -428,13 +407,11 @@ pub fn first_claim(
     requires { Suffixed name.now s.now × Suffixed name.now t.now × Suffixed name.now u.now × (24 * n ≤ length rows.now) × (4 * n ≤ length links.now) × (n ≤ 100000) × RowTexts rows.now x.now n }
     ensures { claim result ≡ first_at rows.now x.now links.now n p q (name.now ++ s.now) (name.now ++ t.now) (name.now ++ u.now) }
 {
-    let first = claim_from(rows, x, links, n, p, name, s);
-    if first != ABSENT {
-        return first;
+    match claim_from(rows, x, links, n, p, name, s) {
+        Claim::Absent => match claim_from(rows, x, links, n, q, name, t) {
+            Claim::Absent => claim_from(rows, x, links, n, q, name, u),
+            second => second,
+        },
+        first => first,
     }
-    let second = claim_from(rows, x, links, n, q, name, t);
-    if second != ABSENT {
-        return second;
-    }
-    claim_from(rows, x, links, n, q, name, u)
 }

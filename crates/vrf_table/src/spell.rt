@@ -11,8 +11,8 @@ pub fn join(scratch: &mut [u8], a: &[u8], b: &[u8]) -> usize
     requires { length a.now + length b.now ≤ length scratch.old }
     ensures { SpelledInto (a.now ++ b.now) scratch.old scratch.new result }
 {
-    put_part(scratch, 0, &a[..]);
-    put_part(scratch, a.len(), &b[..]);
+    put_part(scratch, 0, a);
+    put_part(scratch, a.len(), b);
     a.len() + b.len()
 }
 
@@ -48,6 +48,5 @@ pub fn spell(scratch: &mut [u8], path: &[u8], key: Key) -> usize
         Key::Prefixed => join(scratch, b"Default__", path),
         Key::Cut(at) => spell_cut(scratch, path, at),
         Key::Inserted => join(scratch, b"/Game/Characters/_Core/", following(path, 17)),
-        Key::Absent => 0,
     }
 }

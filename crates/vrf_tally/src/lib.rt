@@ -2,13 +2,14 @@
 #![tactic(auto)]
 
 ghost use Rattle.std.specs.Prelude.{◌≡◌, ◌+◌, ◌≤◌, length};
+ghost use Rattle.vrf_bitio.specs.Reasons.{number};
 ghost use Rattle.vrf_model.specs.Answers.{counts_of, tables_of};
 ghost use Rattle.vrf_tally.specs.Tally.{line, lines, count_lines, refusal_lines, answer_lines, answered, tally};
 ghost use Rattle.vrf_tally.specs.Printed.{Printed};
 ghost use Rattle.vrf_tally.specs.Inner.Counts.{held_counts, path_counts};
 
-use vrf_bitio::{Refusal, WINDOW_TOO_LARGE};
-use vrf_model::{Acted, CheckpointTables, Tables};
+use vrf_bitio::{Reason, Refusal};
+use vrf_model::CheckpointTables;
 use vrf_names::{decimal_len, put_decimal};
 use vrf_schema::calls::open;
 use vrf_schema::reading::read_checkpoint_tables;
@@ -61,37 +62,35 @@ fn put_counts(out: &mut [u8], t: CheckpointTables) -> usize
 // A refusal and its details, at the front of a buffer.
 fn put_refusal(out: &mut [u8], r: Refusal) -> usize
     requires { 512 ≤ length out.old }
-    ensures { Printed (refusal_lines r.number r.a r.b) out.old 0 out.new result }
+    ensures { Printed (refusal_lines (number r.reason) r.a r.b) out.old 0 out.new result }
 {
-    let number = put_line(out, 0, b"refusal", r.number as u64);
+    let number = put_line(out, 0, b"refusal", r.reason.number() as u64);
     let a = put_line(out, number, b"a", r.a);
     put_line(out, a, b"b", r.b)
 }
 
 // What the block reader answered, at the front of a buffer.
-fn put_answer(out: &mut [u8], read: Tables) -> usize
+fn put_answer(out: &mut [u8], read: Result<CheckpointTables, Refusal>) -> usize
     requires { 512 ≤ length out.old }
     ensures { Printed (answer_lines (tables_of read)) out.old 0 out.new result }
 {
     match read {
-        Tables::Read(t) => put_counts(out, t),
-        Tables::Refused(r) => put_refusal(out, r),
+        Ok(t) => put_counts(out, t),
+        Err(r) => put_refusal(out, r),
     }
 }
 
 // The block reader's answer on a book that is opened in the lent memory. The allowances need 29,332 bytes (docs/LAYOUT.md).
-fn read_into(book: &mut [u8], input: &[u8]) -> Tables
+fn read_into(book: &mut [u8], input: &[u8]) -> Result<CheckpointTables, Refusal>
     requires { (29332 ≤ length book.old) × (length input.now ≤ 65536) }
     ensures { tables_of result ≡ answered input.now }
 {
-    match open(book, 128, 32, 128, 8192, 128) {
-        Acted::Refused(r) => Tables::Refused(r),
-        Acted::Done => read_checkpoint_tables(book, input, 0, 8 * (input.len() as u64)),
-    }
+    open(book, 128, 32, 128, 8192, 128)?;
+    read_checkpoint_tables(book, input, 0, 8 * (input.len() as u64))
 }
 
 // The block reader's answer on a new book.
-fn read(input: &[u8]) -> Tables
+fn read(input: &[u8]) -> Result<CheckpointTables, Refusal>
     requires { length input.now ≤ 65536 }
     ensures { tables_of result ≡ answered input.now }
 {
@@ -107,7 +106,7 @@ pub fn tally(input: &[u8], out: &mut [u8; 512]) -> usize
         return put_refusal(
             out,
             Refusal {
-                number: WINDOW_TOO_LARGE,
+                reason: Reason::WindowTooLarge,
                 a: 0,
                 b: 0,
             },

@@ -1,4 +1,5 @@
 -- One character of UTF-16, by the word that holds its units. Past the end of a text the word has 0, which is not a low surrogate.
+use mathlib.Core.Logic.{◌⊎◌, inl, inr}
 use mathlib.Core.List.{List, [], ◌∷◌}
 use mathlib.Core.Option.{Option, none, some}
 use mathlib.Core.Path.{◌≡◌, refl, sym, ap, ◌∙◌}
@@ -7,10 +8,10 @@ use native.Mathlib.Omega.{arith}
 use lib.ListN.{get_or, drop}
 use Rattle.vrf_bitio.proofs.Laws.Cases.{at_most, clash}
 use Rattle.vrf_text.specs.Utf16.{Kind, single, high, low, kind, pair, before, utf16_from, utf16}
-use Rattle.vrf_text.specs.Inner.Steps.{WordHolds16, UnitsTaken, Utf16Step}
+use Rattle.vrf_text.specs.Inner.Steps.{WordHolds16}
 use Rattle.vrf_text.proofs.Laws.Utf16.{kind-below, kind-above, kind-high, kind-low, single-first, high-first, low_second}
 
-pub low-range : (a : ℕ) → kind a ≡ low → (0xDC00 ≤ a) × (a ≤ 0xDFFF)
+low-range : (a : ℕ) → kind a ≡ low → (0xDC00 ≤ a) × (a ≤ 0xDFFF)
 unfolding kind
 low-range a =
     let P : Kind → Type 0 = λ k. k ≡ low → (0xDC00 ≤ a) × (a ≤ 0xDFFF) in
@@ -42,35 +43,32 @@ alone a (b ∷ l) h = go (kind b) h
 -- ---- the character at the start of a word
 
 module _ (w : ℕ) where
-  abbrev pub unit : ℕ
+  abbrev unit : ℕ
   unit = w % 0x10000
 
-  abbrev pub next : ℕ
+  abbrev next : ℕ
   next = w / 0x10000 % 0x10000
 
-  -- from the first unit of the word to that of the list
-  started : (u k : ℕ) → k ≤ 2 → u < 0x110000 → ((l : List ℕ) → get_or l 0 0 ≡ next → UnitsTaken (unit ∷ l) u k) → Utf16Step w u k
-  started u k few h f = record { few = few; scalar = h; taken = go }
-    where
-      go : (ws : List ℕ) → WordHolds16 w ws → UnitsTaken ws u k
-      go [] q = absurd (omega (arith, q.any))
-      go (a ∷ l) q = rw q.first (f l q.second)
+  -- what holds of each list that begins with the first unit of the word holds of each list that the word holds
+  begun : (P : List ℕ → Type 0) → ((l : List ℕ) → get_or l 0 0 ≡ next → P (unit ∷ l)) → (ws : List ℕ) → WordHolds16 w ws → P ws
+  begun P f [] q = absurd (omega (arith, q.any))
+  begun P f (a ∷ l) q = rw q.first (f l q.second)
 
-  pub below : unit < 0xD800 → Utf16Step w unit 1
-  below h = started unit 1 (omega arith) (omega arith) λ l _. single-first unit l (kind-below unit h)
+  pub single_of : (unit < 0xD800) ⊎ ((0xD800 ≤ unit) × (0xDFFF < unit)) → (ws : List ℕ) → WordHolds16 w ws → utf16 ws ≡ before unit (utf16 (drop 1 ws))
+  single_of (inl h) = begun (λ ws. utf16 ws ≡ before unit (utf16 (drop 1 ws))) λ l _. single-first unit l (kind-below unit h)
+  single_of (inr h) = begun (λ ws. utf16 ws ≡ before unit (utf16 (drop 1 ws))) λ l _. single-first unit l (kind-above unit h.1)
 
-  pub above : 0xDFFF < unit → Utf16Step w unit 1
-  above h = started unit 1 (omega arith) (omega arith) λ l _. single-first unit l (kind-above unit h)
+  no-low : 0xD800 ≤ unit → unit ≤ 0xDBFF → (kind next ≡ low → ⊥) → (ws : List ℕ) → WordHolds16 w ws → utf16 ws ≡ none
+  no-low h k f = begun (λ ws. utf16 ws ≡ none) λ l e. high-first unit l (kind-high unit h k) ∙ alone unit l (λ q. f (ap kind (sym e) ∙ q))
 
-  pub low_first : 0xDBFF < unit → unit ≤ 0xDFFF → Utf16Step w 0 0
-  low_first h k = started 0 0 (omega arith) (omega arith) λ l _. stray unit l (kind-low unit h k)
+  pub none_of : 0xD800 ≤ unit → unit ≤ 0xDFFF → (0xDBFF < unit) ⊎ (((unit ≤ 0xDBFF) × (next < 0xDC00)) ⊎ ((unit ≤ 0xDBFF) × (0xDC00 ≤ next) × (0xDFFF < next)))
+      → (ws : List ℕ) → WordHolds16 w ws → utf16 ws ≡ none
+  none_of h k (inl p) = begun (λ ws. utf16 ws ≡ none) λ l _. stray unit l (kind-low unit p k)
+  none_of h k (inr (inl p)) = no-low h p.0 λ e. omega (arith, low-range next e)
+  none_of h k (inr (inr p)) = no-low h p.0 λ e. omega (arith, low-range next e)
 
-  module _ (h : 0xD800 ≤ unit) (k : unit ≤ 0xDBFF) where
-    pub no-low : (kind next ≡ low → ⊥) → Utf16Step w 0 0
-    no-low f = started 0 0 (omega arith) (omega arith) λ l e.
-        high-first unit l (kind-high unit h k) ∙ alone unit l (λ q. f (ap kind (sym e) ∙ q))
-
-    pub pair_of : 0xDC00 ≤ next → next ≤ 0xDFFF → Utf16Step w (0x10000 + (unit % 0x400 * 0x400 + next % 0x400)) 2
-    unfolding pair
-    pair_of p q = started _ 2 (omega arith) (omega arith) λ l e.
-        high-first unit l (kind-high unit h k) ∙ two unit l (ap kind e ∙ kind-low next p q) ∙ rw e
+  pub pair_of : 0xD800 ≤ unit → unit ≤ 0xDBFF → 0xDC00 ≤ next → next ≤ 0xDFFF
+      → (ws : List ℕ) → WordHolds16 w ws → utf16 ws ≡ before (0x10000 + (unit % 0x400 * 0x400 + next % 0x400)) (utf16 (drop 2 ws))
+  unfolding pair
+  pair_of h k p q = begun (λ ws. utf16 ws ≡ before (0x10000 + (unit % 0x400 * 0x400 + next % 0x400)) (utf16 (drop 2 ws)))
+      λ l e. high-first unit l (kind-high unit h k) ∙ two unit l (ap kind e ∙ kind-low next p q) ∙ rw e

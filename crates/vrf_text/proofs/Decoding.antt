@@ -1,29 +1,31 @@
 -- The loops over units of UTF-16: at place i, the UTF-8 so far followed by the UTF-8 of the units from i on is the whole text.
 use mathlib.Core.List.{List, [], ◌++◌, append_assoc, append-nil}
-use mathlib.Core.Option.{Option, none, some}
-use mathlib.Core.Path.{◌≡◌, refl, sym, ap, ◌∙◌, subst}
-use Prim.Native.Nat.{ℕ, zero, suc, ◌+◌, ◌-◌, ◌*◌, ◌≤◌}
+use mathlib.Core.Option.{Option as Maybe, none, some}
+use mathlib.Core.Path.{◌≡◌, refl, sym, ap, ◌∙◌}
+use Prim.Native.Nat.{ℕ, ◌+◌, ◌≤◌}
 use native.Mathlib.Omega.{arith}
 use lib.ListN.{length, drop, length-append, drop_of_length-le}
 use lib.Seq.{drop-drop}
+use Rattle.std.specs.Prelude.{Option, Some, None, IsSome}
 use Rattle.vrf_bitio.specs.Pasted.{pasted}
 use Rattle.vrf_bitio.proofs.Laws.Cases.{clash}
 use Rattle.vrf_bitio.proofs.Laws.Pasted.{pasted-nil, pasted_length, pasted-append}
 use Rattle.vrf_text.specs.Utf16.{before, utf16, utf16_from, utf8_of, utf8_chars, units_to_utf8}
-use Rattle.vrf_text.specs.Inner.Steps.{units_of, WordHolds16, UnitsTaken, Utf16Step, FitsTarget, WroteText}
-use Rattle.vrf_text.proofs.Runs.{units-drop}
+use Rattle.vrf_text.specs.Inner.Steps.{FitsTarget, WroteText}
+use Rattle.vrf_text.specs.Inner.Spans.{CharTaken}
+use Rattle.vrf_text.specs.declared.Char.{Char}
 
 -- the bytes x put before the UTF-8 of the rest, if the rest has no error
-unfoldable pub joined : List ℕ → Option (List ℕ) → Option (List ℕ)
+unfoldable pub joined : List ℕ → Maybe (List ℕ) → Maybe (List ℕ)
 joined x none = none
 joined x (some t) = some (x ++ t)
 
-joined-twice : (x y : List ℕ) (o : Option (List ℕ)) → joined x (joined y o) ≡ joined (x ++ y) o
+joined-twice : (x y : List ℕ) (o : Maybe (List ℕ)) → joined x (joined y o) ≡ joined (x ++ y) o
 unfolding joined
 joined-twice x y none = refl
 joined-twice x y (some t) = ap some (sym (append_assoc x y t))
 
-joined-nil : (o : Option (List ℕ)) → o ≡ joined [] o
+joined-nil : (o : Maybe (List ℕ)) → o ≡ joined [] o
 unfolding joined
 joined-nil none = refl
 joined-nil (some t) = refl
@@ -33,7 +35,7 @@ with-char : (ws vs : List ℕ) (u : ℕ) → utf16 ws ≡ before u (utf16 vs) �
 unfolding units_to_utf8 utf8_chars before joined
 with-char ws vs u e = rw (e, units_to_utf8) (go (utf16 vs))
   where
-    go : (o : Option (List ℕ)) → ◌≡◌ {A = Option (List ℕ)} (elim (before u o) [ none ↦ none | some cs ↦ some (utf8_chars cs) ])
+    go : (o : Maybe (List ℕ)) → ◌≡◌ {A = Maybe (List ℕ)} (elim (before u o) [ none ↦ none | some cs ↦ some (utf8_chars cs) ])
         (joined (utf8_of u) (elim o [ none ↦ none | some cs ↦ some (utf8_chars cs) ]))
     go none = refl
     go (some cs) = refl
@@ -51,29 +53,28 @@ pub start : (ws : List ℕ) → Decoding ws 0 0
 start ws = record { done = []; long = refl; same = joined-nil (units_to_utf8 ws) }
 
 module _ (ws : List ℕ) (i len : ℕ) (d : Decoding ws i len) where
-  pub bad : (u k : ℕ) → k ≡ 0 → UnitsTaken (drop i ws) u k → units_to_utf8 ws ≡ none
+  pub bad : utf16 (drop i ws) ≡ none → units_to_utf8 ws ≡ none
   unfolding joined
-  bad u k e t = d.same ∙ ap (joined d.done) (with_none (drop i ws) (subst (UnitsTaken (drop i ws) u) e t))
+  bad e = d.same ∙ ap (joined d.done) (with_none (drop i ws) e)
 
   pub end : length ws ≤ i → units_to_utf8 ws ≡ some d.done
   unfolding joined units_to_utf8 utf16 utf16_from utf8_chars
   end h = d.same ∙ rw (drop_of_length-le ws h) (ap some (append-nil d.done))
 
-  further : (u k : ℕ) → (k ≡ 0 → ⊥) → UnitsTaken (drop i ws) u k → units_to_utf8 ws ≡ joined (d.done ++ utf8_of u) (units_to_utf8 (drop (i + k) ws))
-  further u zero h t = absurd (h refl)
-  further u (suc k) h t =
-      d.same ∙ ap (joined d.done) (with-char (drop i ws) (drop (suc k) (drop i ws)) u t) ∙ joined-twice d.done (utf8_of u) _ ∙ rw (drop-drop (suc k) i ws)
+  further : (u k : ℕ) → utf16 (drop i ws) ≡ before u (utf16 (drop k (drop i ws))) → units_to_utf8 ws ≡ joined (d.done ++ utf8_of u) (units_to_utf8 (drop (i + k) ws))
+  further u k t =
+      d.same ∙ ap (joined d.done) (with-char (drop i ws) (drop k (drop i ws)) u t) ∙ joined-twice d.done (utf8_of u) _ ∙ rw (drop-drop k i ws)
 
-  pub on : (u k : ℕ) → (k ≡ 0 → ⊥) → UnitsTaken (drop i ws) u k → Decoding ws (i + k) (len + length (utf8_of u))
-  on u k h t = record {
+  pub on : (u k : ℕ) → utf16 (drop i ws) ≡ before u (utf16 (drop k (drop i ws))) → Decoding ws (i + k) (len + length (utf8_of u))
+  on u k t = record {
     done = d.done ++ utf8_of u;
     long = length-append d.done (utf8_of u) ∙ ap (λ (n : ℕ). n + length (utf8_of u)) d.long;
-    same = further u k h t;
+    same = further u k t;
   }
 
--- ---- the loop of `put_units`
+-- ---- the loop of `put_utf8`
 
-joined-fits : (x : List ℕ) (o : Option (List ℕ)) (t : List ℕ) → joined x o ≡ some t → length x ≤ length t
+joined-fits : (x : List ℕ) (o : Maybe (List ℕ)) (t : List ℕ) → joined x o ≡ some t → length x ≤ length t
 unfolding joined
 joined-fits x none t e = clash (cc)
 joined-fits x (some r) t e = let f : x ++ r ≡ t = cc in omega (arith, length-append x r, ap length f)
@@ -89,36 +90,35 @@ unfolding start
 write-start ws was = record { decoded = start ws; wrote = sym (pasted-nil was 0); long = refl }
 
 module _ (ws was out : List ℕ) (i at : ℕ) (v : DecodeLoop ws was out i at) where
-  module _ (r : FitsTarget (units_to_utf8 ws) (length was)) (u k : ℕ) (t : UnitsTaken (drop i ws) u k) where
-    pub advances : k ≡ 0 → ⊥
-    advances e =
-        let n : units_to_utf8 ws ≡ none = bad ws i at v.decoded u k e t in
+  module _ (r : FitsTarget (units_to_utf8 ws) (length was)) where
+    -- a character begins at each place of units that have a text
+    pub begins : (o : Option Char) → CharTaken (drop i ws) o → IsSome o
+    begins (Some c) t = refl
+    begins None t =
+        let n : units_to_utf8 ws ≡ none = bad ws i at v.decoded t in
         clash (cc r.is)
 
-    pub fits : at + length (utf8_of u) ≤ length out
-    fits = omega (
-      arith,
-      joined-fits (v.decoded.done ++ utf8_of u) _ r.text (sym (further ws i at v.decoded u k advances t) ∙ r.is),
-      length-append v.decoded.done (utf8_of u),
-      v.decoded.long,
-      v.long,
-      r.fits,
-    )
+    module _ (u k : ℕ) (t : utf16 (drop i ws) ≡ before u (utf16 (drop k (drop i ws)))) where
+      pub fits : at + length (utf8_of u) ≤ length out
+      fits = omega (
+        arith,
+        joined-fits (v.decoded.done ++ utf8_of u) _ r.text (sym (further ws i at v.decoded u k t) ∙ r.is),
+        length-append v.decoded.done (utf8_of u),
+        v.decoded.long,
+        v.long,
+        r.fits,
+      )
 
-    pub write-on : {out' : List ℕ} → out' ≡ pasted out at (utf8_of u) → DecodeLoop ws was out' (i + k) (at + length (utf8_of u))
-    unfolding on
-    write-on {out'} e =
-        let x : List ℕ = v.decoded.done in
-        let space : at ≤ length was = omega (arith, fits, v.long) in
-        record {
-          decoded = on ws i at v.decoded u k advances t;
-          wrote = e ∙ ap (λ (l : List ℕ). pasted l at (utf8_of u)) v.wrote ∙ pasted-append x (utf8_of u) was 0 at (omega (arith, v.decoded.long)) space;
-          long = ap length e ∙ pasted_length (utf8_of u) out at fits ∙ v.long;
-        }
+      pub write-on : {out' : List ℕ} → out' ≡ pasted out at (utf8_of u) → DecodeLoop ws was out' (i + k) (at + length (utf8_of u))
+      unfolding on
+      write-on {out'} e =
+          let x : List ℕ = v.decoded.done in
+          let space : at ≤ length was = omega (arith, fits, v.long) in
+          record {
+            decoded = on ws i at v.decoded u k t;
+            wrote = e ∙ ap (λ (l : List ℕ). pasted l at (utf8_of u)) v.wrote ∙ pasted-append x (utf8_of u) was 0 at (omega (arith, v.decoded.long)) space;
+            long = ap length e ∙ pasted_length (utf8_of u) out at fits ∙ v.long;
+          }
 
   pub write-end : length ws ≤ i → WroteText (units_to_utf8 ws) was out
   write-end h = record { text = v.decoded.done; is = end ws i at v.decoded h; wrote = v.wrote }
-
--- a step over the units from place i on, as the code reads them
-pub taken_at : (s : List ℕ) (p n i : ℕ) {w u k : ℕ} → Utf16Step w u k → WordHolds16 w (units_of s (p + 16 * i) (n - i)) → UnitsTaken (drop i (units_of s p n)) u k
-taken_at s p n i q h = rw (units-drop s p i n) (q.taken _ h)

@@ -8,7 +8,6 @@ pub mod CharWrites
 pub mod Decoding
 pub mod Texts
 pub mod Words
-pub mod Takes
 -- what is proved about these definitions
 pub mod Laws
 -- their examples, computed

@@ -2,7 +2,7 @@
 use mathlib.Core.Bool.{Bool, true, false, cond}
 use mathlib.Core.List.{List, ◌∷◌}
 use mathlib.Core.Path.{◌≡◌, refl, sym, ap, ◌∙◌}
-use Prim.Native.Nat.{ℕ, zero, suc, ◌+◌, ◌-◌, ◌*◌, ◌/◌, ◌%◌, ◌≤◌, ◌<◌, min}
+use Prim.Native.Nat.{ℕ, zero, suc, ◌+◌, ◌-◌, ◌*◌, ◌≤◌, ◌<◌, min}
 use native.Mathlib.Nat.{mod-eq_of_lt}
 use native.Mathlib.Omega.{arith}
 use lib.Dec.{eqb}
@@ -10,10 +10,11 @@ use lib.ListN.{length, get_or, take, drop, length-take, length-drop}
 use lib.Seq.{get_or-take, get_or-drop, ext_get_or}
 use Rattle.vrf_bitio.specs.Bits.{bits_of, bytes_of, packed_bits}
 use Rattle.vrf_bitio.proofs.Laws.Runs.{runs, run_length, run_at, run_take, run_drop, bytes_run}
-use Rattle.vrf_bitio.proofs.Laws.Bits.{bits-lt, bits-split, bits-low, bits-high, bits-byte}
+use Rattle.vrf_bitio.proofs.Laws.Bits.{bits-lt, bits-split, bits-low, bits-high, bits-byte, bytes_drop}
 use Rattle.vrf_text.specs.Utf16.{units}
 use Rattle.vrf_text.specs.Text.{drop_zero}
-use Rattle.vrf_text.specs.Inner.Steps.{byte_of, WordHolds, WordHolds16, units_of}
+use Rattle.vrf_text.specs.Inner.Steps.{byte_of, WordHolds, WordHolds16}
+use Rattle.vrf_text.specs.Inner.Spans.{units_of}
 
 module _ (w : ℕ) (s : List ℕ) where
   -- one final zero dropped
@@ -64,13 +65,19 @@ byte-of-bits s q (suc k) (suc j) =
     rw (e, bits-high s q 8 (8 * k)) (byte-of-bits s (q + 8) k j)
 
 module _ (s : List ℕ) {w : ℕ} where
-  -- a word of all the bytes at bit q, and a word of the first eight
-  pub holds-all : (q n : ℕ) → w ≡ bits_of s q (8 * n) → WordHolds w (bytes_of s q n)
-  holds-all q n e j h = rw (e, bytes_run s q n) (sym (byte-of-bits s q n j))
+  all-there : (q n : ℕ) → w ≡ bits_of s q (8 * n) → WordHolds w (bytes_of s q n)
+  all-there q n e j h = rw (e, bytes_run s q n) (sym (byte-of-bits s q n j))
 
-  pub holds-first : (q n : ℕ) → 8 ≤ n → w ≡ bits_of s q 64 → WordHolds w (bytes_of s q n)
-  holds-first q n k e j h =
+  eight-there : (q n : ℕ) → 8 ≤ n → w ≡ bits_of s q 64 → WordHolds w (bytes_of s q n)
+  eight-there q n k e j h =
       rw (e, bytes_run s q n) (sym (get_or-take 8 (runs 8 s q n) j 0 h) ∙ rw (run_take 8 s q 8 n k) (sym (byte-of-bits s q 8 j)))
+
+  -- of the n bytes at bit q, a word of all those from place i on, and a word of the eight from there on
+  pub holds-all : (q n i : ℕ) → w ≡ bits_of s (q + 8 * i) (8 * (n - i)) → WordHolds w (drop i (bytes_of s q n))
+  holds-all q n i e = rw (bytes_drop s q i n) (all-there (q + 8 * i) (n - i) e)
+
+  pub holds-eight : (q n i : ℕ) → 8 ≤ n - i → w ≡ bits_of s (q + 8 * i) 64 → WordHolds w (drop i (bytes_of s q n))
+  holds-eight q n i k e = rw (bytes_drop s q i n) (eight-there (q + 8 * i) (n - i) k e)
 
 module _ (s : List ℕ) (b : (k : ℕ) → get_or s k 0 < 256) where
   byte-in : (i n j : ℕ) → j < n → get_or (runs 8 s (8 * i) n) j 0 ≡ get_or s (i + j) 0
@@ -82,18 +89,16 @@ module _ (s : List ℕ) (b : (k : ℕ) → get_or s k 0 < 256) where
   pub holds-in : {w : ℕ} (i : ℕ) → w ≡ bits_of s (8 * i) 64 → WordHolds w (drop i s)
   holds-in i e j h = get_or-drop i s j 0 ∙ sym (rw e (byte-of-bits s (8 * i) 8 j) ∙ byte-in i 8 j h)
 
-  -- bytes that begin at a byte of the slice and end inside the slice
-  pub part : (p n : ℕ) → p % 8 ≡ 0 → p / 8 + n ≤ length s → take (p / 8 + n - p / 8) (drop (p / 8) s) ≡ bytes_of s p n
-  part p n z h =
-      let a : ℕ = p / 8 in
-      let back : 8 * a ≡ p = omega arith in
+  -- n bytes from place a on
+  pub part : (a n : ℕ) → a + n ≤ length s → take (a + n - a) (drop a s) ≡ bytes_of s (8 * a) n
+  part a n h =
       let size : a + n - a ≡ n = omega arith in
       let few : length (take n (drop a s)) ≡ n = rw (length-take, length-drop) (omega arith) in
       let same : take n (drop a s) ≡ runs 8 s (8 * a) n
       = ext_get_or 0 (take n (drop a s)) (runs 8 s (8 * a) n) (few ∙ sym (run_length 8 s (8 * a) n)) λ i k.
       let j : i < n = rw few at k in
       get_or-take n (drop a s) i 0 j ∙ get_or-drop a s i 0 ∙ sym (byte-in a n i j) in
-      rw size (same ∙ ap (λ (q : ℕ). runs 8 s q n) back ∙ sym (bytes_run s p n))
+      rw size (same ∙ sym (bytes_run s (8 * a) n))
 
 -- ---- units
 
@@ -105,27 +110,33 @@ units-run s q (suc n) =
     let next : q + 8 + 8 ≡ q + 16 = omega arith in
     rw (two, next, units-run s (q + 16) n, bits-split s q 8 8)
 
-pub units-drop : (s : List ℕ) (q k n : ℕ) → drop k (units_of s q n) ≡ units_of s (q + 16 * k) (n - k)
-units-drop s q k n = rw (units-run s q n, units-run s (q + 16 * k) (n - k)) (run_drop 16 s q k n)
-
 pub units-length : (s : List ℕ) (q n : ℕ) → length (units_of s q n) ≡ n
 units-length s q n = rw (units-run s q n) (run_length 16 s q n)
 
-module _ (s : List ℕ) (q : ℕ) {w : ℕ} where
-  -- a word of the last unit, and a word of the first two of several
-  pub holds-last : (n : ℕ) → n ≡ 1 → w ≡ bits_of s q 16 → WordHolds16 w (units_of s q n)
+units-drop : (s : List ℕ) (q k n : ℕ) → drop k (units_of s q n) ≡ units_of s (q + 16 * k) (n - k)
+units-drop s q k n = rw (units-run s q n, units-run s (q + 16 * k) (n - k)) (run_drop 16 s q k n)
+
+module _ (s : List ℕ) {w : ℕ} where
+  last-there : (q n : ℕ) → n ≡ 1 → w ≡ bits_of s q 16 → WordHolds16 w (units_of s q n)
   unfolding runs
-  holds-last n one e = rw (one, e, units-run s q 1) record {
+  last-there q n one e = rw (one, e, units-run s q 1) record {
     any = omega arith;
     first = sym (mod-eq_of_lt (bits-lt s q 16));
     second = omega (arith, bits-lt s q 16);
   }
 
-  pub holds-two : (n : ℕ) → 2 ≤ n → w ≡ bits_of s q 32 → WordHolds16 w (units_of s q n)
-  holds-two n h e =
+  two-there : (q n : ℕ) → 2 ≤ n → w ≡ bits_of s q 32 → WordHolds16 w (units_of s q n)
+  two-there q n h e =
       let here : q + 16 * 0 ≡ q = omega arith in
       rw (e, units-run s q n) record {
         any = rw (run_length 16 s q n) (omega arith);
         first = run_at 16 s q n 0 (omega arith) ∙ rw here (sym (bits-low s q 16 16));
         second = run_at 16 s q n 1 h ∙ sym (rw (bits-high s q 16 16) (mod-eq_of_lt (bits-lt s (q + 16) 16)));
       }
+
+  -- of the n units at bit q, a word of the last one, and a word of the two from place i on
+  pub holds-last : (q n i : ℕ) → n - i ≡ 1 → w ≡ bits_of s (q + 16 * i) 16 → WordHolds16 w (drop i (units_of s q n))
+  holds-last q n i one e = rw (units-drop s q i n) (last-there (q + 16 * i) (n - i) one e)
+
+  pub holds-two : (q n i : ℕ) → 2 ≤ n - i → w ≡ bits_of s (q + 16 * i) 32 → WordHolds16 w (drop i (units_of s q n))
+  holds-two q n i h e = rw (units-drop s q i n) (two-there (q + 16 * i) (n - i) h e)

@@ -2,12 +2,10 @@
 use mathlib.Core.Bool.{true, false}
 use mathlib.Core.List.{List}
 use mathlib.Core.Path.{◌≡◌, refl, sym, ap, ◌∙◌, subst}
-use Prim.Native.Nat.{ℕ, zero, suc, ◌+◌, ◌-◌, ◌*◌, ◌≤◌}
+use Prim.Native.Nat.{ℕ, zero, suc, ◌+◌, ◌-◌, ◌≤◌}
 use native.Mathlib.Omega.{arith}
 use lib.ListN.{length, take, drop, length-drop, drop_of_length-le}
 use lib.Seq.{take_all, drop-drop}
-use Rattle.vrf_bitio.specs.Bits.{bytes_of}
-use Rattle.vrf_bitio.proofs.Laws.Bits.{bytes_drop}
 use Rattle.vrf_text.specs.Utf8.{utf8, utf8_from}
 use Rattle.vrf_text.specs.Inner.Steps.{Passed, Clear}
 use Rattle.vrf_text.proofs.Ascii.{clear-on}
@@ -41,7 +39,3 @@ pub block : (l : List ℕ) (b i : ℕ) → Clear l b i → (32 ≤ length (take 
 block l b i c p =
     let q : (32 ≤ length (drop i l)) × Clear (drop i l) b 32 = subst (λ (m : List ℕ). (32 ≤ length m) × Clear m b 32) (lent l i) p in
     (omega (arith, q.0, length-drop i l), clear-on l b i 32 c q.1)
-
--- a step over the bytes from place i on, as the code reads them
-pub rest_at : (s : List ℕ) (p n i k : ℕ) → Passed (bytes_of s (p + 8 * i) (n - i)) k → Passed (drop i (bytes_of s p n)) k
-rest_at s p n i k q = rw (bytes_drop s p i n) q

@@ -1,2 +1,3 @@
 -- Contracts of the functions that pass over, measure, test and copy a text.
 pub mod Steps
+pub mod Spans

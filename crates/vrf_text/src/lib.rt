@@ -2,26 +2,17 @@
 #![tactic(auto)]
 
 ghost use Rattle.std.specs.Prelude.{◌≡◌, true, cond, ◌||◌, List, ℕ, ◌+◌, ◌-◌, ◌*◌, ◌<◌, ◌≤◌, ◌^◌, ◌/◌, ltb, eqb, length, drop};
-ghost use Rattle.std.proofs.Math.Option.{some};
 ghost use Rattle.vrf_bitio.specs.Bits.{bytes_of};
+ghost use Rattle.vrf_bitio.specs.Reasons.{number};
 ghost use Rattle.vrf_bitio.specs.Pasted.{pasted};
-ghost use Rattle.vrf_bitio.specs.Answers.{read_at};
+ghost use Rattle.vrf_bitio.specs.Answers.{read_here};
 ghost use Rattle.vrf_text.specs.Utf8.{utf8, within};
 ghost use Rattle.vrf_text.specs.Utf16.{utf8_of, units_to_utf8};
-ghost use Rattle.vrf_text.specs.Text.{text8, text16, fstring, into_target, fstring_into, caller_text};
+ghost use Rattle.vrf_text.specs.Text.{text8, text16, fstring_into, caller_text};
 ghost use Rattle.vrf_text.specs.Answers.{TextAnswer, CallerAnswer};
-ghost use Rattle.vrf_text.specs.Inner.Steps.{Utf8Step, Clear, WordHolds, Passed, Utf16Step, WordHolds16, units_of, MeasuredAnswer, FitsTarget, WroteText, LengthOf, bit_at, FoundAnswer};
+ghost use Rattle.vrf_text.specs.Inner.Steps.{Utf8Step, Clear, WordHolds, Passed, WordHolds16, MeasuredAnswer, FitsTarget, WroteText, LengthOf, TakesText, into, PutAnswer, RoomAnswer};
 
-use vrf_bitio::{Copied, Cursor, Int, Refusal};
-
-// The refusal numbers of document 01's table that reading or checking a text can give, besides those of the bit reader.
-pub const TEXT_LENGTH: u32 = 13;
-
-pub const BAD_TEXT: u32 = 14;
-
-pub const NOT_UTF8: u32 = 40;
-
-pub const TEXT_TOO_LONG: u32 = 41;
+use vrf_bitio::{BitReader, Reason, Refusal};
 
 // The most bytes of a text on the wire, and the most bytes of any text as UTF-8.
 const WIRE_BYTES: u64 = 1_048_576;
@@ -35,32 +26,24 @@ const HIGH_4: u64 = 0x8080_8080;
 
 const LOW: u64 = 0x0101_0101_0101_0101;
 
-// A text that was read: its length in bytes and the cursor after it.
-#[derive(Clone, Copy)]
-pub enum Text {
-    Read(u32, Cursor),
-    Refused(Refusal),
-}
-
-// The answer to a caller's text.
-#[derive(Clone, Copy)]
-pub enum Caller {
-    Accepted,
-    Refused(Refusal),
-}
-
-// A character and the number of its UTF-16 units; 0 units mean that there is no character.
+// A character of UTF-16 and the number of its units.
 #[derive(Clone, Copy)]
 struct Char {
     code: u32,
     units: usize,
+    ghost scalar: { code < 0x110000 },
+    ghost some: { 0 < units },
+    ghost few: { units ≤ 2 },
 }
 
-// The length of units as UTF-8 bytes, or bad text.
+// The len bytes, or units of UTF-16, from bit `at` of data on: a text on the wire that is not more than it may be.
 #[derive(Clone, Copy)]
-enum Measured {
-    Bytes(u32),
-    Bad,
+struct Span<'a> {
+    data: &'a [u8],
+    at: u64,
+    len: usize,
+    ghost near: { at < 2 ^ 33 },
+    ghost short: { len ≤ 2 ^ 20 },
 }
 
 // A text's length word, decoded: no text, n bytes of UTF-8, or n units of UTF-16.
@@ -71,18 +54,11 @@ enum Length {
     Units(u32),
 }
 
-// A text that was tested and not yet copied, with the cursor after it: n bytes of UTF-8 at a cursor, or n units of UTF-16 at a cursor with
-// the number of their bytes as UTF-8.
-#[derive(Clone, Copy)]
-enum FoundText {
-    Bytes(Cursor, u32, Cursor),
-    Units(Cursor, u32, u32, Cursor),
-    Refused(Refusal),
-}
-
 // ---- UTF-8. The loops read words of eight bytes; past the end of the text a word has 0. This is safe: 0 is not a tail byte, so a cut
-// character is bad, and 0 is ASCII, so a step may pass beyond the end.
+// character is bad, and 0 is ASCII, so a step may pass beyond the end. They are `while` loops because a step passes 1 to 32 bytes, and
+// `str::from_utf8` does not replace them because it tests each byte of a character beyond ASCII by itself.
 
+// (`(lo..=hi).contains(&b)` is no plainer, and its contract would need a lemma to give this one.)
 fn within(b: u64, lo: u64, hi: u64) -> bool
     ensures { result ≡ within lo hi b }
 {
@@ -202,188 +178,185 @@ pub fn is_utf8(t: &[u8]) -> bool
     true
 }
 
-// The word of the first eight of the n bytes at bit p of s; missing bytes are 0.
-fn word_at(s: &[u8], p: u64, n: usize) -> u64
-    ensures { WordHolds result (bytes_of s.now p n) }
+// `is_utf8` for the n bytes of s from place a on. (It stands alone because the elements of a slice that is passed are known to be bytes, and
+// those of a slice in a struct are not.)
+fn is_utf8_part(s: &[u8], a: usize, n: usize) -> bool
+    requires { a + n ≤ length s.now }
+    ensures { result ≡ utf8 (bytes_of s.now (8 * a) n) }
 {
-    if n < 8 {
-        vrf_bitio::bits_at(s, p, 8 * (n as u32))
-    } else {
-        vrf_bitio::bits_at(s, p, 64)
-    }
+    is_utf8(&s[a..a + n])
 }
 
-// The number of bytes to pass as ASCII, in blocks of 32, of the n bytes at bit p of s. Their top bits are all at the same place of
-// successive bytes of s, so no byte has to be assembled from two.
-fn ascii_at(s: &[u8], p: u64, n: usize) -> usize
-    requires { p + 8 * n < 2 ^ 64 }
-    ensures { utf8 (drop result (bytes_of s.now p n)) ≡ utf8 (bytes_of s.now p n) }
-{
-    if n < 32 {
-        return 0;
-    }
-    let top = p + 7;
-    let a = (top / 8) as usize;
-    let e = a + n;
-    if s.len() < e {
-        return 0;
-    }
-    clear_run(&s[a..e], (top % 8) as u32)
-}
+// ---- UTF-16. The loops read words of two units; past the end of the text a word has 0, which is not a low surrogate. They are `while`
+// loops because a character has one or two units.
 
-// Whether the n bytes at bit p of s are UTF-8: the steps of `is_utf8`, on words that may begin inside a byte. `is_utf8` is not this loop at
-// bit 0, because it takes slices whose bit count does not fit 64 bits and reads each word by one load. Both loops use the same lemmas about
-// a step.
-fn utf8_bits(s: &[u8], p: u64, n: usize) -> bool
-    requires { p + 8 * n < 2 ^ 64 }
-    ensures { result ≡ utf8 (bytes_of s.now p n) }
-{
-    let mut i = ascii_at(s, p, n);
-    while i < n {
-        let k = step(word_at(s, p + 8 * (i as u64), n - i));
-        if k == 0 {
-            return false;
+impl Char {
+    ghost use Rattle.vrf_text.specs.Inner.Spans.{Utf16Step};
+
+    // The character at the start of the word w of two units.
+    fn first(w: u64) -> Option<Char>
+        ensures { Utf16Step w result }
+    {
+        let a = w % 0x1_0000;
+        let b = w / 0x1_0000 % 0x1_0000;
+        if a < 0xD800 || 0xDFFF < a {
+            return Some(Char {
+                code: a as u32,
+                units: 1,
+            });
         }
-        i += k;
-    }
-    true
-}
-
-// Whether the n bytes at bit p of s are UTF-8. If they begin at a byte of s, that part of s is tested directly.
-fn utf8_at(s: &[u8], p: u64, n: usize) -> bool
-    requires { p + 8 * n < 2 ^ 64 }
-    ensures { result ≡ utf8 (bytes_of s.now p n) }
-{
-    let a = (p / 8) as usize;
-    let e = a + n;
-    if p % 8 != 0 {
-        return utf8_bits(s, p, n);
-    }
-    if s.len() < e {
-        return utf8_bits(s, p, n);
-    }
-    is_utf8(&s[a..e])
-}
-
-// ---- UTF-16. The loops read words of two units; past the end of the text a word has 0, which is not a low surrogate.
-
-// The character at the start of the word w of two units.
-fn char16(w: u64) -> Char
-    ensures { Utf16Step w result.code result.units }
-{
-    let a = w % 0x1_0000;
-    let b = w / 0x1_0000 % 0x1_0000;
-    if a < 0xD800 {
-        return Char {
-            code: a as u32,
-            units: 1,
-        };
-    }
-    if 0xDFFF < a {
-        return Char {
-            code: a as u32,
-            units: 1,
-        };
-    }
-    if 0xDBFF < a {
-        return Char { code: 0, units: 0 };
-    }
-    if b < 0xDC00 {
-        return Char { code: 0, units: 0 };
-    }
-    if 0xDFFF < b {
-        return Char { code: 0, units: 0 };
-    }
-    Char {
-        code: (0x1_0000 + (a % 0x400 * 0x400 + b % 0x400)) as u32,
-        units: 2,
-    }
-}
-
-// The word of the first two of the n units at bit p of s; a missing unit is 0.
-fn units_at(s: &[u8], p: u64, n: usize) -> u64
-    requires { 0 < n }
-    ensures { WordHolds16 result (units_of s.now p n) }
-{
-    if n == 1 {
-        vrf_bitio::bits_at(s, p, 16)
-    } else {
-        vrf_bitio::bits_at(s, p, 32)
-    }
-}
-
-// The number of bytes of a character as UTF-8.
-fn utf8_len(u: u32) -> u32
-    ensures { (result ≡ length (utf8_of u)) × (result ≤ 4) }
-{
-    if u < 0x80 {
-        1
-    } else if u < 0x800 {
-        2
-    } else if u < 0x1_0000 {
-        3
-    } else {
-        4
-    }
-}
-
-// The length as UTF-8 of the n units at bit p of s.
-fn utf16_length(s: &[u8], p: u64, n: usize) -> Measured
-    requires { (p < 2 ^ 33) × (n ≤ 2 ^ 19) }
-    ensures { MeasuredAnswer (units_to_utf8 (units_of s.now p n)) result }
-{
-    let mut i: usize = 0;
-    let mut len: u32 = 0;
-    while i < n {
-        let c = char16(units_at(s, p + 16 * (i as u64), n - i));
-        let k = c.units;
-        if k == 0 {
-            return Measured::Bad;
+        if 0xDBFF < a || b < 0xDC00 || 0xDFFF < b {
+            return None;
         }
-        len += utf8_len(c.code);
-        i += k;
+        Some(Char {
+            code: (0x1_0000 + (a % 0x400 * 0x400 + b % 0x400)) as u32,
+            units: 2,
+        })
     }
-    Measured::Bytes(len)
+
+    // The number of its bytes as UTF-8.
+    fn utf8_len(self) -> u32
+        ensures { (result ≡ length (utf8_of self.code)) × (result ≤ 4) }
+    {
+        let u = self.code;
+        if u < 0x80 {
+            1
+        } else if u < 0x800 {
+            2
+        } else if u < 0x1_0000 {
+            3
+        } else {
+            4
+        }
+    }
+
+    // Writes it as UTF-8 to out from place at on, and answers the place after it. (The contract of `char::encode_utf8` does not say what
+    // the target then holds.)
+    fn put(self, out: &mut [u8], at: usize) -> usize
+        requires { at + length (utf8_of self.code) ≤ length out.old }
+        ensures { (result ≡ at + length (utf8_of self.code)) × (out.new ≡ pasted out.old at (utf8_of self.code)) }
+    {
+        let u = self.code;
+        if u < 0x80 {
+            out[at] = u as u8;
+            return at + 1;
+        }
+        if u < 0x800 {
+            out[at] = (0xC0 + u / 64) as u8;
+            out[at + 1] = (0x80 + u % 64) as u8;
+            return at + 2;
+        }
+        if u < 0x1_0000 {
+            out[at] = (0xE0 + u / 4096) as u8;
+            out[at + 1] = (0x80 + u / 64 % 64) as u8;
+            out[at + 2] = (0x80 + u % 64) as u8;
+            return at + 3;
+        }
+        out[at] = (0xF0 + u / 262144) as u8;
+        out[at + 1] = (0x80 + u / 4096 % 64) as u8;
+        out[at + 2] = (0x80 + u / 64 % 64) as u8;
+        out[at + 3] = (0x80 + u % 64) as u8;
+        at + 4
+    }
 }
 
-// Writes a character as UTF-8 to out from place at on, and answers the place after it.
-fn put_char(out: &mut [u8], at: usize, u: u32) -> usize
-    requires { (u < 0x110000) × (at + length (utf8_of u) ≤ length out.old) }
-    ensures { (result ≡ at + length (utf8_of u)) × (out.new ≡ pasted out.old at (utf8_of u)) }
-{
-    if u < 0x80 {
-        out[at] = u as u8;
-        return at + 1;
-    }
-    if u < 0x800 {
-        out[at] = (0xC0 + u / 64) as u8;
-        out[at + 1] = (0x80 + u % 64) as u8;
-        return at + 2;
-    }
-    if u < 0x1_0000 {
-        out[at] = (0xE0 + u / 4096) as u8;
-        out[at + 1] = (0x80 + u / 64 % 64) as u8;
-        out[at + 2] = (0x80 + u % 64) as u8;
-        return at + 3;
-    }
-    out[at] = (0xF0 + u / 262144) as u8;
-    out[at + 1] = (0x80 + u / 4096 % 64) as u8;
-    out[at + 2] = (0x80 + u / 64 % 64) as u8;
-    out[at + 3] = (0x80 + u % 64) as u8;
-    at + 4
-}
+impl Span<'_> {
+    ghost use Rattle.vrf_text.specs.Inner.Spans.{bytes_in, units_in};
 
-// Writes the UTF-8 of the n units at bit p of s, which `utf16_length` has measured, into the first bytes of out.
-fn put_units(s: &[u8], p: u64, n: usize, out: &mut [u8])
-    requires { (p < 2 ^ 33) × (n ≤ 2 ^ 19) × FitsTarget (units_to_utf8 (units_of s.now p n)) (length out.old) }
-    ensures { WroteText (units_to_utf8 (units_of s.now p n)) out.old out.new }
-{
-    let mut i: usize = 0;
-    let mut at: usize = 0;
-    while i < n {
-        let c = char16(units_at(s, p + 16 * (i as u64), n - i));
-        at = put_char(out, at, c.code);
-        i += c.units;
+    // The word of the eight bytes from place i on; bytes past the end are 0.
+    fn word(self, i: usize) -> u64
+        requires { i < self.len }
+        ensures { WordHolds result (drop i (bytes_in self.entry)) }
+    {
+        let p = self.at + 8 * (i as u64);
+        let left = self.len - i;
+        if left < 8 {
+            vrf_bitio::bits_at(self.data, p, 8 * (left as u32))
+        } else {
+            vrf_bitio::bits_at(self.data, p, 64)
+        }
+    }
+
+    // The number of bytes to pass as ASCII, in blocks of 32. Their top bits are all at the same place of successive bytes of data, so no
+    // byte has to be assembled from two.
+    fn ascii(self) -> usize
+        ensures { utf8 (drop result (bytes_in self.entry)) ≡ utf8 (bytes_in self.entry) }
+    {
+        let top = self.at + 7;
+        let a = (top / 8) as usize;
+        let e = a + self.len;
+        if self.len < 32 || self.data.len() < e {
+            return 0;
+        }
+        clear_run(&self.data[a..e], (top % 8) as u32)
+    }
+
+    // `is_utf8` by words that may begin inside a byte. The free `is_utf8` is not this loop at bit 0, because it takes slices whose bit
+    // count does not fit 64 bits and reads each word by one load. Both loops use the same lemmas about a step.
+    fn is_utf8_in_words(self) -> bool
+        ensures { result ≡ utf8 (bytes_in self.entry) }
+    {
+        let mut i = self.ascii();
+        while i < self.len {
+            let k = step(self.word(i));
+            if k == 0 {
+                return false;
+            }
+            i += k;
+        }
+        true
+    }
+
+    // Whether the bytes are UTF-8. If they begin at a byte of data, that part of data is tested directly.
+    fn is_utf8(self) -> bool
+        ensures { result ≡ utf8 (bytes_in self.entry) }
+    {
+        let a = (self.at / 8) as usize;
+        if self.at % 8 != 0 || self.data.len() < a + self.len {
+            return self.is_utf8_in_words();
+        }
+        is_utf8_part(self.data, a, self.len)
+    }
+
+    // The word of the two units from place i on; a missing unit is 0.
+    fn unit_word(self, i: usize) -> u64
+        requires { i < self.len }
+        ensures { WordHolds16 result (drop i (units_in self.entry)) }
+    {
+        let p = self.at + 16 * (i as u64);
+        if self.len - i == 1 {
+            vrf_bitio::bits_at(self.data, p, 16)
+        } else {
+            vrf_bitio::bits_at(self.data, p, 32)
+        }
+    }
+
+    // The length of the units as UTF-8, if they are UTF-16.
+    fn utf8_len(self) -> Option<u32>
+        ensures { MeasuredAnswer (units_to_utf8 (units_in self.entry)) result }
+    {
+        let mut i: usize = 0;
+        let mut len: u32 = 0;
+        while i < self.len {
+            let c = Char::first(self.unit_word(i))?;
+            len += c.utf8_len();
+            i += c.units;
+        }
+        Some(len)
+    }
+
+    // Writes the UTF-8 of the units, which `utf8_len` has measured, into the first bytes of out.
+    fn put_utf8(self, out: &mut [u8])
+        requires { FitsTarget (units_to_utf8 (units_in self)) (length out.old) }
+        ensures { WroteText (units_to_utf8 (units_in self.entry)) out.old out.new }
+    {
+        let mut i: usize = 0;
+        let mut at: usize = 0;
+        while i < self.len {
+            let c = Char::first(self.unit_word(i)).unwrap();
+            at = c.put(out, at);
+            i += c.units;
+        }
     }
 }
 
@@ -402,14 +375,36 @@ fn length_of(n: i32) -> Length
     Length::Bytes(vrf_bitio::magnitude(n))
 }
 
-// Whether n bytes are more than a text on the wire may have, or more than are left.
-fn too_long(c: Cursor, n: u64) -> bool
-    ensures { result ≡ (ltb 1048576 n || ltb ((c.count - c.pos) / 8) n) }
+// The refusal of the bad text at start.
+fn bad_text(start: u32) -> Refusal
+    ensures { (number result.reason ≡ 14) × (result.a ≡ start) × (result.b ≡ 0) }
 {
-    if WIRE_BYTES < n {
-        return true;
+    Refusal {
+        reason: Reason::BadText,
+        a: start as u64,
+        b: 0,
     }
-    ((vrf_bitio::left_from(c.count as usize, c.pos as usize) / 8) as u64) < n
+}
+
+// Whether a text of n bytes may be put into a target of `space` bytes. 41: more than any text may have. Then 15: more than the target has.
+fn check_room(n: u32, space: usize) -> Result<(), Refusal>
+    ensures { RoomAnswer n space result }
+{
+    if TEXT_BYTES < n {
+        return Err(Refusal {
+            reason: Reason::TextTooLong,
+            a: n as u64,
+            b: 0,
+        });
+    }
+    if space < n as usize {
+        return Err(Refusal {
+            reason: Reason::Short,
+            a: 8 * (n as u64),
+            b: 8 * (space as u64),
+        });
+    }
+    Ok(())
 }
 
 // The number of bytes or units of a text of n, after a last one that is 0 is dropped.
@@ -420,183 +415,107 @@ fn trimmed(last: u64, n: u32) -> u32
     if last == 0 { n - 1 } else { n }
 }
 
-// Tests the n bytes of UTF-8 at a cursor; start is the position of the text's length word.
-fn find_bytes(s: &[u8], c: Cursor, start: u32, n: u32) -> FoundText
+// Moves past the bits of the text at start, whose length word is w, and answers where they begin in the slice. 13: more than a text on the
+// wire may have, or more than are left.
+fn take_text(r: &mut BitReader<'_>, start: u32, w: u32, bits: u64) -> Result<u64, Refusal>
+    ensures { TakesText r.old r.new start w bits result }
+{
+    if 8 * WIRE_BYTES < bits || (r.bits_remaining() as u64) < bits {
+        return Err(Refusal {
+            reason: Reason::TextLength,
+            a: start as u64,
+            b: w as u64,
+        });
+    }
+    let at = (r.first as u64) + (r.pos as u64);
+    r.pos += bits as u32;
+    Ok(at)
+}
+
+// Reads the n bytes of UTF-8 of the text at start, whose length word has just been read, into the first bytes of out.
+fn read_bytes(r: &mut BitReader<'_>, start: u32, n: u32, out: &mut [u8]) -> Result<u32, Refusal>
     requires { 0 < n }
-    ensures { FoundAnswer s.now c (read_at s.now c (text8 start n n)) result }
+    ensures { PutAnswer r.old r.new (read_here r.old (into (length out.old) (text8 start n n))) out.old out.new result }
 {
-    let first = c.first;
-    let count = c.count;
-    let pos = c.pos;
-    if too_long(c, n as u64) {
-        return FoundText::Refused(Refusal {
-            number: TEXT_LENGTH,
-            a: start as u64,
-            b: n as u64,
-        });
+    let mut from = *r;
+    let at = take_text(r, start, n, 8 * (n as u64))?;
+    let k = trimmed(vrf_bitio::bits_at(r.data, at + 8 * ((n - 1) as u64), 8), n);
+    let text = Span {
+        data: r.data,
+        at,
+        len: k as usize,
+    };
+    if !text.is_utf8() {
+        return Err(bad_text(start));
     }
-    let p = (first as u64) + (pos as u64);
-    let k = trimmed(vrf_bitio::bits_at(s, p + 8 * ((n - 1) as u64), 8), n);
-    if !utf8_at(s, p, k as usize) {
-        return FoundText::Refused(Refusal {
-            number: BAD_TEXT,
-            a: start as u64,
-            b: 0,
-        });
-    }
-    if TEXT_BYTES < k {
-        return FoundText::Refused(Refusal {
-            number: TEXT_TOO_LONG,
-            a: k as u64,
-            b: 0,
-        });
-    }
-    FoundText::Bytes(
-        c,
-        k,
-        Cursor {
-            first,
-            count,
-            pos: pos + 8 * n,
-        },
-    )
+    check_room(k, out.len())?;
+    from.copy_bits_to(out, 8 * (k as u64))?;
+    Ok(k)
 }
 
-// Tests the n units of UTF-16 at a cursor; start is the position of the text's length word.
-fn find_units(s: &[u8], c: Cursor, start: u32, n: u32) -> FoundText
+// Reads the n units of UTF-16 of the text at start, whose length word has just been read, as UTF-8 into the first bytes of out.
+fn read_units(r: &mut BitReader<'_>, start: u32, n: u32, out: &mut [u8]) -> Result<u32, Refusal>
     requires { (0 < n) × (n ≤ 2 ^ 31) }
-    ensures { FoundAnswer s.now c (read_at s.now c (text16 start (2 ^ 32 - n) n)) result }
+    ensures { PutAnswer r.old r.new (read_here r.old (into (length out.old) (text16 start (2 ^ 32 - n) n))) out.old out.new result }
 {
-    let first = c.first;
-    let count = c.count;
-    let pos = c.pos;
-    if too_long(c, 2 * (n as u64)) {
-        return FoundText::Refused(Refusal {
-            number: TEXT_LENGTH,
-            a: start as u64,
-            b: 0x1_0000_0000 - (n as u64),
-        });
-    }
-    let p = (first as u64) + (pos as u64);
-    let k = trimmed(vrf_bitio::bits_at(s, p + 16 * ((n - 1) as u64), 16), n);
-    match utf16_length(s, p, k as usize) {
-        Measured::Bad => FoundText::Refused(Refusal {
-            number: BAD_TEXT,
-            a: start as u64,
-            b: 0,
-        }),
-        Measured::Bytes(len) => {
-            if TEXT_BYTES < len {
-                return FoundText::Refused(Refusal {
-                    number: TEXT_TOO_LONG,
-                    a: len as u64,
-                    b: 0,
-                });
-            }
-            FoundText::Units(
-                c,
-                k,
-                len,
-                Cursor {
-                    first,
-                    count,
-                    pos: pos + 16 * n,
-                },
-            )
-        }
-    }
+    let at = take_text(
+        r,
+        start,
+        (0x1_0000_0000 - (n as u64)) as u32,
+        16 * (n as u64),
+    )?;
+    let k = trimmed(
+        vrf_bitio::bits_at(r.data, at + 16 * ((n - 1) as u64), 16),
+        n,
+    );
+    let text = Span {
+        data: r.data,
+        at,
+        len: k as usize,
+    };
+    let Some(bytes) = text.utf8_len() else {
+        return Err(bad_text(start));
+    };
+    check_room(bytes, out.len())?;
+    text.put_utf8(out);
+    Ok(bytes)
 }
 
-// Tests the text at a cursor.
-fn find_text(s: &[u8], c: Cursor) -> FoundText
-    ensures { FoundAnswer s.now c (read_at s.now c fstring) result }
+// Reads a text into the first bytes of out, and answers its length there.
+pub fn read_fstring(r: &mut BitReader<'_>, out: &mut [u8]) -> Result<u32, Refusal>
+    ensures { TextAnswer r.old r.new (read_here r.old (fstring_into (length out.old))) out.old out.new result }
 {
-    let start = c.pos;
-    match c.read_i32(s) {
-        Int::Refused(r) => FoundText::Refused(r),
-        Int::Value(n, at) => match length_of(n) {
-            Length::Empty => FoundText::Bytes(at, 0, at),
-            Length::Bytes(k) => find_bytes(s, at, start, k),
-            Length::Units(k) => find_units(s, at, start, k),
-        },
-    }
-}
-
-// The refusal of a text of n bytes for a target of fewer bytes.
-fn target_short(n: u32, space: usize) -> Refusal
-    requires { space < n }
-    ensures { (result.number ≡ 15) × (result.a ≡ 8 * n) × (result.b ≡ 8 * space) }
-{
-    Refusal {
-        number: vrf_bitio::SHORT,
-        a: 8 * (n as u64),
-        b: 8 * (space as u64),
-    }
-}
-
-// Copies the n bytes of UTF-8 at a cursor into the first bytes of out.
-fn take_bytes(s: &[u8], c: Cursor, n: u32, next: Cursor, out: &mut [u8]) -> Text
-    requires { 8 * n ≤ c.count - c.pos }
-    ensures { TextAnswer s.now next
-        (read_at s.now next (into_target (length out.old) (bytes_of s.now (bit_at c) n)))
-        out.old out.new result }
-{
-    let space = out.len();
-    if space < n as usize {
-        return Text::Refused(target_short(n, space));
-    }
-    match c.copy_bits_to(s, out, 8 * (n as u64)) {
-        Copied::Done(_) => Text::Read(n, next),
-        Copied::Refused(r) => Text::Refused(r),
-    }
-}
-
-// Writes the n units of UTF-16 at a cursor, which have len bytes as UTF-8, into the first bytes of out.
-fn take_units(s: &[u8], c: Cursor, n: u32, len: u32, next: Cursor, out: &mut [u8]) -> Text
-    requires { (n ≤ 2 ^ 19) × MeasuredAnswer (units_to_utf8 (units_of s.now (bit_at c) n)) (Measured.Bytes len) }
-    ensures { (v : List ℕ) → units_to_utf8 (units_of s.now (bit_at c) n) ≡ some v → TextAnswer s.now next
-        (read_at s.now next (into_target (length out.old) v)) out.old out.new result }
-{
-    let space = out.len();
-    if space < len as usize {
-        return Text::Refused(target_short(len, space));
-    }
-    put_units(s, (c.first as u64) + (c.pos as u64), n as usize, out);
-    Text::Read(len, next)
-}
-
-// Reads a text into the first bytes of out. Answers its length there and the cursor after it.
-pub fn read_fstring(s: &[u8], c: Cursor, out: &mut [u8]) -> Text
-    ensures { TextAnswer s.now c (read_at s.now c (fstring_into (length out.old)))
-        out.old out.new result }
-{
-    match find_text(s, c) {
-        FoundText::Refused(r) => Text::Refused(r),
-        FoundText::Bytes(at, n, next) => take_bytes(s, at, n, next, out),
-        FoundText::Units(at, n, len, next) => take_units(s, at, n, len, next, out),
-    }
+    let start = r.pos;
+    let mut at = *r;
+    let len = match length_of(at.read_i32()?) {
+        Length::Empty => 0,
+        Length::Bytes(n) => read_bytes(&mut at, start, n, out)?,
+        Length::Units(n) => read_units(&mut at, start, n, out)?,
+    };
+    *r = at;
+    Ok(len)
 }
 
 // ---- callers' text
 
 // The checks of a caller's text. 40: not UTF-8. Then 41: more than 4,096 bytes.
-pub fn check_text(t: &[u8]) -> Caller
+pub fn check_text(t: &[u8]) -> Result<(), Refusal>
     ensures { CallerAnswer (caller_text t.now) result }
 {
     let n = t.len();
     if !is_utf8(t) {
-        return Caller::Refused(Refusal {
-            number: NOT_UTF8,
+        return Err(Refusal {
+            reason: Reason::NotUtf8,
             a: 0,
             b: 0,
         });
     }
     if (TEXT_BYTES as usize) < n {
-        return Caller::Refused(Refusal {
-            number: TEXT_TOO_LONG,
+        return Err(Refusal {
+            reason: Reason::TextTooLong,
             a: n as u64,
             b: 0,
         });
     }
-    Caller::Accepted
+    Ok(())
 }

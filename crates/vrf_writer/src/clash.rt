@@ -1,6 +1,6 @@
 // Searches for the first clash: the first group whose path is a key of an earlier group. The path index finds the last group that has a
 // key. So the search takes each group h and its keys, and compares the groups after h only if one of them has the key too.
-ghost use Rattle.std.specs.Prelude.{◌≡◌, ◌+◌, ◌-◌, ◌^◌, ◌<◌, ◌≤◌, min, [], length};
+ghost use Rattle.std.specs.Prelude.{◌≡◌, ◌^◌, ◌<◌, ◌≤◌, [], length};
 ghost use Rattle.std.proofs.Math.Option.{some};
 ghost use Rattle.vrf_path.specs.Keys.{has_key};
 ghost use Rattle.vrf_path.specs.Answers.{spelled};
@@ -11,49 +11,23 @@ ghost use Rattle.vrf_store.specs.Inner.WellFormed.{WellFormed};
 ghost use Rattle.vrf_store.specs.Inner.Stepped.{held};
 ghost use Rattle.vrf_writer.specs.Inner.Clash.{is_at, is_key_at, Keyed, Narrowed};
 
-use vrf_path::{Key, core_alias, default_object_alias, has_key, is_absent, same};
+use vrf_path::{Key, core_alias, default_object_alias, has_key, same};
 use vrf_store::look::{group_path, path_buckets};
 use vrf_store::parts::{group_rows, groups, path_heads, path_links, texts};
 use vrf_table::spell::spell;
-use vrf_table::{Entry, row_text, text_bucket};
+use vrf_table::{row_text, text_bucket};
 use vrf_words::get32;
 
 // Enough bytes for any alias of a path: the 4,096 bytes of the path, and 23 more.
 const ALIAS_BYTES: usize = 4_119;
-
-fn lower(a: u32, b: u32) -> u32
-    ensures { result ≡ min a b }
-{
-    if a < b {
-        return a;
-    }
-    b
-}
-
-// The difference of two numbers, whichever is larger.
-fn apart(a: usize, b: usize) -> usize
-    ensures { result ≡ (a - b) + (b - a) }
-{
-    if a < b {
-        return b - a;
-    }
-    a - b
-}
 
 // Whether k is a key of a path. An alias is 6 or 9 bytes longer or shorter than its path. If the lengths differ by any other number, no
 // byte is read.
 fn is_key_of(path: &[u8], k: &[u8]) -> bool
     ensures { result ≡ has_key path.now k.now }
 {
-    let d = apart(path.len(), k.len());
-    if d != 0 {
-        if d != 6 {
-            if d != 9 {
-                return false;
-            }
-        }
-    }
-    has_key(path, k)
+    let d = path.len().abs_diff(k.len());
+    (d == 0 || d == 6 || d == 9) && has_key(path, k)
 }
 
 // A place after h and after all groups with the path k. The walk along k's chain ends at the first entry of a group up to h. In most books
@@ -68,6 +42,7 @@ fn keyed_end(m: &[u8], k: &[u8], h: u32) -> u32
     let bucket = text_bucket(&k[..], path_buckets(m));
     let mut p = get32(path_heads(m), bucket as usize);
     let mut limit = 3 * groups(m);
+    // A `for` would be no plainer: the walk follows links, and the next one is read at its end.
     while 3 * h + 3 < p {
         let e = p - 1;
         if limit <= e {
@@ -87,12 +62,10 @@ fn first_path(m: &[u8], k: &[u8], h: u32, to: u32) -> u32
     requires { WellFormed m.now × (h < (header_of m.now).groups) × (to ≤ (header_of m.now).groups) }
     ensures { Narrowed (is_at (store_of m.now) (some k.now)) h to result }
 {
-    let mut j = h + 1;
-    while j < to {
+    for j in h + 1..to {
         if same(k, group_path(m, j)) {
             return j;
         }
-        j += 1;
     }
     to
 }
@@ -102,7 +75,7 @@ fn first_with_key(m: &[u8], h: u32, k: &[u8], least: u32) -> u32
     requires { WellFormed m.now × (h < (header_of m.now).groups) × (least ≤ (header_of m.now).groups) × (length k.now < 2 ^ 31) }
     ensures { Narrowed (is_at (store_of m.now) (some k.now)) h least result }
 {
-    let to = lower(keyed_end(m, k, h), least);
+    let to = keyed_end(m, k, h).min(least);
     let r = first_path(m, k, h, to);
     if r < to {
         return r;
@@ -112,13 +85,20 @@ fn first_with_key(m: &[u8], h: u32, k: &[u8], least: u32) -> u32
 
 // The first group after h and before `least` whose path is the alias `key` of the path; `least` if there is no such group or no alias. The
 // alias is written into `scratch`.
-fn clash_alias(scratch: &mut [u8], m: &[u8], h: u32, path: &[u8], key: Key, least: u32) -> u32
+fn clash_alias(
+    scratch: &mut [u8],
+    m: &[u8],
+    h: u32,
+    path: &[u8],
+    key: Option<Key>,
+    least: u32,
+) -> u32
     requires { WellFormed m.now × (h < (header_of m.now).groups) × (least ≤ (header_of m.now).groups) × (length path.now ≤ 4096) × (4119 ≤ length scratch.old) }
     ensures { Narrowed (is_at (store_of m.now) (spelled path.now key)) h least result }
 {
-    if is_absent(key) {
+    let Some(key) = key else {
         return least;
-    }
+    };
     let n = spell(scratch, path, key);
     first_with_key(m, h, &scratch[..n], least)
 }
@@ -136,24 +116,22 @@ fn clash_after(scratch: &mut [u8], m: &[u8], h: u32, least: u32) -> u32
 
 // The first clash. Aliases are written into `scratch`. The loop ends at the least clash found so far, because a key of a group from there
 // on can only clash with a later group.
-fn first_clash_in(scratch: &mut [u8], m: &[u8]) -> Entry
+fn first_clash_in(scratch: &mut [u8], m: &[u8]) -> Option<u32>
     requires { WellFormed m.now × (4119 ≤ length scratch.old) }
     ensures { entry result ≡ first_clash [] (held m.now).groups }
 {
     let n = groups(m);
     let mut least = n;
     let mut h = 0;
+    // No `for`: the end of the loop falls while it runs.
     while h < least {
         least = clash_after(scratch, m, h, least);
         h += 1;
     }
-    if least < n {
-        return Entry::At(least);
-    }
-    Entry::Nowhere
+    if least < n { Some(least) } else { None }
 }
 
-pub fn first_clash(m: &[u8]) -> Entry
+pub fn first_clash(m: &[u8]) -> Option<u32>
     requires { WellFormed m.now }
     ensures { entry result ≡ first_clash [] (held m.now).groups }
 {

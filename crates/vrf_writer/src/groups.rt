@@ -10,10 +10,9 @@ ghost use Rattle.vrf_writer.specs.Inner.Prefix.{WritesPrefix};
 ghost use Rattle.vrf_writer.specs.Inner.Groups.{group_at, name_code, RowBelow};
 
 use crate::numbers::{put_packed, put_text, put_word};
-use std::num::wrapping_add_u32;
 use vrf_store::look::{find_field, group_index, group_path, group_slots, row_info, row_key};
 use vrf_store::parts::{field_rows, fields, groups, texts};
-use vrf_table::{Entry, row_text};
+use vrf_table::row_text;
 
 // A name: kind 0, its text, and 0 for its number.
 fn put_name(out: &mut [u8], t: &[u8]) -> usize
@@ -38,13 +37,13 @@ fn put_field(out: &mut [u8], m: &[u8], slot: u32, e: u32) -> usize
 }
 
 // A slot, filled if the row of its field was found, otherwise empty.
-fn put_slot(out: &mut [u8], m: &[u8], slot: u32, found: Entry) -> usize
+fn put_slot(out: &mut [u8], m: &[u8], slot: u32, found: Option<u32>) -> usize
     requires { WellFormed m.now × RowBelow (header_of m.now).fields (entry found) × (length (encode_slot slot (or_empty (field_at (store_of m.now)) (entry found))) ≤ length out.old) }
     ensures { WritesPrefix (encode_slot slot (or_empty (field_at (store_of m.now)) (entry found))) out.old out.new result }
 {
     match found {
-        Entry::At(e) => put_field(out, m, slot, e),
-        Entry::Nowhere => {
+        Some(e) => put_field(out, m, slot, e),
+        None => {
             out[0] = 0;
             1
         }
@@ -53,40 +52,28 @@ fn put_slot(out: &mut [u8], m: &[u8], slot: u32, found: Entry) -> usize
 
 // The row of the field in a slot of the group at a place. Most fields are in the order of their slots, so row `next` is tried before a
 // search.
-fn find_slot(m: &[u8], place: u32, slot: u32, next: u32) -> Entry
+fn find_slot(m: &[u8], place: u32, slot: u32, next: u32) -> Option<u32>
     requires { WellFormed m.now }
     ensures { entry result ≡ field_found (store_of m.now) (slot_key place slot) }
 {
-    if next < fields(m) {
-        if row_key(field_rows(m), next) == 0x1_0000 * (place as u64) + (slot as u64) {
-            return Entry::At(next);
-        }
+    let key = 0x1_0000 * (place as u64) + slot as u64;
+    if next < fields(m) && row_key(field_rows(m), next) == key {
+        return Some(next);
     }
     find_field(m, place, slot)
 }
 
-// The row to try for the next slot: the row after the one that was found, or `next` again if none was found.
-fn next_row(found: Entry, next: u32) -> u32 {
-    match found {
-        Entry::At(e) => wrapping_add_u32(e, 1),
-        Entry::Nowhere => next,
-    }
-}
-
-// All slots of the group at a place, in their order.
+// All slots of the group at a place, in their order. The row to try for a slot is the one after the row that was found last.
 fn put_slots(out: &mut [u8], m: &[u8], place: u32) -> usize
     requires { WellFormed m.now × (place < (header_of m.now).groups) × (length (encode_slots 0 (group_at (store_of m.now) place).slots) ≤ length out.old) }
     ensures { WritesPrefix (encode_slots 0 (group_at (store_of m.now) place).slots) out.old out.new result }
 {
-    let n = group_slots(m, place);
     let mut at = 0;
-    let mut slot = 0;
     let mut next = 0;
-    while slot < n {
+    for slot in 0..group_slots(m, place) {
         let found = find_slot(m, place, slot, next);
         at += put_slot(&mut out[at..], m, slot, found);
-        next = next_row(found, next);
-        slot += 1;
+        next = found.map_or(next, |e| e.wrapping_add(1));
     }
     at
 }
@@ -107,12 +94,9 @@ pub fn put_groups(out: &mut [u8], m: &[u8]) -> usize
     requires { WellFormed m.now × (length (encode_all encode_group (held m.now).groups) ≤ length out.old) }
     ensures { WritesPrefix (encode_all encode_group (held m.now).groups) out.old out.new result }
 {
-    let n = groups(m);
     let mut at = 0;
-    let mut g = 0;
-    while g < n {
+    for g in 0..groups(m) {
         at += put_group(&mut out[at..], m, g);
-        g += 1;
     }
     at
 }

@@ -41,12 +41,9 @@ pub fn put_guids(out: &mut [u8], m: &[u8]) -> usize
 {
     let rows = guid_rows(m);
     let x = texts(m);
-    let n = guids(m);
     let mut at = 0;
-    let mut i = 0;
-    while i < n {
+    for i in 0..guids(m) {
         at += put_guid(&mut out[at..], rows, x, i);
-        i += 1;
     }
     at
 }

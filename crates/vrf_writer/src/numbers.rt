@@ -22,6 +22,7 @@ pub fn put_packed(out: &mut [u8], n: u32) -> usize
 {
     let mut left = n;
     let mut at = 0;
+    // A `for` would be no plainer: how many bytes there are shows only when the number is used up.
     while 128 <= left {
         out[at] = (2 * (left % 128) + 1) as u8;
         left = left / 128;

@@ -38,7 +38,7 @@ fn text_len(t: &[u8]) -> u64
     requires { length t.now ≤ 4096 }
     ensures { result ≡ length (encode_text t.now) }
 {
-    if t.len() == 0 {
+    if t.is_empty() {
         return 4;
     }
     t.len() as u64 + 5
@@ -55,12 +55,10 @@ fn guids_len(m: &[u8]) -> u64
     let mut keys = 0;
     let mut outers = 0;
     let mut paths = 0;
-    let mut i = 0;
-    while i < n {
+    for i in 0..n {
         keys += packed_len(guid_of(rows, i));
         outers += packed_len(row_info(rows, i));
         paths += text_len(row_text(rows, x, i));
-        i += 1;
     }
     keys + outers + paths + 2 * (n as u64)
 }
@@ -80,12 +78,9 @@ fn groups_len(m: &[u8]) -> u64
     requires { WellFormed m.now }
     ensures { result ≡ sum_below (λ g. group_bytes (group_at (store_of m.now) g)) (header_of m.now).groups }
 {
-    let n = groups(m);
     let mut sum = 0;
-    let mut g = 0;
-    while g < n {
+    for g in 0..groups(m) {
         sum += group_len(m, g);
-        g += 1;
     }
     sum
 }
@@ -105,12 +100,9 @@ fn fields_len(m: &[u8]) -> u64
     requires { WellFormed m.now }
     ensures { result ≡ sum_below (field_bytes (store_of m.now)) (header_of m.now).fields }
 {
-    let n = fields(m);
     let mut sum = 0;
-    let mut e = 0;
-    while e < n {
+    for e in 0..fields(m) {
         sum += field_len(m, e);
-        e += 1;
     }
     sum
 }

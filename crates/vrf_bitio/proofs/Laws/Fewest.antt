@@ -8,10 +8,10 @@ use Rattle.vrf_bitio.proofs.Laws.Cases.{clash}
 use Rattle.vrf_bitio.specs.Reading.{ok}
 use Rattle.vrf_bitio.specs.Window.{rest}
 use Rattle.vrf_bitio.specs.Number.{byte, chunks, packed, encode_chunks, encode_packed, TakesAtLeast}
-use Rattle.vrf_bitio.specs.Answers.{rest_of, read_at, Gave}
+use Rattle.vrf_bitio.specs.Answers.{rest_of, read_here, Gave}
 use Rattle.vrf_bitio.proofs.Laws.Bits.{bits-lt}
 use Rattle.vrf_bitio.proofs.Laws.Number.{chunks-lacks, last-runs-on, last-too-large, last-ends, chunk-ends, chunk-continues}
-use Rattle.vrf_bitio.specs.declared.Cursor.{Cursor}
+use Rattle.vrf_bitio.specs.declared.BitReader.{BitReader}
 
 -- chunks added weight * n to the value; the writer's bytes for n are no more than the bytes that were read
 record Adds (more weight low pos : ℕ) (l : List ℕ) (v p : ℕ) (m : List ℕ) : Type 0 where
@@ -87,6 +87,6 @@ bytes_below s p (suc n) zero = bits-lt s p 8
 bytes_below s p (suc n) (suc i) = bytes_below s (p + 8) n i
 
 -- `packed-fewest` for a packed number that was read in a window; what is left in a window are bytes.
-pub gave-fewest : (s : List ℕ) (c : Cursor) {v : ℕ} {d : Cursor} → Gave s c (read_at s c packed) v d → TakesAtLeast (length (encode_packed v)) c.pos (rest_of s c) d.pos (rest_of s d)
+pub gave-fewest : (r : BitReader) {v : ℕ} {d : BitReader} → Gave r (read_here r packed) v d → TakesAtLeast (length (encode_packed v)) r.pos (rest_of r) d.pos (rest_of d)
 unfolding rest
-gave-fewest s c g = packed-fewest c.pos (rest_of s c) (bytes_below s (c.first + c.pos) ((c.count - c.pos) / 8)) g.read
+gave-fewest r g = packed-fewest r.pos (rest_of r) (bytes_below r.«data».now (r.first + r.pos) ((r.count - r.pos) / 8)) g.read

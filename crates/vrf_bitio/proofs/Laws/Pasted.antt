@@ -1,8 +1,9 @@
 -- Laws of `pasted`: writing byte by byte, writing twice in a row, and reading a place afterwards. For each proof about written memory.
-use Rattle.std.specs.Prelude.{◌≡◌, List, [], ◌∷◌, ◌++◌, ◌≢◌, ℕ, zero, suc, ◌+◌, ◌<◌, ◌≤◌, length, get_or, take, drop, set}
+use Rattle.std.specs.Prelude.{◌≡◌, List, [], ◌∷◌, ◌++◌, ◌≢◌, ℕ, zero, suc, ◌+◌, ◌-◌, ◌<◌, ◌≤◌, length, get_or, take, drop, set}
 use Rattle.std.proofs.Common.{sym, ap, ◌∙◌, add-zero, zero-add, not-suc-le-zero, add-one, arith, length-set, take-append-drop, length-append, drop-cons, take-suc-set, drop-set-lt, get_or-set_same, get_or-set_other}
 use Rattle.std.proofs.lemmas.List.{take-set-le}
-use Rattle.std.proofs.Math.Seq.{append_snoc}
+use Rattle.std.proofs.Math.Seq.{append_snoc, drop-drop}
+use borrow.Rule.Slice.PartMut.{put_mid}
 use Rattle.vrf_bitio.specs.Pasted.{pasted}
 
 pub pasted-nil : (l : List ℕ) (at : ℕ) → pasted l at [] ≡ l
@@ -50,6 +51,13 @@ pasted-append (a ∷ x) y l at to e h =
     let inside : at < length l = omega arith in
     let h' : to ≤ length (set l at a) = rw (length-set l at a) h in
     rw (pasted-cons l at a x inside, pasted-cons l at a (x ++ y) inside) (pasted-append x y (set l at a) (at + 1) to e' h')
+
+-- what `l[at..at + k]` leaves when v, which has k elements, is written over it
+pub put_mid-pasted : (l v : List ℕ) (at k : ℕ) {x : List ℕ} → x ≡ v → length v ≡ k → put_mid at (at + k - at) l x ≡ pasted l at v
+unfolding pasted
+put_mid-pasted l v at k e size =
+    let count : at + k - at ≡ k = omega arith in
+    rw (count, e, drop-drop k at l, size)
 
 -- a place j before `at`, or from `to` on
 pub data Outside (at to j : ℕ) : Type 0 where

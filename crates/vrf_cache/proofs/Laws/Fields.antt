@@ -1,10 +1,11 @@
 -- `set_field_on_group` on a well-formed memory: what the writes of each case require, and that they make the model's step. Used by the
 -- proofs of `fields`.
-use Rattle.std.specs.Prelude.{◌≡◌, ◌≢◌, Bool, true, false, List, [], ℕ, ◌+◌, ◌-◌, ◌<◌, ◌≤◌}
+use Rattle.std.specs.Prelude.{◌≡◌, Bool, true, false, List, [], ℕ, ◌+◌, ◌-◌, ◌<◌, ◌≤◌, Err}
 use Rattle.std.proofs.Math.Path.{refl, ap}
 use Rattle.std.proofs.Common.{sym, ◌∙◌, add-zero, arith, lt-ltb, le-ltb}
 use Rattle.std.proofs.Math.Option.{Option, none, some}
 use Rattle.std.proofs.Math.ListN.{length, get_or}
+use Rattle.vrf_bitio.specs.declared.Refusal.{Refusal}
 use Rattle.vrf_bitio.specs.Bits.{Bytes}
 use Rattle.vrf_bitio.proofs.Laws.Cases.{clash}
 use Rattle.vrf_path.specs.Text.{same}
@@ -19,7 +20,6 @@ use Rattle.vrf_store.specs.Store.{allowances_of, header_of, store_of, field_at, 
 use Rattle.vrf_store.specs.Inner.WellFormed.{WellFormed}
 use Rattle.vrf_store.specs.Inner.Stepped.{held, Stepped}
 use Rattle.vrf_store.specs.Inner.Fields.{field_found, with_field, NewField, NewName, Renamed}
-use Rattle.vrf_store.specs.Inner.Opening.{or_zero}
 use Rattle.vrf_store.specs.Inner.Counters.{CountersStepped}
 use Rattle.vrf_store.proofs.Laws.Memory.UpTo.{length-up_to, get_d-up_to}
 use Rattle.vrf_store.proofs.Laws.Check.Accepted.{slot_key-only}
@@ -27,7 +27,7 @@ use Rattle.vrf_store.proofs.Laws.Lookups.{group-at, slot-found}
 use Rattle.vrf_store.proofs.Laws.Fields.Row.{field-known}
 use Rattle.vrf_store.proofs.Laws.Fields.Changes.{slot_by-row, len-held}
 use Rattle.vrf_cache.specs.Inner.Taken.{HoldsContent, Taken, NotTaken}
-use Rattle.vrf_cache.specs.Inner.Passed.{passed_by, passes_by}
+use Rattle.vrf_cache.specs.Inner.Passed.{passed_by, passes_by, FitsBy}
 use Rattle.vrf_cache.specs.Inner.Texts.{TextWritten}
 use Rattle.vrf_cache.specs.Inner.Slots.{slots_at}
 use Rattle.vrf_cache.specs.Inner.Fields.{setting, FieldToAdd, place_of, slot_of, name_at, FieldToChange}
@@ -76,8 +76,8 @@ module _ {m : List ℕ} (good : WellFormed m) (place : ℕ) where
 -- ---- one more field
 
 -- w is the allowance that one more field would pass
-module _ {m name : List ℕ} {place slot : ℕ} (checksum : ℕ) {w : ℕ} (asked : FieldToAdd m name place slot) (passes : w ≡ passes_by m 0 0 1 0 (length name)) where
-  e : w ≡ or_zero (passed_by (allowances_of m) (header_of m).guids (header_of m).groups ((header_of m).fields + 1) ((header_of m).held - 0 + length name))
+module _ {m name : List ℕ} {place slot : ℕ} (checksum : ℕ) {w : Option ℕ} (asked : FieldToAdd m name place slot) (passes : w ≡ passes_by m 0 0 1 0 (length name)) where
+  e : w ≡ passed_by (allowances_of m) (header_of m).guids (header_of m).groups ((header_of m).fields + 1) ((header_of m).held - 0 + length name)
   e = rw (add-zero (header_of m).guids, add-zero (header_of m).groups) at passes
 
   abbrev added : Content
@@ -95,10 +95,10 @@ module _ {m name : List ℕ} {place slot : ℕ} (checksum : ℕ) {w : ℕ} (aske
   unfolding renames
   unnamed = rw asked.free
 
-  pub new-full : {m' : List ℕ} → w ≢ 0 → m' ≡ m → NotTaken (setting (held m) place slot checksum name) (record { number = 42; a = w; b = 0 }) m m'
+  pub new-full : {m' : List ℕ} → {r : Refusal} → FitsBy w (Err r) → m' ≡ m → NotTaken (setting (held m) place slot checksum name) r m m'
   new-full = full added-counts added-allowed e true (renamed_step (renames (slot_at (held m).groups place slot) name))
 
-  module _ (z : w ≡ 0) where
+  module _ (z : w ≡ none) where
     new-allows : CountsAllowed (allowances_of m) (header_of m).guids (header_of m).groups ((header_of m).fields + 1) ((header_of m).held - 0 + length name)
     new-allows = allows added-counts added-allowed e z
 
@@ -184,10 +184,10 @@ module _ {m name : List ℕ} {e : ℕ} (checksum : ℕ) (asked : FieldToChange m
   -- the new name equals the old one
   module _ (agree : same (name_at m e) name ≡ true) where
     -- the content held passes no allowance
-    none_passed : 0 ≡ or_zero (passed_by (allowances_of m) (header_of m).guids (header_of m).groups ((header_of m).fields + 0) ((header_of m).held - length (name_at m e) + length name))
+    none_passed : none ≡ passed_by (allowances_of m) (header_of m).guids (header_of m).groups ((header_of m).fields + 0) ((header_of m).held - length (name_at m e) + length name)
     none_passed =
         let same_text : (header_of m).held - length (name_at m e) + length name ≡ (header_of m).held = omega (arith, name-held asked.good asked.known, ap length (same_true (name_at m e) name agree)) in
-        rw (add-zero (header_of m).fields, same_text, within asked.good)
+        rw (add-zero (header_of m).fields, same_text) (sym (within asked.good))
 
     unrenamed : renames (slot_at (held m).groups (place_of m e) (slot_of m e)) name ≡ 0
     unfolding renames
@@ -197,18 +197,18 @@ module _ {m name : List ℕ} {e : ℕ} (checksum : ℕ) (asked : FieldToChange m
     same_taken b s = rw unrenamed (kept (named-counts asked.good asked.known checksum name) (named-allowed name) none_passed true (renamed_step 0) refl (still asked.good b (rw (same_true (name_at m e) name agree) at s.stepped)))
 
   -- w is the allowance that the field would pass with the new name
-  module _ {w : ℕ} {old : List ℕ} (differ : same (name_at m e) name ≡ false) (o : old ≡ name_at m e) (passes : w ≡ passes_by m 0 0 0 (length old) (length name)) where
-    q : w ≡ or_zero (passed_by (allowances_of m) (header_of m).guids (header_of m).groups ((header_of m).fields + 0) ((header_of m).held - length (name_at m e) + length name))
+  module _ {w : Option ℕ} {old : List ℕ} (differ : same (name_at m e) name ≡ false) (o : old ≡ name_at m e) (passes : w ≡ passes_by m 0 0 0 (length old) (length name)) where
+    q : w ≡ passed_by (allowances_of m) (header_of m).guids (header_of m).groups ((header_of m).fields + 0) ((header_of m).held - length (name_at m e) + length name)
     q = rw (o, add-zero (header_of m).guids, add-zero (header_of m).groups) at passes
 
     counted : (t : List ℕ) → HeldCounts (named t) (header_of m).guids (header_of m).groups ((header_of m).fields + 0) ((header_of m).held - length (name_at m e) + length t)
     counted = named-counts asked.good asked.known checksum
 
-    pub other-full : {m' : List ℕ} → w ≢ 0 → m' ≡ m → NotTaken sets (record { number = 42; a = w; b = 0 }) m m'
+    pub other-full : {m' : List ℕ} → {r : Refusal} → FitsBy w (Err r) → m' ≡ m → NotTaken sets r m m'
     other-full = full (counted name) (named-allowed name) q true (renamed_step (renames (slot_at (held m).groups (place_of m e) (slot_of m e)) name))
 
     -- first the old name is released
-    module _ (z : w ≡ 0) {m₁ : List ℕ} (s₁ : Renamed m m₁ e (filled checksum (part (store_of m).texts 0 0))) where
+    module _ (z : w ≡ none) {m₁ : List ℕ} (s₁ : Renamed m m₁ e (filled checksum (part (store_of m).texts 0 0))) where
       first : Stepped m m₁ (named [])
       unfolding part
       first = s₁.stepped

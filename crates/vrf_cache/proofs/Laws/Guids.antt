@@ -1,10 +1,11 @@
 -- `set_net_guid_path` on a well-formed memory: what the writes of each case require, and that they make the model's step. Used by the
 -- proofs of `guids`.
-use Rattle.std.specs.Prelude.{◌≡◌, ◌≢◌, true, false, ◌&&◌, ℕ, ◌+◌, ◌-◌, ◌<◌, ◌≤◌, eqb, length, get_or}
+use Rattle.std.specs.Prelude.{◌≡◌, true, false, ◌&&◌, ℕ, ◌+◌, ◌-◌, ◌<◌, ◌≤◌, eqb, length, get_or, Err}
 use Rattle.std.proofs.Math.Path.{sym, ap}
 use Rattle.std.proofs.Common.{◌∙◌, add-zero, arith, get_or-set_same, set-set}
 use mathlib.Core.List.{List, []}
-use Rattle.std.proofs.Math.Option.{none, some}
+use Rattle.std.proofs.Math.Option.{Option, none, some}
+use Rattle.vrf_bitio.specs.declared.Refusal.{Refusal}
 use Rattle.vrf_bitio.specs.Bits.{Bytes}
 use Rattle.vrf_text.specs.Text.{IsText}
 use Rattle.vrf_path.specs.Text.{same}
@@ -17,25 +18,28 @@ use Rattle.vrf_table.specs.Table.{key}
 use Rattle.vrf_store.specs.Store.{allowances_of, header_of, store_of, guid_at, content_of}
 use Rattle.vrf_store.specs.Inner.WellFormed.{WellFormed}
 use Rattle.vrf_store.specs.Inner.Stepped.{held, Stepped}
-use Rattle.vrf_store.specs.Inner.Opening.{or_zero}
 use Rattle.vrf_store.specs.Inner.Counters.{CountersStepped}
 use Rattle.vrf_store.specs.Inner.Guids.{guid_of, NewGuid, OldGuid}
 use Rattle.vrf_store.proofs.Laws.Memory.UpTo.{get_d-up_to}
 use Rattle.vrf_store.proofs.Laws.Lookups.{guid-known}
 use Rattle.vrf_cache.specs.Inner.Taken.{Taken, NotTaken}
-use Rattle.vrf_cache.specs.Inner.Passed.{passed_by, passes_by}
+use Rattle.vrf_cache.specs.Inner.Passed.{passed_by, passes_by, FitsBy}
 use Rattle.vrf_cache.specs.Inner.Texts.{TextWritten}
-use Rattle.vrf_cache.specs.Inner.Guids.{setting, with_new, GuidToAdd, with_other, path_bytes, other_passes, GuidToChange}
+use Rattle.vrf_cache.specs.Inner.Guids.{setting, with_new, GuidToAdd, with_other, GuidToChange}
 use Rattle.vrf_cache.proofs.Laws.Taken.{unmoved, then, same_then, counted-then}
 use Rattle.vrf_cache.proofs.Laws.Passed.{HeldCounts, sum-set, counts-guid, counts-guid-set}
 use Rattle.vrf_cache.proofs.Laws.Keeping.{CountsAllowed, allows, kept, full}
 use Rattle.vrf_cache.proofs.Laws.Numbers.{allowed, counts, Numbers, numbers}
 use Rattle.vrf_cache.proofs.Laws.Texts.{put-placed, none-placed}
 
+-- the length of the path of record e
+abbrev path_bytes : Content → ℕ → ℕ
+path_bytes c e = length (place_or (λ (g : Guid). g.path) [] c.guids e)
+
 -- ---- one more record
 
-module _ {m path : List ℕ} (guid outer : ℕ) {w : ℕ} (asked : GuidToAdd m path guid) (passes : w ≡ passes_by m 1 0 0 0 (length path)) where
-  e : w ≡ or_zero (passed_by (allowances_of m) ((header_of m).guids + 1) (header_of m).groups (header_of m).fields ((header_of m).held + length path))
+module _ {m path : List ℕ} (guid outer : ℕ) {w : Option ℕ} (asked : GuidToAdd m path guid) (passes : w ≡ passes_by m 1 0 0 0 (length path)) where
+  e : w ≡ passed_by (allowances_of m) ((header_of m).guids + 1) (header_of m).groups (header_of m).fields ((header_of m).held + length path)
   e = let whole : (header_of m).held - 0 ≡ (header_of m).held = omega arith in rw (add-zero (header_of m).groups, add-zero (header_of m).fields, whole) at passes
 
   abbrev added : Content
@@ -48,10 +52,10 @@ module _ {m path : List ℕ} (guid outer : ℕ) {w : ℕ} (asked : GuidToAdd m p
   unfolding with_guids
   added-allowed = allowed m
 
-  pub new-full : {m' : List ℕ} → w ≢ 0 → m' ≡ m → NotTaken (setting added) (record { number = 42; a = w; b = 0 }) m m'
+  pub new-full : {m' : List ℕ} → {r : Refusal} → FitsBy w (Err r) → m' ≡ m → NotTaken (setting added) r m m'
   new-full = full added-counts added-allowed e (tt {0}) guid_step
 
-  module _ (z : w ≡ 0) where
+  module _ (z : w ≡ none) where
     new-allows : CountsAllowed (allowances_of m) ((header_of m).guids + 1) (header_of m).groups (header_of m).fields ((header_of m).held + length path)
     new-allows = allows added-counts added-allowed e z
 
@@ -104,8 +108,8 @@ module _ {m : List ℕ} (good : WellFormed m) {e : ℕ} (known : e < (header_of 
 pub release-path : {m path : List ℕ} {e : ℕ} → GuidToChange m path e → OldGuid m e 0 0
 release-path {m} asked = record { good = asked.good; known = asked.known; placed = none-placed (header_of m).used (store_of m).texts; space = omega (arith, asked.good.valid.header.held) }
 
-module _ {m path : List ℕ} {e : ℕ} (outer : ℕ) {w : ℕ} (asked : GuidToChange m path e) (passes : w ≡ other_passes m e (length path)) where
-  q : w ≡ or_zero (passed_by (allowances_of m) (header_of m).guids (header_of m).groups (header_of m).fields ((header_of m).held - path_bytes (held m) e + length path))
+module _ {m path : List ℕ} {e : ℕ} (outer : ℕ) {w : Option ℕ} (asked : GuidToChange m path e) (passes : w ≡ passes_by m 0 0 0 (path_bytes (held m) e) (length path)) where
+  q : w ≡ passed_by (allowances_of m) (header_of m).guids (header_of m).groups (header_of m).fields ((header_of m).held - path_bytes (held m) e + length path)
   q = rw (add-zero (header_of m).guids, add-zero (header_of m).groups, add-zero (header_of m).fields) at passes
 
   abbrev guid : ℕ
@@ -121,10 +125,10 @@ module _ {m path : List ℕ} {e : ℕ} (outer : ℕ) {w : ℕ} (asked : GuidToCh
   unfolding with_guids
   other-allowed t = allowed m
 
-  pub other-full : {m' : List ℕ} → w ≢ 0 → m' ≡ m → NotTaken (setting (other path)) (record { number = 42; a = w; b = 0 }) m m'
+  pub other-full : {m' : List ℕ} → {r : Refusal} → FitsBy w (Err r) → m' ≡ m → NotTaken (setting (other path)) r m m'
   other-full = full (counted path) (other-allowed path) q (tt {0}) guid_step
 
-  module _ (z : w ≡ 0) {m₁ : List ℕ} (s₁ : Stepped m m₁ (with_other (held m) e (guid_of (store_of m) guid 0 0 outer))) where
+  module _ (z : w ≡ none) {m₁ : List ℕ} (s₁ : Stepped m m₁ (with_other (held m) e (guid_of (store_of m) guid 0 0 outer))) where
     first : Stepped m m₁ (other [])
     unfolding part
     first = s₁

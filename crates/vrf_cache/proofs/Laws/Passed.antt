@@ -1,7 +1,7 @@
 -- The counts of a content, and how they change when a record or a group is added or replaced.
 use Rattle.std.specs.Prelude.{◌≡◌, List, [], ◌∷◌, ◌++◌, ℕ, zero, suc, ◌+◌, ◌<◌, ◌≤◌, length, get_or, set}
 use Rattle.std.proofs.Common.{◌∙◌, not-suc-le-zero, le_of_suc-le-suc, arith}
-use Rattle.std.proofs.Math.Option.{none}
+use Rattle.std.proofs.Math.Option.{none, some}
 use Rattle.std.proofs.Math.ListN.{length-append, length-set}
 use borrow.Author.Tests.{lt-ltb, le-ltb}
 use Rattle.vrf_model.specs.Book.{Guid, Group, Content, Allowances, sum, guid_text, group_fields, group_text, held_fields, held_text, passed}
@@ -9,24 +9,23 @@ use Rattle.vrf_model.specs.Setting.{with_guids, with_groups}
 use Rattle.vrf_model.proofs.Laws.Held.{sum-last}
 use Rattle.vrf_store.specs.Store.{allowances_of, header_of}
 use Rattle.vrf_store.specs.Inner.WellFormed.{WellFormed}
-use Rattle.vrf_store.specs.Inner.Opening.{or_zero}
 use Rattle.vrf_cache.specs.Inner.Passed.{passed_by}
 
--- the lowest allowance that is passed, as `full::passed` answers it
+-- the lowest allowance that is passed
 module _ (a : Allowances) (guids groups fields text : ℕ) where
-  pub passes-guids : a.guids < guids → 1 ≡ or_zero (passed_by a guids groups fields text)
+  pub passes-guids : a.guids < guids → some 1 ≡ passed_by a guids groups fields text
   unfolding passed_by
   passes-guids h = rw (lt-ltb _ _ h)
 
-  pub passes-groups : guids ≤ a.guids → a.groups < groups → 2 ≡ or_zero (passed_by a guids groups fields text)
+  pub passes-groups : guids ≤ a.guids → a.groups < groups → some 2 ≡ passed_by a guids groups fields text
   unfolding passed_by
   passes-groups g h = rw (le-ltb _ _ g, lt-ltb _ _ h)
 
-  pub passes-fields : guids ≤ a.guids → groups ≤ a.groups → a.fields < fields → 3 ≡ or_zero (passed_by a guids groups fields text)
+  pub passes-fields : guids ≤ a.guids → groups ≤ a.groups → a.fields < fields → some 3 ≡ passed_by a guids groups fields text
   unfolding passed_by
   passes-fields g r h = rw (le-ltb _ _ g, le-ltb _ _ r, lt-ltb _ _ h)
 
-  pub passes-text : guids ≤ a.guids → groups ≤ a.groups → fields ≤ a.fields → a.text < text → 4 ≡ or_zero (passed_by a guids groups fields text)
+  pub passes-text : guids ≤ a.guids → groups ≤ a.groups → fields ≤ a.fields → a.text < text → some 4 ≡ passed_by a guids groups fields text
   unfolding passed_by
   passes-text g r f h = rw (le-ltb _ _ g, le-ltb _ _ r, le-ltb _ _ f, lt-ltb _ _ h)
 

@@ -1,36 +1,27 @@
 -- The searches of the code, one claim or key at a time, give what the model's searches over lists give. Used by the proofs of `resolve`.
-use Rattle.std.specs.Prelude.{◌≡◌, true, false, cond, not, ℕ, zero, suc, ◌+◌, ◌<◌, ◌≤◌, length, eqb}
+use Rattle.std.specs.Prelude.{◌≡◌, Bool, true, false, ◌&&◌, cond, ℕ, zero, suc, ◌+◌, ◌≤◌, length, take, get_or, eqb, ltb}
 use Rattle.std.proofs.Math.Path.{refl, sym, ap}
-use Rattle.std.proofs.Common.{◌∙◌, ⊎_elim, arith, ne_eqb}
+use Rattle.std.specs.List.{All}
+use Rattle.std.proofs.Common.{◌∙◌, ⊎_elim, arith, length-take}
+use Rattle.std.proofs.lemmas.List.Elements.{All-nil, All-cons, All-append}
+use Prim.Native.Char.{code}
 use mathlib.Core.List.{List, [], ◌∷◌, ◌++◌, append_assoc, append-nil, Option-to_list}
-use Rattle.std.proofs.Math.Option.{Option, none, some, get_or}
+use Rattle.std.proofs.Math.Option.{Option, none, some}
 use Rattle.vrf_path.specs.Keys.{is_separator, has_separator, keys, default_alias, core_alias}
 use Rattle.vrf_path.specs.Toggle.{class_net_cache, toggle, with_toggles, class_net_cache_keys}
-use Rattle.vrf_path.specs.Stems.{stems, component, underscore_c, stem_leaves, name_leaves}
+use Rattle.vrf_path.specs.Stems.{stems, cuts_below, capital_stems, digit_stems, digits_from, is_capital, component, underscore_c, stem_leaves, name_leaves}
 use Rattle.vrf_path.specs.Base.{class_base, leaf_base}
-use Rattle.vrf_path.specs.Answers.{Front, spelled, key_bytes, stems_after, stems_from}
+use Rattle.vrf_path.specs.Answers.{Front}
 use Rattle.vrf_path.proofs.Laws.Keys.{default-length, core-length}
-use Rattle.vrf_path.proofs.Laws.Leaf.{separatorless, separators-append}
+use Rattle.vrf_path.proofs.Laws.Leaf.{separatorless, separators-append, separators-take}
 use Rattle.vrf_path.proofs.Laws.Base.{base-component, base-underscore, base-cache, base-component-cache, base-underscore-cache}
-use Rattle.vrf_path.specs.declared.Key.{Key}
-use Rattle.vrf_path.specs.declared.Phase.{Phase}
-use Rattle.vrf_path.specs.declared.Stem.{Stem}
-use Rattle.vrf_path.specs.declared.Stem.TheVariants.{At as StemAt}
 use Rattle.vrf_model.specs.Book.{Group}
 use Rattle.vrf_model.specs.Lookup.{Claim, absent as noClaim, ambiguous, claimed, leaf_claim, claim_or_next, first_claim, stems_leaves, unique_leaf_match, resolve_cnc, found_or_next, path_place, first_path}
 use Rattle.vrf_model.specs.Lookup.{find_class_net_cache_key}
 use Rattle.vrf_table.specs.Inner.Index.{claim_or_later}
-use Rattle.vrf_table.specs.Inner.Answers.{claim, Suffixed}
+use Rattle.vrf_table.specs.Inner.Answers.{Suffixed}
 use Rattle.vrf_store.specs.Inner.Lookups.{NameLeaves}
-use Rattle.vrf_cache.specs.Inner.Resolve.{decides, first_of, with_toggle, by_alias}
-
--- ---- claims as the numbers that the code uses
-
-pub decides-found : (r : ℕ) → not (eqb r 0) ≡ decides (claim r)
-unfolding decides
-decides-found zero = refl
-decides-found (suc zero) = refl
-decides-found (suc (suc e)) = rw (ne_eqb (suc (suc e)) 0 (λ q. omega (arith, q)))
+use Rattle.vrf_cache.specs.Inner.Resolve.{Bare, AtMost, decides, first_of, with_toggle, by_alias}
 
 -- ---- claims
 
@@ -93,10 +84,6 @@ module _ (groups : List Group) where
   unfolding first_claim stems_leaves
   no-stems = refl
 
-pub stems-fewer : (name : List ℕ) (t : Stem) {s : Stem} {n : ℕ} {phase : Phase} → s ≡ StemAt n phase → stems_after name n phase ≡ stems_from name t
-    → length (stems_from name t) < length (stems_from name s)
-stems-fewer name t es et = rw (es, ← et) (omega arith)
-
 -- names with and without a separator
 module _ (name : List ℕ) (groups : List Group) where
   module _ (h : has_separator name ≡ true) where
@@ -116,6 +103,45 @@ module _ (name : List ℕ) (groups : List Group) where
     pub resolve-name : {l : List (List ℕ)} → stems name ≡ l → resolve_cnc name groups ≡ first_claim groups (stems_leaves l)
     unfolding resolve_cnc
     resolve-name e = rw (h, e)
+
+-- ---- the stems of a bare name
+
+-- a text that can be tried as a stem
+abbrev pub Triable : List ℕ → Type 0
+Triable s = Bare s × (length s ≤ 4096)
+
+module _ (name : List ℕ) (bare : Bare name) (few : length name ≤ 4096) where
+  front : (n : ℕ) → Triable (take n name)
+  front n = (separators-take n name bare, rw length-take (omega arith))
+
+  either : (b : Bool) (x y : List (List ℕ)) → All Triable x → All Triable y → All Triable (cond b x y)
+  either true x y h k = h
+  either false x y h k = k
+
+  cuts-triable : (n : ℕ) → All Triable (cuts_below name n)
+  unfolding cuts_below
+  cuts-triable zero = All-nil Triable
+  cuts-triable (suc zero) = All-nil Triable
+  cuts-triable (suc (suc i)) =
+      let rest = cuts-triable (suc i) in
+      either (eqb (get_or name (suc i) 0) (code "_")) (take (suc i) name ∷ cuts_below name (suc i)) (cuts_below name (suc i)) (All-cons Triable (take (suc i) name) (cuts_below name (suc i)) (front (suc i)) rest) rest
+
+  capital-triable : (n : ℕ) → All Triable (capital_stems name n)
+  unfolding capital_stems
+  capital-triable zero = All-nil Triable
+  capital-triable (suc zero) = All-nil Triable
+  capital-triable (suc (suc i)) = either (is_capital (get_or name (suc i) 0)) (take (suc i) name ∷ []) [] (All-cons Triable (take (suc i) name) [] (front (suc i)) (All-nil Triable)) (All-nil Triable)
+
+  digits-triable : (n : ℕ) → All Triable (digit_stems name n)
+  unfolding digit_stems
+  digits-triable n = either (ltb 0 n && ltb n (length name)) (take n name ∷ capital_stems name n) [] (All-cons Triable (take n name) (capital_stems name n) (front n) (capital-triable n)) (All-nil Triable)
+
+  pub stems-triable : All Triable (stems name)
+  unfolding stems
+  stems-triable =
+      let cuts = cuts_below name (length name) in
+      let digits = digit_stems name (digits_from name (length name)) in
+      All-cons Triable name (cuts ++ digits) (bare, few) (All-append Triable cuts digits (cuts-triable (length name)) (digits-triable (digits_from name (length name))))
 
 -- ---- keys
 
@@ -173,18 +199,20 @@ module _ (groups : List Group) where
       ∙ path-append (with_toggles (path ∷ [])) (with_toggles (d ++ c))
       ∙ rw (toggles-append d c, path-append (with_toggles d) (with_toggles c))
 
--- the length of a key that the code writes out
-module _ (t : List ℕ) where
-  -- an alias is at most 9 bytes longer than the path
-  shorter : (o : Option (List ℕ)) → ((k : List ℕ) → o ≡ some k → length k ≤ length t + 9) → length (get_or o []) ≤ length t + 9
-  shorter none h = omega arith
-  shorter (some k) h = h k refl
+-- an alias is at most 9 bytes longer than the path
+module _ (t : List ℕ) (few : length t ≤ 4096) {o : Option (List ℕ)} where
+  alias-fits : ((k : List ℕ) → o ≡ some k → length k ≤ length t + 9) → AtMost 4105 o
+  alias-fits h = by o refl
+    where
+      by : (q : Option (List ℕ)) → o ≡ q → AtMost 4105 q
+      by none e = tt
+      by (some k) e = omega (arith, h k e, few)
 
-  pub default-fits : (k : Key) → spelled t k ≡ default_alias t → length (key_bytes t k) ≤ length t + 9
-  default-fits k e = shorter (spelled t k) (λ l h. ⊎_elim (λ a. omega arith) (λ a. omega arith) (default-length t (sym e ∙ h)))
+  pub default-fits : o ≡ default_alias t → AtMost 4105 o
+  default-fits e = alias-fits (λ k h. ⊎_elim (λ a. omega arith) (λ a. omega arith) (default-length t (sym e ∙ h)))
 
-  pub core-fits : (k : Key) → spelled t k ≡ core_alias t → length (key_bytes t k) ≤ length t + 9
-  core-fits k e = shorter (spelled t k) (λ l h. ⊎_elim (λ a. omega arith) (λ a. omega arith) (core-length t (sym e ∙ h)))
+  pub core-fits : o ≡ core_alias t → AtMost 4105 o
+  core-fits e = alias-fits (λ k h. ⊎_elim (λ a. omega arith) (λ a. omega arith) (core-length t (sym e ∙ h)))
 
 -- ---- the leaves of a name and of a stem
 

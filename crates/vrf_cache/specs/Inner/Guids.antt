@@ -8,7 +8,6 @@ use Rattle.vrf_model.specs.Setting.{Step, keep, guid_step, with_guids}
 use Rattle.vrf_store.specs.Store.{header_of}
 use Rattle.vrf_store.specs.Inner.WellFormed.{WellFormed}
 use Rattle.vrf_store.specs.Inner.Stepped.{held}
-use Rattle.vrf_cache.specs.Inner.Passed.{passes_by}
 
 -- the step that sets a GUID and leaves the content c
 abbrev pub setting : Content → Step (Unit {0})
@@ -31,14 +30,6 @@ pub record GuidToAdd (m path : List ℕ) (guid : ℕ) : Type 0 where
 -- record e replaced by r
 abbrev pub with_other : Content → ℕ → Guid → Content
 with_other c e r = with_guids c (set c.guids e r)
-
--- the length of the path of record e
-abbrev pub path_bytes : Content → ℕ → ℕ
-path_bytes c e = length (place_or (λ (g : Guid). g.path) [] c.guids e)
-
--- the allowance that record e would pass with a path of n bytes in place of its own, 0 for none
-abbrev pub other_passes : List ℕ → ℕ → ℕ → ℕ
-other_passes m e n = passes_by m 0 0 0 (path_bytes (held m) e) n
 
 -- what `change_guid` requires: e is a record
 pub record GuidToChange (m path : List ℕ) (e : ℕ) : Type 0 where

@@ -1,7 +1,7 @@
 -- Contracts of the functions of `resolve`. The code tries claims and keys one at a time; the model searches lists of them.
-use Rattle.std.specs.Prelude.{◌≡◌, Bool, true, false, ℕ}
+use Rattle.std.specs.Prelude.{◌≡◌, Bool, true, false, ℕ, ◌≤◌, length}
 use mathlib.Core.List.{List, [], ◌∷◌, Option-to_list}
-use Rattle.std.proofs.Math.Option.{Option}
+use Rattle.std.proofs.Math.Option.{Option, none, some}
 use Rattle.vrf_path.specs.Keys.{has_separator, default_alias, core_alias}
 use Rattle.vrf_path.specs.Toggle.{with_toggles}
 use Rattle.vrf_model.specs.Book.{Group}
@@ -11,6 +11,11 @@ use Rattle.vrf_table.specs.Inner.Index.{claim_or_later}
 -- a name with none of `/ . :`, so it is no path
 abbrev pub Bare : List ℕ → Type 0
 Bare t = has_separator t ≡ false
+
+-- the key, if it is some, has at most n bytes
+abbrev pub AtMost : ℕ → Option (List ℕ) → Type 0
+AtMost n none = Unit {0}
+AtMost n (some k) = length k ≤ n
 
 -- whether a claim ends the search
 unfoldable pub decides : Claim → Bool

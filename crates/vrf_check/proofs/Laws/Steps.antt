@@ -5,12 +5,10 @@ use Rattle.std.proofs.Common.{◌∙◌}
 use Rattle.std.proofs.Math.Option.{Option, none, some}
 use native.Mathlib.Omega.{arith}
 use Rattle.vrf_path.specs.Leaf.{leaf}
-use Rattle.vrf_path.specs.Answers.{spelled, key_bytes, absent}
-use Rattle.vrf_path.proofs.Laws.Answers.{spelled-bytes, spelled-absent}
-use Rattle.vrf_path.specs.declared.Key.{Key}
 use Rattle.vrf_model.specs.Lookup.{Claim}
-use Rattle.vrf_table.specs.Table.{at, len}
-use Rattle.vrf_table.specs.TextIndex.{key_numbered}
+use Rattle.vrf_path.specs.Keys.{default_alias, core_alias}
+use Rattle.vrf_table.specs.Table.{at, len, text}
+use Rattle.vrf_table.specs.TextIndex.{key_numbered, find_path}
 use Rattle.vrf_store.specs.Layout
 use Rattle.vrf_store.specs.Store.{Store, header_of, store_of}
 use Rattle.vrf_store.specs.Check.{text_ok, is32, not_before, reach_ok, is_settled, settled_ok, guid_ok, key_ok, leaf_ok, group_ok, slot_ok, field_ok, store_ok, bounds_ok}
@@ -95,21 +93,22 @@ module _ (m : List ℕ) (l : InBounds m) (h : texts_ok (store_of m) ≡ true) wh
   pub leaves-walked : Walked (store_of m).group_rows (store_of m).texts (store_of m).leaf_links (store_of m).leaf_heads 4 (Layout.leaf_buckets (header_of m).allowed) (header_of m).groups
   leaves-walked = by-texts (store_of m).leaf_links (store_of m).leaf_heads 4 (Layout.leaf_buckets (header_of m).allowed) (omega (arith, l.shaped, l.header)) (omega (arith, l.shaped)) (omega arith)
 
--- ---- keys and leaves of group g, where path is its text t
+-- ---- keys and leaves of group g
 
--- key j of the path is o, and i is its entry
-pub numbered : (find : List ℕ → Option ℕ) {path t : List ℕ} → path ≡ t → (g j : ℕ) {i : ℕ} {o : Option (List ℕ)} {r : Bool} → i ≡ 3 * g + j → o ≡ key_numbered path j → r ≡ reach_ok find i o → r ≡ reach_ok find (3 * g + j) (key_numbered t j)
-numbered find e g j ei eo er = rw (← ei, ← e, ← eo) er
+-- the answers of the walks for the path itself, for its default alias and for its core alias
+module _ (r x links heads : List ℕ) (b n g : ℕ) {path : List ℕ} (e : path ≡ text r x g) where
+  pub own-key : {v : Bool} → v ≡ not_before (3 * g) (find_path r x links heads b n path) → v ≡ key_reach r x links heads b n g 0
+  unfolding key_reach key_numbered reach_ok
+  own-key ev = let start : 3 * g + 0 ≡ 3 * g = omega arith in rw (← e, start) ev
 
--- an alias that the path may not have
-module _ (find : List ℕ → Option ℕ) (e : ℕ) (t : List ℕ) (k : Key) {a : Bool} (ea : a ≡ absent k) where
-  pub alias-gone : a ≡ true → true ≡ reach_ok find e (spelled t k)
-  unfolding reach_ok
-  alias-gone h = rw (spelled-absent t k (sym ea ∙ h))
+  module _ {o : Option (List ℕ)} {v : Bool} where
+    pub default-key : o ≡ default_alias path → v ≡ reach_ok (find_path r x links heads b n) (3 * g + 1) o → v ≡ key_reach r x links heads b n g 1
+    unfolding key_reach key_numbered
+    default-key eo ev = rw (← e, ← eo) ev
 
-  pub alias-there : {r : Bool} → a ≡ false → r ≡ not_before e (find (key_bytes t k)) → r ≡ reach_ok find e (spelled t k)
-  unfolding reach_ok
-  alias-there h er = rw (spelled-bytes t k (sym ea ∙ h)) er
+    pub core-key : o ≡ core_alias path → v ≡ reach_ok (find_path r x links heads b n) (3 * g + 2) o → v ≡ key_reach r x links heads b n g 2
+    unfolding key_reach key_numbered
+    core-key eo ev = rw (← e, ← eo) ev
 
 module _ (claim : List ℕ → Claim) {path t : List ℕ} (e : path ≡ t) (g : ℕ) where
   -- the leaf is `&path[i..]`

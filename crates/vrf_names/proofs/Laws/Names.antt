@@ -1,6 +1,6 @@
 -- Laws of decimal numbers, one digit at a time, and of their lengths; then what fits a buffer. Used by this crate's proofs and by
 -- vrf_reader and vrf_tally.
-use Rattle.std.specs.Prelude.{◌≡◌, ℕ, zero, suc, ◌+◌, ◌*◌, ◌/◌, ◌%◌, ◌^◌, ◌<◌, ◌≤◌}
+use Rattle.std.specs.Prelude.{◌≡◌, ℕ, zero, suc, ◌+◌, ◌*◌, ◌/◌, ◌%◌, ◌^◌, ◌<◌, ◌≤◌, max}
 use Rattle.std.proofs.Common.{ap, arith, length-append}
 use mathlib.Core.List.{List, [], ◌∷◌, ◌++◌}
 use Prim.Native.Char.{code}
@@ -41,6 +41,19 @@ decimal-length zero n h = rw (decimal-one n h) (omega arith)
 decimal-length (suc k) n h =
     let p : n < 10 * 10 ^ suc k = rw (pow-succ' 10 (suc k)) at h in
     by_order 10 n (λ many. rw (more-length n many) (omega (arith, decimal-length k (n / 10) (omega arith)))) (λ one. rw (decimal-one n one) (omega arith))
+
+-- a number from 10 ^ k on and below 10 ^ (k + 1), or 0 in place of 1, has k + 1 digits
+pub counted : (k n : ℕ) → 10 ^ k ≤ max n 1 → max n 1 < 10 * 10 ^ k → k + 1 ≡ length (decimal n)
+counted zero n h l = rw (decimal-one n (omega arith))
+counted (suc k) n h l =
+    let p : 10 ^ suc k ≡ 10 * 10 ^ k = pow-succ' 10 k in
+    let many : 10 ≤ n = omega (arith, ten-power k) in
+    let next : k + 1 ≡ length (decimal (n / 10)) = counted k (n / 10) (omega arith) (omega arith) in
+    rw (more-length n many) (omega arith)
+  where
+    ten-power : (k : ℕ) → 0 < 10 ^ k
+    ten-power zero = omega arith
+    ten-power (suc k) = rw (pow-succ' 10 k) (omega (arith, ten-power k))
 
 -- a text that fits a buffer from a place on, and one that does not
 module _ (before t : List ℕ) (at : ℕ) where

@@ -1,5 +1,5 @@
 -- Laws of keys: the search for separators, the aliases by cases, their lengths, and when a text is a key of a path.
-use Rattle.std.specs.Prelude.{◌≡◌, Bool, true, false, ◌||◌, ◌⊎◌, ℕ, zero, suc, ◌+◌, ◌-◌, ◌<◌, ◌≤◌, length, get_or, take, drop}
+use Rattle.std.specs.Prelude.{◌≡◌, Bool, true, false, ◌||◌, ◌⊎◌, ℕ, zero, suc, ◌+◌, ◌-◌, ◌<◌, ◌≤◌, length, get_or, take, drop, Some, None}
 use Rattle.std.proofs.Math.Path.{refl}
 use Rattle.std.proofs.Common.{sym, ap, ◌∙◌, inl, inr, ⊎_elim, add-one, arith, drop_of_length-le, length-append, length-take, length-drop, drop-drop}
 use Rattle.std.proofs.Math.Bool.{or-false}
@@ -12,7 +12,7 @@ use Rattle.vrf_path.specs.Text.{same, starts_with, first_from}
 use Rattle.vrf_path.specs.Keys.{is_separator, has_separator, default_prefix, characters_root, characters_core, core_segment, default_alias, core_alias_at, core_alias, keys, is_one_of, has_key, key_is}
 use Rattle.vrf_path.specs.Answers.{default_key, core_key_at, core_key, KeyAnswer}
 use Rattle.vrf_path.proofs.Laws.Text.{same-lengths, same_true, starts-length, first-within}
-use Rattle.vrf_path.specs.declared.Key.TheVariants.{Stripped, Prefixed, Cut, Inserted, Absent}
+use Rattle.vrf_path.specs.declared.Key.TheVariants.{Stripped, Prefixed, Cut, Inserted}
 
 -- the search for separators, one place at a time
 module _ (t : List ℕ) (i : ℕ) where
@@ -66,31 +66,31 @@ module _ (t : List ℕ) (i p j : ℕ) (hp : i ≤ p) (hj : p ≤ j) where
 
 -- the default alias by cases
 module _ (t : List ℕ) where
-  pub default-stripped : starts_with default_prefix t ≡ true → KeyAnswer t default_alias default_key Stripped
+  pub default-stripped : starts_with default_prefix t ≡ true → KeyAnswer t default_alias default_key (Some Stripped)
   unfolding default_alias default_key default_prefix
   default-stripped e = record { text = rw e; made = rw e }
 
   module _ (e : starts_with default_prefix t ≡ false) where
-    pub default_none : has_separator t ≡ true → KeyAnswer t default_alias default_key Absent
+    pub default_none : has_separator t ≡ true → KeyAnswer t default_alias default_key None
     unfolding default_alias default_key
     default_none h = record { text = rw (e, h); made = rw (e, h) }
 
-    pub default-prefixed : has_separator t ≡ false → KeyAnswer t default_alias default_key Prefixed
+    pub default-prefixed : has_separator t ≡ false → KeyAnswer t default_alias default_key (Some Prefixed)
     unfolding default_alias default_key
     default-prefixed h = record { text = rw (e, h); made = rw (e, h) }
 
 -- the core alias by cases
 module _ (t : List ℕ) where
-  pub core-cut : {i : ℕ} → first_from core_segment 0 t ≡ some i → KeyAnswer t core_alias core_key (Cut i)
+  pub core-cut : {i : ℕ} → first_from core_segment 0 t ≡ some i → KeyAnswer t core_alias core_key (Some (Cut i))
   unfolding core_alias core_alias_at core_key core_key_at core_segment
   core-cut e = record { text = rw e; made = rw e }
 
   module _ (e : first_from core_segment 0 t ≡ none) where
-    pub core-inserted : starts_with characters_root t ≡ true → KeyAnswer t core_alias core_key Inserted
+    pub core-inserted : starts_with characters_root t ≡ true → KeyAnswer t core_alias core_key (Some Inserted)
     unfolding core_alias core_alias_at core_key core_key_at characters_root
     core-inserted h = record { text = rw (e, h); made = rw (e, h) }
 
-    pub core-none : starts_with characters_root t ≡ false → KeyAnswer t core_alias core_key Absent
+    pub core-none : starts_with characters_root t ≡ false → KeyAnswer t core_alias core_key None
     unfolding core_alias core_alias_at core_key core_key_at
     core-none h = record { text = rw (e, h); made = rw (e, h) }
 

@@ -1,6 +1,9 @@
 -- Laws of stems, one place at a time. `cuts-last` is the loop of resolve.rs: after a stem comes that stem cut at its last `_`, as long as
 -- this `_` is above place 0.
-use Rattle.std.specs.Prelude.{◌≡◌, refl, Bool, false, cond, List, [], ◌∷◌, ℕ, zero, suc, ◌<◌, ◌≤◌, eqb, length, get_or, take}
+use Rattle.std.specs.Prelude.{◌≡◌, refl, Bool, false, cond, ◌&&◌, List, [], ◌∷◌, ℕ, zero, suc, ◌<◌, ◌≤◌, eqb, ltb, length, get_or, take}
+use Rattle.std.specs.List.{All}
+use Rattle.std.proofs.lemmas.List.Elements.{All-nil, All-cons, All-append}
+use Rattle.std.proofs.Math.Seq.{take-length}
 use Rattle.std.proofs.Common.{sym, ap, ◌∙◌, ⊎_elim, eq-or-lt_of_le, arith}
 use Rattle.std.proofs.Math.Bool.{true}
 use Rattle.std.proofs.Math.Option.{Option, none, some}
@@ -9,8 +12,8 @@ use Rattle.std.proofs.Math.ListN.{get_or-eq_default}
 use borrow.Author.Tests.{lt-ltb, le-ltb, le-leb, lt-leb}
 use Rattle.vrf_bitio.proofs.Laws.Cases.{by_cond, by_order, clash}
 use Rattle.vrf_path.specs.Text.{last_below}
-use Rattle.vrf_path.specs.Stems.{cuts_below, is_digit, is_capital, digits_from, capital_stems, digit_stems}
-use Rattle.vrf_path.specs.Answers.{rule_at}
+use Rattle.vrf_path.specs.Stems.{cuts_below, is_digit, is_capital, digits_from, capital_stems, digit_stems, stems}
+use Rattle.vrf_path.specs.Inner.Stems.{rule_at}
 use Rattle.vrf_path.specs.declared.Phase.TheVariants.{Underscore, Digits, Capital}
 
 -- the stems cut at the last `_` and before it, by the place of that `_`
@@ -126,3 +129,39 @@ module _ (name : List ℕ) (n : ℕ) where
   pub rule-whole : length name ≤ n → Underscore ≡ rule_at name n
   unfolding rule_at is_digit is_capital
   rule-whole h = rw (get_or-eq_default name 0 h)
+
+-- ---- each stem is a front part of its name
+
+abbrev pub IsFront : List ℕ → List ℕ → Type 0
+IsFront name s = (n : ℕ) × (s ≡ take n name)
+
+cuts-fronts : (name : List ℕ) (n : ℕ) → All (IsFront name) (cuts_below name n)
+unfolding cuts_below
+cuts-fronts name zero = All-nil (IsFront name)
+cuts-fronts name (suc zero) = All-nil (IsFront name)
+cuts-fronts name (suc (suc i)) =
+    by_cond (All (IsFront name)) (eqb (get_or name (suc i) 0) (code "_"))
+    (λ _. All-cons (IsFront name) (take (suc i) name) (cuts_below name (suc i)) (suc i, refl) (cuts-fronts name (suc i)))
+    (λ _. cuts-fronts name (suc i))
+
+capital-fronts : (name : List ℕ) (n : ℕ) → All (IsFront name) (capital_stems name n)
+unfolding capital_stems
+capital-fronts name zero = All-nil (IsFront name)
+capital-fronts name (suc zero) = All-nil (IsFront name)
+capital-fronts name (suc (suc i)) =
+    by_cond (All (IsFront name)) (is_capital (get_or name (suc i) 0))
+    (λ _. All-cons (IsFront name) (take (suc i) name) [] (suc i, refl) (All-nil (IsFront name)))
+    (λ _. All-nil (IsFront name))
+
+digit-fronts : (name : List ℕ) (n : ℕ) → All (IsFront name) (digit_stems name n)
+unfolding digit_stems
+digit-fronts name n =
+    by_cond (All (IsFront name)) (ltb 0 n && ltb n (length name))
+    (λ _. All-cons (IsFront name) (take n name) (capital_stems name n) (n, refl) (capital-fronts name n))
+    (λ _. All-nil (IsFront name))
+
+pub stems-fronts : (name : List ℕ) → All (IsFront name) (stems name)
+unfolding stems
+stems-fronts name =
+    All-cons (IsFront name) name _ (length name, sym (take-length name))
+    (All-append (IsFront name) (cuts_below name (length name)) (digit_stems name (digits_from name (length name))) (cuts-fronts name (length name)) (digit-fronts name (digits_from name (length name))))

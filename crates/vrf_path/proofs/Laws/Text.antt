@@ -1,6 +1,6 @@
 -- Laws of texts: when two texts are the same, by bytes and by words, and the searches, one place at a time.
 use Rattle.std.specs.Prelude.{◌≡◌, refl, Bool, true, false, ◌&&◌, List, [], ◌∷◌, ◌++◌, ℕ, zero, suc, ◌+◌, ◌-◌, ◌*◌, ◌^◌, ◌<◌, ◌≤◌, eqb, take}
-use Rattle.std.proofs.Common.{sym, ap, ◌∙◌, add-one, length-take, length-drop, drop_of_length-le, drop-drop, get_or-drop, get_or-append-add}
+use Rattle.std.proofs.Common.{Decides, sym, ap, ◌∙◌, add-one, length-take, length-drop, drop_of_length-le, drop-drop, get_or-drop, get_or-append-add}
 use Rattle.std.proofs.Math.Option.{Option, none, some}
 use native.Mathlib.Omega.{arith}
 use Rattle.std.proofs.Math.ListN.{length, get_or, drop, length-append}
@@ -36,6 +36,9 @@ same_true (a ∷ s) (b ∷ t) e = both (eqb a b) refl e (same_true s t)
     both : (x : Bool) → eqb a b ≡ x → (x && same s t) ≡ true → (same s t ≡ true → s ≡ t) → a ∷ s ≡ b ∷ t
     both true ex es rest = rw (eqb-true a b ex, rest es)
     both false ex es rest = clash (cc)
+
+pub same-decides : (s t : List ℕ) → Decides (same s t) (s ≡ t)
+same-decides s t = (same_true s t, λ e. rw e (same_refl t))
 
 -- two texts from place i on, by the byte at i
 module _ (s t : List ℕ) (i : ℕ) (hs : i < length s) (ht : i < length t) where

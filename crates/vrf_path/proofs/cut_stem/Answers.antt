@@ -1,17 +1,13 @@
--- `vrf_path::cut_stem` satisfies its contract.
-use mathlib.Core.Path.{sym, ap, ◌∙◌}
-use borrow.Author.Rules.{rules}
-use Rattle.vrf_path.specs.Inner.Text.{place}
-use Rattle.vrf_path.proofs.Stems.{cut, cut-none, cut-first, renamed}
+-- The stem cut at the last `_`, if it is above place 0.
+use Rattle.std.proofs.Common.{sym, arith}
+use Rattle.vrf_path.proofs.StemSteps.{cut, cut-none, cut-first, renamed}
 use Rattle.vrf_path.proofs.cut_stem.Goals as goal
 
-pub returns-then-i-gt0 : goal.returns-then-i-gt0
-returns-then-i-gt0 c =
-    cut _ _ (sym c.rfind.ensures ∙ ap place c.in-At.is) c.requires c.if-i-gt0.true
+pub returns-in-None : goal.returns-in-None
+returns-in-None c = renamed (cut-none _ _ (sym c.in-None.ensures)) c.digit_stem.ensures
 
-pub returns-in-Nowhere : goal.returns-in-Nowhere
-returns-in-Nowhere c = renamed (cut-none _ _ (sym c.rfind.ensures ∙ ap place c.in-Nowhere.is)) c.digit_stem.ensures
+pub returns-in-Some-eq0 : goal.returns-in-Some-eq0
+returns-in-Some-eq0 c = renamed (cut-first _ _ (sym c.in-Some-eq0.ensures) (omega arith)) c.digit_stem-in-Some-eq0.ensures
 
-pub returns-else-i-gt0 : goal.returns-else-i-gt0
-returns-else-i-gt0 c =
-    renamed (cut-first _ _ (sym c.rfind.ensures ∙ ap place c.in-At.is) c.if-i-gt0.false) c.digit_stem-in-At.ensures
+pub returns-in-Some : goal.returns-in-Some
+returns-in-Some c = cut _ _ (sym c.in-Some.ensures) c.requires (omega arith)

@@ -4,7 +4,6 @@ use Prim.Native.Nat.{◌≤◌}
 use native.Mathlib.Omega.{arith}
 use lib.ListN.{length-take}
 use lib.Seq.{take-take}
-use borrow.Author.Rules.{rules}
 use Rattle.vrf_path.specs.Toggle.{class_net_cache}
 use Rattle.vrf_path.specs.Base.{class_base}
 use Rattle.vrf_path.proofs.Laws.Base.{leaf-by-e, leaf-by-others}

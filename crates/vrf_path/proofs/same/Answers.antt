@@ -1,6 +1,5 @@
 -- `vrf_path::same` satisfies its contract: texts of different lengths differ, and the two loops compare the others.
 use mathlib.Core.Path.{sym}
-use borrow.Author.Rules.{rules}
 use Rattle.vrf_path.proofs.Laws.Text.{same-lengths}
 use Rattle.vrf_path.proofs.same.Goals as goal
 

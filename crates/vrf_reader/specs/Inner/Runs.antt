@@ -1,18 +1,26 @@
--- Contracts of the functions of `runs`, which read either export run.
-use Rattle.std.specs.Prelude.{◌≡◌, Bool, true, false, List, ℕ, ◌≤◌, length}
-use Rattle.vrf_bitio.specs.declared.Cursor.{Cursor}
+-- The contract of `read_run`, which reads either export run: what it requires of the function that reads an entry.
+use Rattle.std.specs.Prelude.{List, ℕ, Result, ◌≤◌, length}
+use Rattle.std.specs.Borrow.{MutBor}
+use Rattle.std.specs.Fn.{Mut, Called}
+use Rattle.vrf_bitio.specs.declared.BitReader.{BitReader}
+use Rattle.vrf_bitio.specs.declared.Refusal.{Refusal}
 use Rattle.vrf_model.specs.Parser.{Parser}
-use Rattle.vrf_model.specs.Runs.{export_entry, guid_entry}
 use Rattle.vrf_store.specs.Inner.WellFormed.{WellFormed}
-use Rattle.vrf_reader.specs.Inner.Within.{CursorWithin}
+use Rattle.vrf_reader.specs.Inner.Simulates.{Refines}
+use Rattle.vrf_reader.specs.Inner.Within.{SameWindow}
 
--- one entry of a GUID run, or of a fields run
-abbrev pub entry_of : Bool → Parser (Unit {0})
-entry_of true = guid_entry
-entry_of false = export_entry
+-- what an entry's reader takes: the reader, the memory and the scratch buffer
+abbrev pub EntryArgs : Type 0
+EntryArgs = MutBor BitReader × (MutBor (List ℕ) × (MutBor (List ℕ) × Unit {0}))
 
--- what reading a run requires. The payloads of a GUID run are windows of their own, so its cursor is within the slice
-pub record RunAsked (guids : Bool) (s : List ℕ) (c : Cursor) (m scratch : List ℕ) : Type 0 where
-  pub good : WellFormed m
-  pub wide : 4096 ≤ length scratch
-  pub within : guids ≡ true → CursorWithin s c
+-- such arguments at any place of r's window
+pub record EntryAsked (r : BitReader) (a : EntryArgs) : Type 0 where
+  pub window : SameWindow r a.0.now
+  pub good : WellFormed a.1.0.now
+  pub wide : 4096 ≤ length a.1.1.0.now
+
+-- an entry's reader may be called at any place of r's window, and each call refines the definition k
+pub record ReadsEntries {F : Type 0} (g : Mut F EntryArgs (Result (Unit {0}) Refusal × EntryArgs)) (k : Parser (Unit {0})) (r : BitReader) : Type 0 where
+  pub takes : (f : F) (a : EntryArgs) → EntryAsked r a → g.pre f a
+  pub gives : (f : F) (a : EntryArgs) (o : Result (Unit {0}) Refusal) (left : EntryArgs) (f' : F) → EntryAsked r a → Called g f a (o, left) f'
+      → Refines k a.0.now left.0.now a.1.0.now left.1.0.now o

@@ -1,6 +1,6 @@
 -- The proof of demand 3 (`Demand-3`) from the contracts of the exported functions: what a list of calls leaves, and what the late reader
 -- reads.
-use Rattle.std.specs.Prelude.{◌≡◌, refl, true, List, ℕ, ◌≤◌, length, take}
+use Rattle.std.specs.Prelude.{◌≡◌, refl, true, List, ℕ, ◌≤◌, length, take, Ok}
 use Rattle.std.proofs.Math.Path.{sym, ap}
 use Rattle.std.proofs.Common.{subst, ◌∙◌}
 use Rattle.std.proofs.Math.Seq.{take-append_seam}
@@ -12,8 +12,6 @@ use Rattle.vrf_model.specs.Lawful.{Lawful}
 use Rattle.vrf_model.proofs.Laws.Calls.{run-allowed}
 use Rattle.vrf_model.proofs.Laws.Writer.{writing, write-accepts}
 use Rattle.vrf_model.proofs.Laws.LateJoin.{join_call, late_reader, JoinsLate, joins}
-use Rattle.vrf_model.specs.declared.Acted.TheVariants.{Done}
-use Rattle.vrf_model.specs.declared.Wrote.TheVariants.{Length}
 use Rattle.vrf_store.specs.Store.{book_of}
 use Rattle.vrf_store.specs.Check.{check}
 use Rattle.vrf_schema.specs.CallContract.{CallContract}
@@ -52,13 +50,13 @@ early-lawful : {a : Allowances} {calls : List Call} {m₀ m : List ℕ} {rs : Li
 unfolding fresh_book fresh
 early-lawful {a} {m = m} opened l = subst (λ (x : Allowances). Lawful x (book_of m).content) (l.allowed ∙ ap (λ (b : Book). b.content.allowed) opened) (accepted-lawful m l.accepted)
 
-pub trace-lawful : {a : Allowances} {lent m₀ m : List ℕ} → OpenContract a lent m₀ Done → {calls : List Call} {rs : List Answer} → Trace calls m₀ rs m → Lawful a (book_of m).content
+pub trace-lawful : {a : Allowances} {lent m₀ m : List ℕ} → OpenContract a lent m₀ (Ok tt) → {calls : List Call} {rs : List Answer} → Trace calls m₀ rs m → Lawful a (book_of m).content
 trace-lawful opened trace = early-lawful opened.book (left opened.accepted trace)
 
 -- ---- the late reader
 
 module _ (a : Allowances) (m : List ℕ) (good : check m ≡ true) (law : Lawful a (book_of m).content) (literals : a.guids ≤ a.literals) where
-  module _ {before after : List ℕ} {n : ℕ} (w : WriteContract m before after (Length n)) where
+  module _ {before after : List ℕ} {n : ℕ} (w : WriteContract m before after (Ok n)) where
     -- the block is at the front of the buffer
     block : take n after ≡ encode_book (book_of m).content
     block =

@@ -1,13 +1,12 @@
 -- Demand 3 begins with a memory that was opened. This file proves that there is one: for all allowances within their maximum, every memory
 -- that is long enough can be opened. So demand 3 is not an empty claim.
-use Rattle.std.specs.Prelude.{◌≡◌, refl, List, ℕ, ◌≤◌, length, replicate}
+use Rattle.std.specs.Prelude.{◌≡◌, refl, List, ℕ, ◌≤◌, length, replicate, Ok}
 use Rattle.std.proofs.Math.Option.{none}
 use Rattle.std.proofs.Common.{arith, le-ltb}
 use Rattle.vrf_bitio.specs.Pasted.{pasted}
 use Rattle.vrf_words.specs.Inner.Words.{set_word}
 use Rattle.vrf_model.specs.Book.{Allowances}
 use Rattle.vrf_model.specs.Lawful.{Allowed}
-use Rattle.vrf_model.specs.declared.Acted.TheVariants.{Done}
 use Rattle.vrf_store.specs.Layout
 use Rattle.vrf_store.specs.Opening.{above_top, unless_short, unless_above, opening, opened}
 use Rattle.vrf_store.proofs.Laws.Opening.Opening.{written-header, opened-fresh}
@@ -26,7 +25,7 @@ accepts a t n h = rw (none_above a t, le-ltb n (Layout.need a) h)
 abbrev emptied : Allowances → List ℕ → List ℕ
 emptied a m = pasted (set_word (set_word (set_word (set_word (set_word m 0 a.guids) 1 a.groups) 2 a.fields) 3 a.text) 4 a.literals) 20 (replicate 108 0)
 
-pub opens : (a : Allowances) → Allowed a → (m : List ℕ) → Layout.need a ≤ length m → (m' : List ℕ) × OpenContract a m m' Done
+pub opens : (a : Allowances) → Allowed a → (m : List ℕ) → Layout.need a ≤ length m → (m' : List ℕ) × OpenContract a m m' (Ok tt)
 opens a t m enough =
     let h = written-header a m (omega (arith, enough)) (omega (arith, t.guids)) (omega (arith, t.groups)) (omega (arith, t.fields)) (omega (arith, t.text)) (omega (arith, t.literals)) refl refl refl refl refl refl in
-    (emptied a m, open-contract a m (emptied a m) Done (opened-fresh a (accepts a t (length m) enough) t enough h.0 h.1 h.2 (record { header = refl; counters = refl; long = refl; literals = refl })))
+    (emptied a m, open-contract a m (emptied a m) (Ok tt) (opened-fresh a (accepts a t (length m) enough) t enough h.0 h.1 h.2 (record { header = refl; counters = refl; long = refl; literals = refl })))

@@ -12,7 +12,7 @@ use Rattle.vrf_table.specs.Table.{text, key, link, at, len, info, key_hit, key_b
 use Rattle.vrf_table.specs.TextIndex.{text_bucket, text_start, key_numbered, path_hit, leaf_hit, leaf_start, claim_of}
 use Rattle.vrf_table.specs.Inner.Index.{FindsLast, FindsClaim}
 use Rattle.vrf_table.specs.Inner.TextIndex.{leaf_bucket}
-use Rattle.vrf_table.specs.Inner.Answers.{claim}
+use Rattle.vrf_table.specs.Inner.Answers.{entry}
 use Rattle.vrf_store.specs.UpTo.{up_to}
 use Rattle.vrf_store.specs.Layout
 use Rattle.vrf_store.specs.Store.{Store, allowances_of, counters_of, store_of, header_of, slot_by}
@@ -21,8 +21,6 @@ use Rattle.vrf_store.specs.Inner.Valid.{Shaped, ValidHeader, ValidText, ValidTab
 use Rattle.vrf_store.specs.Inner.WellFormed.{Enough, WellFormed}
 use Rattle.vrf_store.specs.Inner.Memory.{with_group_table, with_path_index, with_leaf_index, push_row, TextPlaced}
 use Rattle.vrf_store.specs.Inner.Stepped.{held}
-use Rattle.vrf_store.specs.declared.groups.Bucket.{Bucket}
-use Rattle.vrf_store.specs.declared.groups.Bucket.TheVariants.{Of, Absent}
 use Rattle.vrf_store.specs.declared.groups.Buckets.{Buckets}
 
 -- the bucket of a text, if there is a text
@@ -142,18 +140,13 @@ pub record MoreIndexed (m m' : List ℕ) (n n' : ℕ) : Type 0 where
   pub counters : counters_of m' ≡ counters_of m
   pub long : length m' ≡ length m
 
--- what a `Bucket` means
-abbrev pub bucketed : Bucket → Option ℕ
-bucketed (Of h) = some h
-bucketed Absent = none
-
 -- r holds the buckets of group g
 pub record BucketsOf (s : Store) (g : ℕ) (r : Buckets) : Type 0 where
-  pub key : bucketed r.key ≡ key_of s g
-  pub own : bucketed r.own ≡ path_of s g 0
-  pub default : bucketed r.default ≡ path_of s g 1
-  pub core : bucketed r.core ≡ path_of s g 2
-  pub leaf : bucketed r.leaf ≡ leaf_of s g
+  pub key : entry r.key ≡ key_of s g
+  pub own : entry r.own ≡ path_of s g 0
+  pub default : entry r.default ≡ path_of s g 1
+  pub core : entry r.core ≡ path_of s g 2
+  pub leaf : entry r.leaf ≡ leaf_of s g
 
 -- ---- writing a row
 

@@ -1,15 +1,7 @@
--- What the lookups answer, and what `claim_of` requires of its leaves.
+-- What `claim_of` requires of its leaves.
 use Rattle.std.specs.Prelude.{◌≡◌, ℕ, ◌^◌, ◌<◌, ◌≤◌, List, ◌++◌, length, take}
-use Rattle.std.proofs.Math.Option.{Option, none, some}
 use Rattle.vrf_path.specs.Base.{leaf_base}
 use Rattle.vrf_table.specs.Inner.Answers.{Suffixed}
-use Rattle.vrf_store.specs.declared.MaybeNumber.{MaybeNumber}
-use Rattle.vrf_store.specs.declared.MaybeNumber.TheVariants.{Is, Nothing}
-
--- what a `MaybeNumber` means
-abbrev pub number_found : MaybeNumber → Option ℕ
-number_found (Is n) = some n
-number_found Nothing = none
 
 -- what `claim_of` requires of a name and three suffixes: the name is the base of the second and third leaf, and its first n bytes are the
 -- base of the first

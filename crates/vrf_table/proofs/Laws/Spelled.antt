@@ -8,7 +8,7 @@ use Rattle.vrf_bitio.proofs.Laws.Cases.{by_order}
 use Rattle.vrf_path.specs.Keys.{default_prefix, characters_core}
 use Rattle.vrf_path.specs.Answers.{key_bytes}
 use Rattle.vrf_path.specs.declared.Key.{Key}
-use Rattle.vrf_path.specs.declared.Key.TheVariants.{Itself, Stripped, Prefixed, Cut, Inserted, Absent as Missing}
+use Rattle.vrf_path.specs.declared.Key.TheVariants.{Itself, Stripped, Prefixed, Cut, Inserted}
 use Rattle.vrf_table.specs.Inner.Spelled.{SpelledInto}
 
 pub fronted : {l y : List ℕ} {n : ℕ} (t : List ℕ) → y ≡ pasted l 0 t → n ≡ length t → length t ≤ length l → SpelledInto t l y n
@@ -80,4 +80,3 @@ key-short t Stripped = simp length-drop (omega arith)
 key-short t Prefixed = simp length-append (omega arith)
 key-short t (Cut i) = simp (length-append, length-take, length-drop) (omega arith)
 key-short t Inserted = simp (length-append, length-drop) (omega arith)
-key-short t Missing = omega arith

@@ -1,5 +1,5 @@
 -- `vrf_table::leaf_is` satisfies its contract.
-use Rattle.std.proofs.Common.{◌++◌, sym, arith, length-append, rules}
+use Rattle.std.proofs.Common.{◌++◌, sym, arith, length-append}
 use Rattle.vrf_table.proofs.Texts.{leaf-not, leaf-end}
 use Rattle.vrf_table.proofs.leaf_is.Goals as goal
 

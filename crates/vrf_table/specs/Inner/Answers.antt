@@ -1,22 +1,26 @@
 -- What the answers of `find_key`, `find_path`, `find_leaf` and the claim functions mean, and what these functions require of their texts.
-use Rattle.std.specs.Prelude.{ℕ, zero, suc, ◌+◌, ◌^◌, ◌<◌, ◌≤◌, List, ◌++◌, length}
+use Rattle.std.specs.Prelude.{◌≡◌, ℕ, ◌+◌, ◌^◌, ◌<◌, ◌≤◌, List, ◌++◌, length, Option as Answer, Some, None}
 use Rattle.std.proofs.Math.Option.{Option, none, some}
 use Rattle.vrf_path.specs.Inner.Leaf.{Dotless}
-use Rattle.vrf_model.specs.Lookup.{absent, ambiguous, claimed, Claim as Claimed}
+use Rattle.vrf_model.specs.Lookup.{absent, ambiguous, claimed, Claim as Claims}
 use Rattle.vrf_table.specs.Table.{at, len}
-use Rattle.vrf_table.specs.declared.Entry.{Entry}
-use Rattle.vrf_table.specs.declared.Entry.TheVariants.{At, Nowhere}
+use Rattle.vrf_table.specs.declared.Claim.{Claim}
+use Rattle.vrf_table.specs.declared.Claim.TheVariants.{Absent, Ambiguous, Only}
 
--- what an `Entry` means
-abbrev pub entry : Entry → Option ℕ
-entry (At e) = some e
-entry Nowhere = none
+-- the number in an answer of the code
+abbrev pub entry : Answer ℕ → Option ℕ
+entry (Some e) = some e
+entry None = none
 
--- what the number of a claim means
-abbrev pub claim : ℕ → Claimed
-claim zero = absent
-claim (suc zero) = ambiguous
-claim (suc (suc e)) = claimed e
+-- what a claim of the code means
+abbrev pub claim : Claim → Claims
+claim Absent = absent
+claim Ambiguous = ambiguous
+claim (Only e) = claimed e
+
+-- at each entry below n, every result of the code is the one that f says
+abbrev pub Gives : {A : Type 0} → (ℕ → A → Type 0) → (ℕ → A) → ℕ → Type 0
+Gives {A} post f n = (e : ℕ) (r : A) → e < n → post e r → r ≡ f e
 
 -- the name and the suffix have no dot, and their length fits 32 bits
 abbrev pub Suffixed : List ℕ → List ℕ → Type 0

@@ -1,6 +1,5 @@
 -- `vrf_text::char_len` satisfies its contract: each answer follows from the tests before it.
 use mathlib.Core.Path.{sym, ◌∙◌}
-use borrow.Author.Rules.{rules}
 use Rattle.vrf_text.proofs.Chars.{one, too-low, too-high, two-pass, two-fail, third-fail, three-pass, three-fail, fourth-fail, four-pass, four-fail}
 use Rattle.vrf_text.proofs.char_len.Goals as goal
 

@@ -1,5 +1,4 @@
 -- `vrf_text::length_of` satisfies its contract.
-use borrow.Author.Rules.{rules}
 use Rattle.vrf_bitio.proofs.Laws.Signed.{is_zero, below-zero, above_zero}
 use Rattle.vrf_text.proofs.length_of.Goals as goal
 

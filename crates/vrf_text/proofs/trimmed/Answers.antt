@@ -1,6 +1,5 @@
 -- `vrf_text::trimmed` satisfies its contract.
 use native.Mathlib.Omega.{arith}
-use borrow.Author.Rules.{rules}
 use borrow.Author.Tests.{eq-eqb, ne_eqb}
 use Rattle.vrf_text.proofs.trimmed.Goals as goal
 

@@ -1,20 +1,18 @@
--- Relations for the contracts of the inner functions: a step over UTF-8 bytes or UTF-16 units, a measured or written text, and a text that
--- was tested and not yet copied. The contracts of the exported functions do not use them.
-use Rattle.std.specs.Prelude.{false, List, ◌≡◌, ℕ, zero, suc, ◌+◌, ◌-◌, ◌*◌, ◌/◌, ◌%◌, ◌^◌, ◌≤◌, ◌<◌, ℤ, pos, negsuc, length, get_or, drop}
-use Rattle.std.proofs.Math.Option.{Option, none, some}
-use Rattle.vrf_bitio.specs.Bits.{bytes_of}
-use Rattle.vrf_bitio.specs.Reading.{Read}
+-- Relations for the contracts of the inner functions: a step over UTF-8 bytes, a word of UTF-16 units, a measured or written text, and a
+-- text that is put into a target. The contracts of the exported functions do not use them.
+use Rattle.std.specs.Prelude.{false, List, ◌≡◌, ℕ, zero, suc, ◌+◌, ◌-◌, ◌*◌, ◌/◌, ◌%◌, ◌^◌, ◌≤◌, ◌<◌, ℤ, pos, negsuc, length, get_or, drop, Option, None, Some, Result, Ok, Err}
+use Rattle.std.proofs.Math.Option.{Option as Maybe, none, some}
+use Rattle.vrf_bitio.specs.Reading.{Read, Reader, ◌>>=◌}
 use Rattle.vrf_bitio.specs.Pasted.{pasted}
 use Rattle.vrf_bitio.specs.Answers.{Gave, Refuses}
-use Rattle.vrf_bitio.specs.declared.Cursor.{Cursor}
+use Rattle.vrf_bitio.specs.Inner.Reader.{moved}
+use Rattle.vrf_bitio.specs.declared.BitReader.{BitReader}
+use Rattle.vrf_bitio.specs.declared.Reason.TheVariants.{TextLength}
+use Rattle.vrf_bitio.specs.declared.Refusal.{Refusal}
 use Rattle.vrf_text.specs.Utf8.{utf8}
-use Rattle.vrf_text.specs.Utf16.{units, before, utf16, units_to_utf8}
-use Rattle.vrf_text.specs.declared.FoundText.{FoundText}
-use Rattle.vrf_text.specs.declared.FoundText.TheVariants.{Bytes as InBytes, Units as InUnits, Refused as NotFound}
+use Rattle.vrf_text.specs.Text.{checked, into_target}
 use Rattle.vrf_text.specs.declared.Length.{Length}
 use Rattle.vrf_text.specs.declared.Length.TheVariants.{Empty, Bytes as OfBytes, Units as OfUnits}
-use Rattle.vrf_text.specs.declared.Measured.{Measured}
-use Rattle.vrf_text.specs.declared.Measured.TheVariants.{Bytes, Bad}
 
 -- ---- UTF-8
 
@@ -43,40 +41,25 @@ Clear l b n = (j : ℕ) → j < n → get_or l j 0 / 2 ^ b % 2 ≡ 0
 
 -- ---- UTF-16
 
--- the n units at bit p of a slice
-abbrev pub units_of : List ℕ → ℕ → ℕ → List ℕ
-units_of s p n = units (bytes_of s p (2 * n))
-
 -- the word w holds the first two units of ws, low unit first; past the end of ws it has 0
 pub record WordHolds16 (w : ℕ) (ws : List ℕ) : Type 0 where
   pub any : 0 < length ws
   pub first : get_or ws 0 0 ≡ w % 0x10000
   pub second : get_or ws 1 0 ≡ w / 0x10000 % 0x10000
 
--- ws begins with the character u, of k units. k = 0 means that no character begins there.
-abbrev pub UnitsTaken : List ℕ → ℕ → ℕ → Type 0
-UnitsTaken ws u zero = utf16 ws ≡ none
-UnitsTaken ws u (suc k) = utf16 ws ≡ before u (utf16 (drop (suc k) ws))
-
--- the character u, of k units, begins each list of units whose first two are in the word w
-pub record Utf16Step (w u k : ℕ) : Type 0 where
-  pub few : k ≤ 2
-  pub scalar : u < 0x110000
-  pub taken : (ws : List ℕ) → WordHolds16 w ws → UnitsTaken ws u k
-
--- the length of a text, or `Bad` if there is none
-abbrev pub MeasuredAnswer : Option (List ℕ) → Measured → Type 0
-MeasuredAnswer o (Bytes n) = (t : List ℕ) × ((o ≡ some t) × (n ≡ length t))
-MeasuredAnswer o Bad = o ≡ none
+-- the length of a text, or none if there is no text
+abbrev pub MeasuredAnswer : Maybe (List ℕ) → Option ℕ → Type 0
+MeasuredAnswer o (Some n) = (t : List ℕ) × ((o ≡ some t) × (n ≡ length t))
+MeasuredAnswer o None = o ≡ none
 
 -- there is a text, and it fits m bytes
-pub record FitsTarget (o : Option (List ℕ)) (m : ℕ) : Type 0 where
+pub record FitsTarget (o : Maybe (List ℕ)) (m : ℕ) : Type 0 where
   pub text : List ℕ
   pub is : o ≡ some text
   pub fits : length text ≤ m
 
 -- there is a text, and it was written to the first bytes of the lent memory
-pub record WroteText (o : Option (List ℕ)) (was current : List ℕ) : Type 0 where
+pub record WroteText (o : Maybe (List ℕ)) (was current : List ℕ) : Type 0 where
   pub text : List ℕ
   pub is : o ≡ some text
   pub wrote : current ≡ pasted was 0 text
@@ -89,13 +72,26 @@ LengthOf z Empty = z ≡ pos 0
 LengthOf z (OfBytes n) = (z ≡ pos n) × (0 < n)
 LengthOf z (OfUnits n) = (z ≡ negsuc (n - 1)) × (0 < n)
 
--- the position of a cursor, as a bit of the slice
-abbrev pub bit_at : Cursor → ℕ
-bit_at c = c.first + c.pos
+-- the position of a reader, as a bit of its bytes
+abbrev pub bit_at : BitReader → ℕ
+bit_at r = r.first + r.pos
 
--- a text in the slice, tested and not yet copied: n bytes of UTF-8, or n units of UTF-16 that have len bytes as UTF-8
-abbrev pub FoundAnswer : List ℕ → Cursor → Read (List ℕ) → FoundText → Type 0
-FoundAnswer s c x (InBytes from n d) = Gave s c x (bytes_of s (bit_at from) n) d × (8 * n ≤ from.count - from.pos)
-FoundAnswer s c x (InUnits from n len d) =
-    (v : List ℕ) × (Gave s c x v d × ((units_to_utf8 (units_of s (bit_at from) n) ≡ some v) × ((len ≡ length v) × (n ≤ 2 ^ 19))))
-FoundAnswer s c x (NotFound r) = Refuses x r
+-- the bits of the text at `start` are passed, from the bit `at` of the slice on, or they are refused; w is the text's length word
+abbrev pub TakesText : BitReader → BitReader → ℕ → ℕ → ℕ → Result ℕ Refusal → Type 0
+TakesText r d start w bits (Ok at) = (bits ≤ 8 * 1048576) × (bits ≤ r.count - r.pos) × (at ≡ bit_at r) × (d ≡ moved r bits) × (at < 2 ^ 33)
+TakesText r d start w bits (Err e) = (bits ≤ 8 * 1048576 → r.count - r.pos < bits) × (e ≡ record { reason = TextLength; a = start; b = w })
+
+-- the text that f reads, for a target of m bytes
+abbrev pub into : ℕ → Reader (List ℕ) → Reader (List ℕ)
+into m f = f >>= into_target m
+
+-- A text put into a target. The answer is its length, and d is the reader after it. After a refusal the reader may be anywhere, but the
+-- whole target is unchanged.
+abbrev pub PutAnswer : BitReader → BitReader → Read (List ℕ) → List ℕ → List ℕ → Result ℕ Refusal → Type 0
+PutAnswer r d x before after (Ok n) = (v : List ℕ) × (Gave r x v d × ((n ≡ length v) × (after ≡ pasted before 0 v)))
+PutAnswer r d x before after (Err e) = Refuses x e × (after ≡ before)
+
+-- whether a text of n bytes may be put into a target of m bytes
+abbrev pub RoomAnswer : ℕ → ℕ → Result (Unit {0}) Refusal → Type 0
+RoomAnswer n m (Ok u) = (n ≤ 4096) × (n ≤ m)
+RoomAnswer n m (Err e) = (start : ℕ) (t : List ℕ) → n ≡ length t → (p : ℕ) (l : List ℕ) → Refuses (into m (checked start (some t)) p l) e

@@ -1,11 +1,11 @@
 -- What the loops of the search for the first clash maintain, and what follows when they end. The proofs of `src/clash.rt` use these laws.
-use Rattle.std.specs.Prelude.{◌≡◌, ℕ, zero, suc, ◌+◌, ◌-◌, ◌*◌, ◌/◌, ◌%◌, ◌<◌, ◌≤◌, min, Bool, true, false, ◌||◌, ◌≢◌, ◌⊎◌, List, [], length, refl}
+use Rattle.std.specs.Prelude.{◌≡◌, ℕ, zero, suc, ◌+◌, ◌-◌, ◌*◌, ◌/◌, ◌%◌, ◌<◌, ◌≤◌, Bool, true, false, ◌||◌, ◌≢◌, ◌⊎◌, List, [], length, refl}
 use Rattle.std.proofs.Math.Path.{sym, ap}
-use Rattle.std.proofs.Common.{◌∙◌, ⊎_elim, not-suc-le-zero, arith}
+use Rattle.std.proofs.Common.{◌∙◌, inl, inr, ⊎_elim, arith}
 use Rattle.std.proofs.Math.Bool.{or-true}
 use Rattle.std.proofs.Math.Option.{Option, some, none}
 use Rattle.std.proofs.Math.Nat.{add-zero}
-use Rattle.vrf_bitio.proofs.Laws.Cases.{by_order, clash}
+use Rattle.vrf_bitio.proofs.Laws.Cases.{by_order, by-test, clash}
 use Rattle.vrf_path.specs.Text.{same}
 use Rattle.vrf_path.specs.Keys.{has_key, key_is, default_alias, core_alias}
 use Rattle.vrf_path.proofs.Laws.Text.{same_true, same_refl}
@@ -109,19 +109,12 @@ module _ {p q : ℕ → Bool} where
 pub narrowed_none : {p : ℕ → Bool} (h least : ℕ) → ((j : ℕ) → h < j → j < least → p j ≡ false) → Narrowed p h least least
 narrowed_none h least f = record { within = omega arith; clear = f; hit = λ l. absurd (omega (arith, l)) }
 
--- narrowed down by testing one number after another
-pub scanned-start : (test : ℕ → Bool) (h : ℕ) → Scanned test h (h + 1)
-scanned-start test h = record { following = omega arith; clear = λ i a b. absurd (omega (arith, a, b)) }
-
 module _ {test : ℕ → Bool} {h j : ℕ} (n : Scanned test h j) where
   pub scanned-step : test j ≡ false → Scanned test h (j + 1)
   scanned-step e = record { following = omega (arith, n.following); clear = λ i a b. by_equal i j (λ q. rw q e) (λ q. n.clear i a (omega (arith, b, q))) }
 
   pub scanned-hit : {to : ℕ} → j < to → test j ≡ true → Narrowed test h to j
   scanned-hit l e = record { within = omega (arith, l); clear = n.clear; hit = λ _. (n.following, e) }
-
-  pub scanned-end : {to : ℕ} → to ≤ j → Narrowed test h to to
-  scanned-end {to} l = narrowed_none h to (λ i a b. n.clear i a (omega (arith, b, l)))
 
 pub path-test : (s : Store) (k : List ℕ) (j : ℕ) {t : List ℕ} {b : Bool} → b ≡ same k t → t ≡ path_at s j → is_at s (some k) j ≡ b
 unfolding key_is
@@ -136,26 +129,18 @@ module _ (s : Store) {o : Option (List ℕ)} {h least : ℕ} where
   pub alias-some : {k : List ℕ} {r : ℕ} → o ≡ some k → Narrowed (is_at s (some k)) h least r → Narrowed (is_at s o) h least r
   alias-some e = narrowed-as (λ j. ap (λ (x : Option (List ℕ)). is_at s x j) (sym e))
 
--- it is enough to search up to the last group with the path k
-module _ {s : Store} {k : List ℕ} {end h least to r : ℕ} (d : Keyed s k end) (e : to ≡ min end least) (n : Narrowed (is_at s (some k)) h to r) where
-  pub narrowed-less : r < to → Narrowed (is_at s (some k)) h least r
-  narrowed-less l = record { within = omega (arith, n.within, e); clear = n.clear; hit = λ _. n.hit l }
-
-  pub narrowed-not : least ≤ s.header.groups → to ≤ r → Narrowed (is_at s (some k)) h least least
-  narrowed-not few l = narrowed_none h least (λ j a b. by_order end j
-      (λ past. d.past j past (omega (arith, b, few)))
-      (λ before. n.clear j a (omega (arith, b, before, l, e))))
-
 -- ---- the chain of a key
 
 -- a key is as long as its path, or 6 or 9 bytes longer or shorter
-pub far-key : (t k : List ℕ) {d : ℕ} → d ≡ (length t - length k) + (length k - length t) → d ≢ 0 → d ≢ 6 → d ≢ 9 → has_key t k ≡ false
-far-key t k {d} e zero-not six-not nine-not = by-false (has_key t k) (λ h. ⊎_elim
-    (λ q. zero-not (omega (arith, ap length q, e)))
+pub key-lengths : (t k : List ℕ) {d : ℕ} → d ≡ (length t - length k) + (length k - length t) → (has_key t k ≡ false) ⊎ ((d ≡ 0) ⊎ ((d ≡ 6) ⊎ (d ≡ 9)))
+key-lengths t k {d} e = by-test (has_key t k)
+    (λ h. inr (⊎_elim
+    (λ q. inl (omega (arith, ap length q, e)))
     (⊎_elim
-    (λ q. ⊎_elim (λ l. nine-not (omega (arith, l, e))) (λ l. nine-not (omega (arith, l, e))) (default-length t q))
-    (λ q. ⊎_elim (λ l. six-not (omega (arith, l, e))) (λ l. six-not (omega (arith, l, e))) (core-length t q)))
-    (has-cases t k h))
+    (λ q. inr (inr (⊎_elim (λ l. omega (arith, l, e)) (λ l. omega (arith, l, e)) (default-length t q))))
+    (λ q. inr (inl (⊎_elim (λ l. omega (arith, l, e)) (λ l. omega (arith, l, e)) (core-length t q)))))
+    (has-cases t k h)))
+    (λ h. inl h)
 
 -- a path that does not have the key k has no entry for k
 none_of : (a b c : Bool) → (a || (b || c)) ≡ false → (a ≡ false) × (b ≡ false) × (c ≡ false)
@@ -232,18 +217,6 @@ narrowed-keys s h {t} et ed ec n m o = narrowed-as
     (narrowed-both n (narrowed-both m o))
 
 -- ---- the search
-
-pub sought-start : (test : ℕ → ℕ → Bool) (n : ℕ) → Sought test n 0 n
-sought-start test n = record { within = omega arith; clear = λ i j a. absurd (not-suc-le-zero a); hit = λ l. absurd (omega (arith, l)) }
-
-pub sought-step : {test : ℕ → ℕ → Bool} {n h least r : ℕ} → Sought test n h least → Narrowed (test h) h least r → Sought test n (h + 1) r
-sought-step {test} {n} {h} {least} {r} s k = record {
-  within = omega (arith, s.within, k.within);
-  clear = λ i j a b l. by_equal i h (λ q. rw q (k.clear j (omega (arith, b, q)) l)) (λ q. s.clear i j (omega (arith, a, q)) b (omega (arith, l, k.within)));
-  hit = λ l. by_order least r
-      (λ g. let same_place : r ≡ least = omega (arith, g, k.within) in rw same_place (s.hit (omega (arith, l, same_place))))
-      (λ g. record { earlier = h; before = (k.hit g).0; key = (k.hit g).1 });
-}
 
 module _ (s : Store) {n h least : ℕ} (e : n ≡ s.header.groups) (found : Sought (is_key_at s) n h least) (over : least ≤ h) where
   all-clear : (i j : ℕ) → i < j → j < least → is_key_at s i j ≡ false

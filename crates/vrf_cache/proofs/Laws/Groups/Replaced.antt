@@ -1,10 +1,12 @@
 -- `add_export_group` where only the index is found: the group is replaced, fields gone. Used by the proofs of `group_text` and
 -- `replace_at`.
-use Rattle.std.specs.Prelude.{◌≡◌, ◌≢◌, List, [], ◌∷◌, set, replicate}
+use Rattle.std.specs.Prelude.{◌≡◌, List, [], ◌∷◌, set, replicate, Err}
 use Rattle.std.proofs.Math.Path.{refl, sym, ap, ap₂}
 use Rattle.std.proofs.Common.{◌∙◌, add-one, add-zero, arith, le-ltb}
 use Prim.Native.Nat.{ℕ, zero, suc, ◌+◌, ◌-◌, ◌^◌, ◌<◌, ◌≤◌}
 use Rattle.std.proofs.Math.ListN.{length, get_or}
+use Rattle.std.proofs.Math.Option.{Option, none}
+use Rattle.vrf_bitio.specs.declared.Refusal.{Refusal}
 use Rattle.vrf_words.specs.Words.{part}
 use Rattle.vrf_model.specs.Book.{Slot, empty, filled, Group, Allowances, Content, sum, slot_fields, slot_text, group_fields, group_text}
 use Rattle.vrf_model.specs.Lookup.{place_or, index_place, slot_name, slot_at}
@@ -15,14 +17,13 @@ use Rattle.vrf_store.specs.Store.{allowances_of, header_of, store_of}
 use Rattle.vrf_store.specs.Inner.WellFormed.{WellFormed}
 use Rattle.vrf_store.specs.Inner.Stepped.{held, Stepped}
 use Rattle.vrf_store.specs.Inner.Fields.{emptied, with_group}
-use Rattle.vrf_store.specs.Inner.Opening.{or_zero}
 use Rattle.vrf_store.specs.Inner.Counters.{CountersStepped, replaced_alone}
 use Rattle.vrf_store.specs.Inner.Groups.{OldGroup, Emptied}
 use Rattle.vrf_store.proofs.Laws.Memory.UpTo.{sum_below-ext, sum_below-le}
 use Rattle.vrf_store.proofs.Laws.Counters.{counted-replacing}
 use Rattle.vrf_store.proofs.Laws.Groups.Replaced.{stepped-as}
 use Rattle.vrf_cache.specs.Inner.Taken.{Taken, NotTaken}
-use Rattle.vrf_cache.specs.Inner.Passed.{passed_by, passes_by}
+use Rattle.vrf_cache.specs.Inner.Passed.{passed_by, passes_by, FitsBy}
 use Rattle.vrf_cache.specs.Inner.Groups.{no_group, group_at, path_bytes, repath, GroupRequest, PathFits, PathWritten, replacing}
 use Rattle.vrf_cache.proofs.Laws.Taken.{then, counted-then}
 use Rattle.vrf_cache.proofs.Laws.Passed.{HeldCounts, counts-group-set}
@@ -100,8 +101,8 @@ unfolding passed_by
 fewer-fields b guids groups fields fewer text h k = rw (le-ltb _ _ k, le-ltb b.fields fewer (omega (arith, h, k)))
 
 -- w is the allowance that the new group would pass in place of group e
-module _ {m path : List ℕ} {e index slots w : ℕ} (asked : GroupRequest m path e index slots) (passes : w ≡ passes_by m 0 0 0 (group_text (group_at (held m) e)) (length path)) where
-  q : w ≡ or_zero (passed_by (allowances_of m) (header_of m).guids (header_of m).groups (header_of m).fields ((header_of m).held - group_text (group_at (held m) e) + length path))
+module _ {m path : List ℕ} {e index slots : ℕ} {w : Option ℕ} (asked : GroupRequest m path e index slots) (passes : w ≡ passes_by m 0 0 0 (group_text (group_at (held m) e)) (length path)) where
+  q : w ≡ passed_by (allowances_of m) (header_of m).guids (header_of m).groups (header_of m).fields ((header_of m).held - group_text (group_at (held m) e) + length path)
   q = rw (add-zero (header_of m).guids, add-zero (header_of m).groups, add-zero (header_of m).fields) at passes
 
   abbrev own : Group
@@ -128,13 +129,13 @@ module _ {m path : List ℕ} {e index slots w : ℕ} (asked : GroupRequest m pat
   unfolding with_groups
   replaced-allowed = allowed m
 
-  outcome : w ≡ or_zero (passed_by (allowances_of m) (header_of m).guids (header_of m).groups fewer ((header_of m).held - group_text own + length path))
-  outcome = q ∙ ap or_zero (fewer-fields (allowances_of m) (header_of m).guids (header_of m).groups (header_of m).fields fewer _ (omega arith) asked.good.valid.header.fields)
+  outcome : w ≡ passed_by (allowances_of m) (header_of m).guids (header_of m).groups fewer ((header_of m).held - group_text own + length path)
+  outcome = q ∙ fewer-fields (allowances_of m) (header_of m).guids (header_of m).groups (header_of m).fields fewer _ (omega arith) asked.good.valid.header.fields
 
-  pub replace-full : {m' : List ℕ} → w ≢ 0 → m' ≡ m → NotTaken (replacing (held m) e new) (record { number = 42; a = w; b = 0 }) m m'
+  pub replace-full : {m' : List ℕ} → {r : Refusal} → FitsBy w (Err r) → m' ≡ m → NotTaken (replacing (held m) e new) r m m'
   replace-full = full replaced-counts replaced-allowed outcome e replaced_step
 
-  module _ (z : w ≡ 0) {m₁ : List ℕ} (d : Stepped m m₁ (with_group (held m) e emptied)) where
+  module _ (z : w ≡ none) {m₁ : List ℕ} (d : Stepped m m₁ (with_group (held m) e emptied)) where
     own-now : group_at (held m₁) e ≡ emptied own
     own-now = ap (λ (x : Content). group_at x e) d.content ∙ group-set (held m) e there emptied
 

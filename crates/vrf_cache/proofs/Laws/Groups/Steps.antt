@@ -1,12 +1,13 @@
 -- `add_export_group` on a well-formed memory: what appending, merging and growing require of it, and that they make the model's steps. Used
 -- by the proofs of `groups`.
-use Rattle.std.specs.Prelude.{◌≡◌, ◌≢◌, true, ◌&&◌, ℕ, ◌+◌, ◌-◌, ◌<◌, ◌≤◌, eqb, replicate}
+use Rattle.std.specs.Prelude.{◌≡◌, true, ◌&&◌, ℕ, ◌+◌, ◌-◌, ◌<◌, ◌≤◌, eqb, replicate, Err}
 use Rattle.std.proofs.Math.Path.{refl, ap, subst}
 use Rattle.std.proofs.Common.{sym, ◌∙◌, add-zero, eqb-true}
 use mathlib.Core.List.{List, [], append-nil}
 use Rattle.std.proofs.Math.Option.{Option, none, some}
 use native.Mathlib.Omega.{arith}
 use Rattle.std.proofs.Math.ListN.{length}
+use Rattle.vrf_bitio.specs.declared.Refusal.{Refusal}
 use Rattle.vrf_path.specs.Text.{same}
 use Rattle.vrf_path.proofs.Laws.Text.{same_true}
 use Rattle.vrf_words.specs.Words.{part}
@@ -20,14 +21,13 @@ use Rattle.vrf_table.proofs.Laws.Chain.{Passes, last_below-passes}
 use Rattle.vrf_store.specs.Store.{allowances_of, header_of, store_of, group_by}
 use Rattle.vrf_store.specs.Inner.Stepped.{held, Stepped}
 use Rattle.vrf_store.specs.Inner.Fields.{with_group}
-use Rattle.vrf_store.specs.Inner.Opening.{or_zero}
 use Rattle.vrf_store.specs.Inner.Counters.{CountersStepped}
 use Rattle.vrf_store.specs.Inner.Groups.{grown_group, Only, OldGroup, NewGroup}
 use Rattle.vrf_store.proofs.Laws.Memory.UpTo.{and-true}
 use Rattle.vrf_store.proofs.Laws.Lookups.{group-at, index-found}
 use Rattle.vrf_store.proofs.Laws.Groups.Replaced.{stepped-as}
 use Rattle.vrf_cache.specs.Inner.Taken.{Taken, NotTaken}
-use Rattle.vrf_cache.specs.Inner.Passed.{passed_by, passes_by}
+use Rattle.vrf_cache.specs.Inner.Passed.{passed_by, passes_by, FitsBy}
 use Rattle.vrf_cache.specs.Inner.Texts.{TextWritten}
 use Rattle.vrf_cache.specs.Inner.Groups.{group_at, path_bytes, with_new, appending, GroupToAdd, repath, GroupRequest, PathFits, PathReleased, PathWritten, merging}
 use Rattle.vrf_cache.proofs.Laws.Taken.{then, same_then, counted-then}
@@ -50,8 +50,8 @@ new-text path index slots = omega (arith, sum-none slot_text {a = empty} slots r
 -- ---- one more group
 
 -- w is the allowance that one more group would pass
-module _ {m path : List ℕ} {index slots w : ℕ} (asked : GroupToAdd m path index slots) (passes : w ≡ passes_by m 0 1 0 0 (length path)) where
-  e : w ≡ or_zero (passed_by (allowances_of m) (header_of m).guids ((header_of m).groups + 1) (header_of m).fields ((header_of m).held + length path))
+module _ {m path : List ℕ} {index slots : ℕ} {w : Option ℕ} (asked : GroupToAdd m path index slots) (passes : w ≡ passes_by m 0 1 0 0 (length path)) where
+  e : w ≡ passed_by (allowances_of m) (header_of m).guids ((header_of m).groups + 1) (header_of m).fields ((header_of m).held + length path)
   e = let whole : (header_of m).held - 0 ≡ (header_of m).held = omega arith in rw (add-zero (header_of m).guids, add-zero (header_of m).fields, whole) at passes
 
   abbrev new : Group
@@ -64,10 +64,10 @@ module _ {m path : List ℕ} {index slots w : ℕ} (asked : GroupToAdd m path in
   unfolding with_groups
   added-allowed = allowed m
 
-  pub new-full : {m' : List ℕ} → w ≢ 0 → m' ≡ m → NotTaken (appending (held m) new) (record { number = 42; a = w; b = 0 }) m m'
+  pub new-full : {m' : List ℕ} → {r : Refusal} → FitsBy w (Err r) → m' ≡ m → NotTaken (appending (held m) new) r m m'
   new-full = full added-counts added-allowed e (length (held m).groups) schema_step
 
-  module _ (z : w ≡ 0) where
+  module _ (z : w ≡ none) where
     new-allows : CountsAllowed (allowances_of m) (header_of m).guids ((header_of m).groups + 1) (header_of m).fields ((header_of m).held + length path)
     new-allows = allows added-counts added-allowed e z
 
@@ -189,8 +189,8 @@ merged-text path index slots g =
     omega (arith, sum-append slot_text g.slots (replicate (slots - length g.slots) empty), None-more)
 
 -- w is the allowance that group e would pass with this path
-module _ {m path : List ℕ} {e index slots w : ℕ} (asked : GroupRequest m path e index slots) (passes : w ≡ passes_by m 0 0 0 (path_bytes (held m) e) (length path)) where
-  q : w ≡ or_zero (passed_by (allowances_of m) (header_of m).guids (header_of m).groups (header_of m).fields ((header_of m).held - path_bytes (held m) e + length path))
+module _ {m path : List ℕ} {e index slots : ℕ} {w : Option ℕ} (asked : GroupRequest m path e index slots) (passes : w ≡ passes_by m 0 0 0 (path_bytes (held m) e) (length path)) where
+  q : w ≡ passed_by (allowances_of m) (header_of m).guids (header_of m).groups (header_of m).fields ((header_of m).held - path_bytes (held m) e + length path)
   q = rw (add-zero (header_of m).guids, add-zero (header_of m).groups, add-zero (header_of m).fields) at passes
 
   abbrev by : Group → Group
@@ -209,10 +209,10 @@ module _ {m path : List ℕ} {e index slots w : ℕ} (asked : GroupRequest m pat
   merged-allowed : (with_group (held m) e by).allowed ≡ allowances_of m
   merged-allowed = changed-allowed asked.good asked.known by
 
-  pub merge-full : {m' : List ℕ} → w ≢ 0 → m' ≡ m → NotTaken (merging (held m) e path index slots) (record { number = 42; a = w; b = 0 }) m m'
+  pub merge-full : {m' : List ℕ} → {r : Refusal} → FitsBy w (Err r) → m' ≡ m → NotTaken (merging (held m) e path index slots) r m m'
   merge-full = full merged-counts merged-allowed q e schema_step
 
-  module _ (z : w ≡ 0) where
+  module _ (z : w ≡ none) where
     pub merge-fits : PathFits m e (length path)
     merge-fits = record { good = asked.good; known = asked.known; space = (allows merged-counts merged-allowed q z).text-fits }
 
@@ -243,5 +243,5 @@ module _ {m path : List ℕ} {e index slots : ℕ} (asked : GroupRequest m path 
 
   pub grow-taken : {m₁ m₂ : List ℕ} → Stepped m m₁ (with_group (held m) e (grown_group slots)) → CountersStepped m₁ m₂ schema_step → Taken (merging (held m) e path index slots) e m m₂
   grow-taken s k =
-      merged {w = 0} asked (rw (add-zero (header_of m).guids, add-zero (header_of m).groups, add-zero (header_of m).fields, same-held, within asked.good)) refl
+      merged asked (rw (add-zero (header_of m).guids, add-zero (header_of m).groups, add-zero (header_of m).fields, same-held) (sym (within asked.good))) refl
       (stepped-as s (changed-alike (held m) e (listed asked.good asked.known) (grown_group slots) (merged_group path index slots) only-grown)) k

@@ -1,21 +1,33 @@
 -- `vrf_reader::objects::load_object` satisfies its contract. It calls itself with less depth left.
-use Rattle.vrf_reader.specs.Inner.Simulates.{number_outcome}
-use Rattle.vrf_reader.proofs.Laws.Objects.{too-deep, object-refused, object-ends, outer-refused, outer-then}
+use Rattle.vrf_reader.proofs.Laws.Simulates.{passed-on}
+use Rattle.vrf_reader.proofs.Laws.Objects.{too-deep, object-refused, object-zero, object-flagless, object-pathless, outer-refused, outer-then}
 use Rattle.vrf_reader.proofs.objects.+load_object.Goals as goal
 
 pub returns-then-left-eq0 : goal.returns-then-left-eq0
 returns-then-left-eq0 t c = too-deep _ _ c.requires.0 c.if-left-eq0.true
 
-pub returns-in-Refused : goal.returns-in-Refused
-returns-in-Refused t c = object-refused _ c.if-left-eq0.false c.requires.0 _ (rw c.in-Refused.is at c.read_head.ensures)
+pub returns-in_err-guid : goal.returns-in_err-guid
+returns-in_err-guid t c =
+    passed-on _ _ _ c.from_residual.ensures.1 (object-refused _ _ c.if-left-eq0.false c.requires.0 _ c.in_err-guid.ensures.0)
 
-pub returns-in-Ends : goal.returns-in-Ends
-returns-in-Ends t c = object-ends _ c.if-left-eq0.false c.requires.0 _ (rw c.in-Ends.is at c.read_head.ensures)
+pub returns-then-guid-eq0 : goal.returns-then-guid-eq0
+returns-then-guid-eq0 t c = object-zero _ _ c.if-left-eq0.false c.requires.0 c.in_ok-guid.ensures c.if-guid-eq0.true
 
-pub returns-in-Refused-load_object : goal.returns-in-Refused-load_object
-returns-in-Refused-load_object t c =
-    outer-refused _ c.if-left-eq0.false c.requires.0 (rw c.in-Path.is at c.read_head.ensures) _ (rw c.in-Refused-load_object.is at c.load_object.ensures)
+pub returns-in_err-flags : goal.returns-in_err-flags
+returns-in_err-flags t c =
+    passed-on _ _ _ c.from_residual-in_err-flags.ensures.1 (object-flagless _ _ c.if-left-eq0.false c.requires.0 c.in_ok-guid.ensures c.if-guid-eq0.false _ c.in_err-flags.ensures)
 
-pub returns-in-Of : goal.returns-in-Of
-returns-in-Of t c =
-    outer-then _ c.if-left-eq0.false c.requires.0 (rw c.in-Path.is at c.read_head.ensures) _ (rw c.in-Of.is at c.load_object.ensures) _ (number_outcome c.record_object.result) c.record_object.ensures
+pub returns-then-flags-ne1 : goal.returns-then-flags-ne1
+returns-then-flags-ne1 t c =
+    object-pathless _ _ c.if-left-eq0.false c.requires.0 c.in_ok-guid.ensures c.if-guid-eq0.false c.in_ok-flags.ensures c.if-flags-ne1.true
+
+pub returns-in_err-outer : goal.returns-in_err-outer
+returns-in_err-outer t c =
+    passed-on _ _ _ c.from_residual-in_err-outer.ensures.1
+    (outer-refused _ _ c.if-left-eq0.false c.requires.0 c.in_ok-guid.ensures c.if-guid-eq0.false c.in_ok-flags.ensures c.if-flags-ne1.false
+    _ c.in_err-outer.ensures)
+
+pub returns : goal.returns
+returns t c =
+    outer-then _ _ c.if-left-eq0.false c.requires.0 c.in_ok-guid.ensures c.if-guid-eq0.false c.in_ok-flags.ensures c.if-flags-ne1.false
+    _ c.in_ok-outer.ensures _ _ c.record_object.result c.record_object.ensures

@@ -11,7 +11,7 @@ returns-then-exporting c =
       | then-exporting-via-then-exporting w ↦ rw w.if-exporting.true
       | then-exporting-via-else-exporting+then-guid-eq1 w ↦ rw (w.if-exporting.false, w.if-guid-eq1.true)
     ])
-    c.read_u8.result c.read_u8.ensures
+    _ c.read_u8.result c.read_u8.ensures
 
 pub returns : goal.returns
 returns c = flags-none _ _ (rw (c.if-exporting.false, ne_eqb c.args.guid 1 c.if-guid-eq1.false))

@@ -1,5 +1,6 @@
 -- Laws about the row of a slot and about outers. The lookups, `vrf_cache` and `vrf_writer` use them.
 use Rattle.std.specs.Prelude.{◌≡◌, ℕ, zero, suc, ◌/◌, ◌%◌, ◌<◌, cond, List, [], ◌∷◌, ◌==◌}
+use Rattle.std.specs.Prelude.{Option as Answer, Some, None}
 use Rattle.std.proofs.Math.Path.{refl, sym, ap}
 use Rattle.std.proofs.Common.{◌∙◌, arith}
 use Rattle.std.proofs.Math.Option.{Option, none, some}
@@ -10,8 +11,6 @@ use Rattle.vrf_model.specs.Lookup.{place_or, slot_at, outer_of}
 use Rattle.vrf_table.specs.Table.{key, link, info, key_hit, key_start, find_key}
 use Rattle.vrf_table.specs.Inner.Answers.{entry}
 use Rattle.vrf_table.proofs.Laws.Chain.{Passes, walk-passes}
-use Rattle.vrf_table.specs.declared.Entry.{Entry}
-use Rattle.vrf_table.specs.declared.Entry.TheVariants.{At, Nowhere}
 use Rattle.vrf_store.specs.Layout
 use Rattle.vrf_store.specs.Store.{Store, field_at, or_empty, slot_key, content_of}
 use Rattle.vrf_store.specs.Inner.Valid.{Valid}
@@ -60,16 +59,16 @@ module _ {s : Store} (v : Valid s) (place slot : ℕ) where
           (λ low. rw (lt-ltb slot 65536 low, miss low))
 
   -- r is the row that was found for the slot. A slot with a row holds its field, and a slot without a row is empty
-  module _ {r : Entry} (er : entry r ≡ slot_row s place slot) where
-    pub slot-filled : {e : ℕ} → r ≡ At e → slot_at (content_of s).groups place slot ≡ field_at s e
+  module _ {r : Answer ℕ} (er : entry r ≡ slot_row s place slot) where
+    pub slot-filled : {e : ℕ} → r ≡ Some e → slot_at (content_of s).groups place slot ≡ field_at s e
     unfolding or_empty
     slot-filled q = slot-row ∙ ap (or_empty (field_at s)) (sym er ∙ ap entry q)
 
-    pub slot-empty : r ≡ Nowhere → slot_at (content_of s).groups place slot ≡ empty
+    pub slot-empty : r ≡ None → slot_at (content_of s).groups place slot ≡ empty
     unfolding or_empty
     slot-empty q = slot-row ∙ ap (or_empty (field_at s)) (sym er ∙ ap entry q)
 
-    pub slot-row-below : {e : ℕ} → r ≡ At e → e < s.header.fields
+    pub slot-row-below : {e : ℕ} → r ≡ Some e → e < s.header.fields
     unfolding slot_row
     slot-row-below {e} q =
         let there : slot_row s place slot ≡ some e = sym er ∙ ap entry q in

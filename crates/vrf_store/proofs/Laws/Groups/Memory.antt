@@ -14,7 +14,8 @@ use Rattle.vrf_store.specs.Inner.Valid.{Shaped}
 use Rattle.vrf_store.specs.Inner.WellFormed.{Enough}
 use Rattle.vrf_store.specs.Inner.Check.{Walked}
 use Rattle.vrf_store.specs.Inner.Memory.{WrittenStore}
-use Rattle.vrf_store.specs.Inner.Groups.{linked, headed, BucketBelow, push_key, push_path, push_leaf, Indexed, Relinked, Indexable, Pushable, MoreIndexed, bucketed, BucketsOf}
+use Rattle.vrf_store.specs.Inner.Groups.{linked, headed, BucketBelow, push_key, push_path, push_leaf, Indexed, Relinked, Indexable, Pushable, MoreIndexed, BucketsOf}
+use Rattle.vrf_table.specs.Inner.Answers.{entry}
 use Rattle.vrf_store.proofs.Laws.Memory.Written.{unwritten, wrote-group_table, wrote-path_index, wrote-leaf_index}
 use Rattle.vrf_store.proofs.Laws.Check.Valid.{need-shaped}
 use Rattle.vrf_store.proofs.Laws.Groups.TextIndex.{length-linked, length-headed}
@@ -108,12 +109,12 @@ pushable {m} {m'} {o = o} n b e i w low same below =
     }
 
 module _ {m m₁ m₂ m₃ m₄ m₅ : List ℕ} {g : ℕ} {r : Buckets} (b : BucketsOf (store_of m) g r) where
-  pub group-written : WrittenStore m m₁ (push_key (store_of m) g (bucketed r.key)) → WrittenStore m₁ m₂ (push_path (store_of m₁) (3 * g) (bucketed r.own))
-      → WrittenStore m₂ m₃ (push_path (store_of m₂) (3 * g + 1) (bucketed r.default)) → WrittenStore m₃ m₄ (push_path (store_of m₃) (3 * g + 2) (bucketed r.core))
-      → WrittenStore m₄ m₅ (push_leaf (store_of m₄) g (bucketed r.leaf)) → WrittenStore m m₅ (index_group (store_of m) g)
+  pub group-written : WrittenStore m m₁ (push_key (store_of m) g (entry r.key)) → WrittenStore m₁ m₂ (push_path (store_of m₁) (3 * g) (entry r.own))
+      → WrittenStore m₂ m₃ (push_path (store_of m₂) (3 * g + 1) (entry r.default)) → WrittenStore m₃ m₄ (push_path (store_of m₃) (3 * g + 2) (entry r.core))
+      → WrittenStore m₄ m₅ (push_leaf (store_of m₄) g (entry r.leaf)) → WrittenStore m m₅ (index_group (store_of m) g)
   unfolding index_group
   group-written w₁ w₂ w₃ w₄ w₅ =
-      let all = then (λ z. push_leaf z g (bucketed r.leaf)) (then (λ z. push_path z (3 * g + 2) (bucketed r.core)) (then (λ z. push_path z (3 * g + 1) (bucketed r.default)) (then (λ z. push_path z (3 * g) (bucketed r.own)) w₁ w₂) w₃) w₄) w₅ in
+      let all = then (λ z. push_leaf z g (entry r.leaf)) (then (λ z. push_path z (3 * g + 2) (entry r.core)) (then (λ z. push_path z (3 * g + 1) (entry r.default)) (then (λ z. push_path z (3 * g) (entry r.own)) w₁ w₂) w₃) w₄) w₅ in
       rw (b.key, b.own, b.default, b.core, b.leaf) at all
 
 bytes-heads : (h : Header) (m : List ℕ) → Bytes m → Heads (store_by h m)

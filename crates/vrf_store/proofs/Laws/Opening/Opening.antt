@@ -1,5 +1,5 @@
 -- Laws for `open` and `clear_book`: when opening is refused, and the memory afterwards.
-use Rattle.std.specs.Prelude.{◌≡◌, ℕ, ◌+◌, ◌*◌, ◌^◌, ◌<◌, ◌≤◌, List, length, replicate, nat_lt}
+use Rattle.std.specs.Prelude.{◌≡◌, ℕ, ◌+◌, ◌*◌, ◌^◌, ◌<◌, ◌≤◌, List, length, replicate, nat_lt, Option as Answer, Some, None}
 use Rattle.std.proofs.Math.Path.{refl, ap}
 use Rattle.std.proofs.Common.{sym, ◌∙◌, arith}
 use Rattle.std.proofs.Math.Option.{Option, none, some}
@@ -7,17 +7,18 @@ use Rattle.std.proofs.lemmas.List.{length-replicate}
 use borrow.Author.Tests.{ltb-false, lt-ltb, le-ltb}
 use Rattle.vrf_bitio.specs.Pasted.{pasted}
 use Rattle.vrf_bitio.proofs.Laws.Pasted.{pasted_length}
-use Rattle.vrf_bitio.proofs.Laws.Cases.{by_cond}
+use Rattle.vrf_bitio.proofs.Laws.Cases.{by_cond, clash}
 use Rattle.vrf_words.specs.Words.{word}
 use Rattle.vrf_words.specs.Inner.Words.{set_word}
 use Rattle.vrf_model.specs.Book.{Allowances, zero_counters, fresh, fresh_book}
 use Rattle.vrf_model.specs.Lawful.{Allowed}
+use Rattle.vrf_table.specs.Inner.Answers.{entry}
 use Rattle.vrf_store.specs.Layout
 use Rattle.vrf_store.specs.Store.{Header, allowances_of, header_of, long, counters_of, words, store_of, content_of, book_of}
 use Rattle.vrf_store.specs.Opening.{above_top, opened, not_opened, unless_short, unless_above, opening, zero_above, memory_needed}
 use Rattle.vrf_store.specs.Inner.WellFormed.{WellFormed}
 use Rattle.vrf_store.specs.Inner.Stepped.{Stepped, held}
-use Rattle.vrf_store.specs.Inner.Opening.{FreshMemory, or_zero, BetweenWritten, empty_header}
+use Rattle.vrf_store.specs.Inner.Opening.{FreshMemory, BetweenWritten, empty_header}
 use Rattle.vrf_store.proofs.Laws.Memory.Regions.{above as words-above}
 use Rattle.vrf_store.proofs.Laws.Memory.Header.{header-kept, counters-kept}
 use Rattle.vrf_store.proofs.Laws.Memory.HeaderWords.{has-now, has-header, has-counters, has_word, has-zeros}
@@ -25,57 +26,50 @@ use Rattle.vrf_store.proofs.Laws.Opening.Empty.{empty-good, empty-held}
 
 -- ---- allowances above their tops
 
--- a number above 0 is the number of an allowance
-above : (o : Option ℕ) → 0 < or_zero o → o ≡ some (or_zero o)
-above none h = absurd (omega arith)
-above (some which) h = refl
-
 module _ (a : Allowances) where
-  -- the number is 0: every allowance is within its top
-  record Topped (o : Option ℕ) : Type 0 where
-    tops : Allowed a
-    is_none : o ≡ none
-
-  within : or_zero (above_top a) ≡ 0 → Topped (above_top a)
+  within : above_top a ≡ none → Allowed a
   unfolding above_top
   within =
-      by_cond (λ (o : Option ℕ). or_zero o ≡ 0 → Topped o) (nat_lt 1000000 a.guids) (λ e z. absurd (omega arith)) (λ g.
-      by_cond (λ (o : Option ℕ). or_zero o ≡ 0 → Topped o) (nat_lt 100000 a.groups) (λ e z. absurd (omega arith)) (λ r.
-      by_cond (λ (o : Option ℕ). or_zero o ≡ 0 → Topped o) (nat_lt 1000000 a.fields) (λ e z. absurd (omega arith)) (λ f.
-      by_cond (λ (o : Option ℕ). or_zero o ≡ 0 → Topped o) (nat_lt 67108864 a.text) (λ e z. absurd (omega arith)) (λ t.
-      by_cond (λ (o : Option ℕ). or_zero o ≡ 0 → Topped o) (nat_lt 1000000 a.literals) (λ e z. absurd (omega arith)) (λ l z.
-      record {
-        tops = record { guids = ltb-false 1000000 a.guids g; groups = ltb-false 100000 a.groups r; fields = ltb-false 1000000 a.fields f; text = ltb-false 67108864 a.text t; literals = ltb-false 1000000 a.literals l };
-        is_none = refl;
-      })))))
+      by_cond (λ (o : Option ℕ). o ≡ none → Allowed a) (nat_lt 1000000 a.guids) (λ e z. clash (cc)) (λ g.
+      by_cond (λ (o : Option ℕ). o ≡ none → Allowed a) (nat_lt 100000 a.groups) (λ e z. clash (cc)) (λ r.
+      by_cond (λ (o : Option ℕ). o ≡ none → Allowed a) (nat_lt 1000000 a.fields) (λ e z. clash (cc)) (λ f.
+      by_cond (λ (o : Option ℕ). o ≡ none → Allowed a) (nat_lt 67108864 a.text) (λ e z. clash (cc)) (λ t.
+      by_cond (λ (o : Option ℕ). o ≡ none → Allowed a) (nat_lt 1000000 a.literals) (λ e z. clash (cc)) (λ l z.
+      record { guids = ltb-false 1000000 a.guids g; groups = ltb-false 100000 a.groups r; fields = ltb-false 1000000 a.fields f; text = ltb-false 67108864 a.text t; literals = ltb-false 1000000 a.literals l })))))
 
-  module _ {which : ℕ} (e : which ≡ or_zero (above_top a)) where
-    zero : which ≤ 0 → or_zero (above_top a) ≡ 0
-    zero h = omega arith
+  -- r is the number of the allowance that is above its top, if one is
+  module _ {r : Answer ℕ} (e : entry r ≡ above_top a) where
+    module _ {which : ℕ} (h : r ≡ Some which) where
+      there : above_top a ≡ some which
+      there = sym e ∙ ap entry h
 
-    pub within-tops : which ≤ 0 → Allowed a
-    within-tops h = (within (zero h)).tops
+      pub needed-above : memory_needed a ≡ 0
+      unfolding memory_needed zero_above
+      needed-above = rw there
 
-    pub needed-above : 0 < which → memory_needed a ≡ 0
-    unfolding memory_needed zero_above
-    needed-above h = let s : above_top a ≡ some (or_zero (above_top a)) = above (above_top a) (omega arith) in rw s
-
-    pub needed-within : which ≤ 0 → memory_needed a ≡ Layout.need a
-    unfolding memory_needed zero_above
-    needed-within h = rw (within (zero h)).is_none
-
-    module _ (n : ℕ) where
-      pub refused-above : 0 < which → opening a n ≡ not_opened 1 which 0
+      pub refused-above : (n : ℕ) → opening a n ≡ not_opened 1 which 0
       unfolding opening unless_above
-      refused-above h = let s : above_top a ≡ some which = above (above_top a) (omega arith) ∙ ap some (sym e) in rw s
+      refused-above n = rw there
 
-      pub refused-short : {bytes : ℕ} → which ≤ 0 → bytes ≡ Layout.need a → n < bytes → opening a n ≡ not_opened 3 bytes 0
-      unfolding opening unless_above unless_short
-      refused-short h q k = rw ((within (zero h)).is_none, lt-ltb n (Layout.need a) (omega arith), q)
+    module _ (h : r ≡ None) where
+      none-there : above_top a ≡ none
+      none-there = sym e ∙ ap entry h
 
-      pub accepted : which ≤ 0 → Layout.need a ≤ n → opening a n ≡ opened
-      unfolding opening unless_above unless_short
-      accepted h k = rw ((within (zero h)).is_none, le-ltb n (Layout.need a) k)
+      pub within-tops : Allowed a
+      within-tops = within none-there
+
+      pub needed-within : memory_needed a ≡ Layout.need a
+      unfolding memory_needed zero_above
+      needed-within = rw none-there
+
+      module _ (n : ℕ) where
+        pub refused-short : {bytes : ℕ} → bytes ≡ Layout.need a → n < bytes → opening a n ≡ not_opened 3 bytes 0
+        unfolding opening unless_above unless_short
+        refused-short q k = rw (none-there, lt-ltb n (Layout.need a) (omega arith), q)
+
+        pub accepted : Layout.need a ≤ n → opening a n ≡ opened
+        unfolding opening unless_above unless_short
+        accepted k = rw (none-there, le-ltb n (Layout.need a) k)
 
 -- ---- writing the header of a book that holds nothing: the allowances, then zeros
 

@@ -1,5 +1,5 @@
 -- `vrf_store::groups::grow_group` satisfies its contract: the law `grow-stepped` gives the memory after the write, if there is one.
-use Rattle.std.proofs.Common.{arith, rules}
+use Rattle.std.proofs.Common.{arith}
 use Rattle.vrf_store.proofs.Laws.Groups.Merged.{info-word, grow-stepped, grow-skipped}
 use Rattle.vrf_store.proofs.groups.grow_group.Goals as goal
 

@@ -1,5 +1,5 @@
 -- `vrf_store::look::slot_row` satisfies its contract.
-use Rattle.std.proofs.Common.{rules, le-ltb, lt-ltb}
+use Rattle.std.proofs.Common.{le-ltb, lt-ltb}
 use Rattle.vrf_store.specs.Inner.Fields.{slot_row}
 use Rattle.vrf_store.proofs.look.slot_row.Goals as goal
 

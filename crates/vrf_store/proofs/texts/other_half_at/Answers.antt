@@ -1,6 +1,6 @@
 -- `vrf_store::texts::other_half_at` satisfies its contract: the halves are adjacent, so the other half begins one length before or after.
-use Rattle.std.proofs.Common.{◌≡◌, ◌+◌, ◌-◌, sym, ◌∙◌, arith, rules}
-use Rattle.vrf_store.specs.Store.{allowances_of, header_of, half_at}
+use Rattle.std.proofs.Common.{sym, ◌∙◌, arith}
+use Rattle.vrf_store.specs.Store.{allowances_of, header_of}
 use Rattle.vrf_store.proofs.Laws.Memory.Regions.{half-within}
 use Rattle.vrf_store.proofs.Laws.Texts.Compacted.{half-following, half-before}
 use Rattle.vrf_store.proofs.texts.other_half_at.Goals as goal

@@ -1,4 +1,4 @@
--- `vrf_writer::groups::put_groups` satisfies its contract: after an iteration, one more group is written.
+-- After an iteration, one more group is written.
 use Rattle.std.proofs.Common.{refl, arith}
 use Rattle.vrf_store.specs.Store.{store_of}
 use Rattle.vrf_writer.proofs.Laws.Prefix.{writes_as, fits-as, under-space, last-lent}
@@ -7,7 +7,7 @@ use Rattle.vrf_writer.proofs.Laws.Groups.{groups-code}
 use Rattle.vrf_writer.proofs.groups.put_groups.Goals as goal
 
 pub loop-g-init : goal.loop-g-init
-loop-g-init c = sent-start (fits-as (groups-code (store_of c.args.m.now) c.groups-n.ensures) c.requires.1)
+loop-g-init c = sent-start (fits-as (groups-code (store_of c.args.m.now) refl) c.requires.1)
 
 pub slice_bounds-put_group-count : goal.slice_bounds-put_group-count
 slice_bounds-put_group-count c = omega (arith, under-space (sent-under c.loop-g.invariant (omega arith)))
@@ -16,7 +16,7 @@ pub slice_bounds-put_group-start : goal.slice_bounds-put_group-start
 slice_bounds-put_group-start c = omega (arith, under-space (sent-under c.loop-g.invariant (omega arith)))
 
 pub put_group-at-requires : goal.put_group-at-requires
-put_group-at-requires c = (c.requires.0, omega (arith, c.groups-n.ensures), last-lent (sent-under c.loop-g.invariant (omega arith)) refl)
+put_group-at-requires c = (c.requires.0, omega arith, last-lent (sent-under c.loop-g.invariant (omega arith)) refl)
 
 pub overflow_add-at : goal.overflow_add-at
 overflow_add-at c = omega (arith, c, sent-space (sent-step c.loop-g.invariant (omega arith) c.put_group-at.ensures))
@@ -28,4 +28,4 @@ pub shape_of-out : goal.shape_of-out
 shape_of-out c = sent-long c.loop-g.invariant
 
 pub returns : goal.returns
-returns c = writes_as (groups-code (store_of c.args.m.now) c.groups-n.ensures) (sent-end c.loop-g.invariant (omega arith))
+returns c = writes_as (groups-code (store_of c.args.m.now) refl) (sent-end c.loop-g.invariant (omega arith))

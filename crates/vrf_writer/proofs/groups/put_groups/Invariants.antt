@@ -1,13 +1,9 @@
 -- After an iteration, one more group is written.
-use Rattle.std.proofs.Common.{◌-◌}
 use Rattle.vrf_model.specs.Writer.{encode_group}
-use Rattle.vrf_store.specs.Store.{store_of}
+use Rattle.vrf_store.specs.Store.{header_of, store_of}
 use Rattle.vrf_writer.specs.Inner.Groups.{group_at}
 use Rattle.vrf_writer.proofs.Laws.Each.{Sent}
 use Rattle.vrf_writer.proofs.groups.put_groups.Given as goal
 
 abbrev pub invariant-loop-g : goal.invariant-loop-g
-invariant-loop-g l = Sent encode_group (group_at (store_of l.m)) l.n l.initial.out l.out l.at l.g
-
-abbrev pub decreases-loop-g : goal.decreases-loop-g
-decreases-loop-g l = l.n - l.g
+invariant-loop-g l = Sent encode_group (group_at (store_of l.m)) (header_of l.m).groups l.initial.out l.out l.at l.g

@@ -1,0 +1,17 @@
+-- `vrf_bitio::BitReader::read_u32` satisfies its contract: the 32 bits at the position are the next four bytes left there.
+use Rattle.std.proofs.Common.{arith}
+use Rattle.std.proofs.lemmas.Result.{err_from_is_err_and}
+use Rattle.vrf_bitio.proofs.Laws.Window.{word-lacks, word-found}
+use Rattle.vrf_bitio.proofs.Readers.{gave-moved}
+use Rattle.vrf_bitio.proofs.BitReader.read_u32.Goals as goal
+
+pub returns-in_err-take_bits : goal.returns-in_err-take_bits
+returns-in_err-take_bits c =
+    let t = c.in_err-take_bits.ensures in
+    let p = err_from_is_err_and c.from_residual.result c.from_residual.ensures.1 in
+    rw (p.1, p.2) (rw t.1.0 (word-lacks _ _ _ _ (omega arith)), t.1.1)
+
+pub returns : goal.returns
+returns c =
+    let t = c.in_ok-take_bits.ensures in
+    gave-moved c.args.self.now _ t.1.1.1 (rw t.1.0 (word-found _ _ _ _ (omega arith)))

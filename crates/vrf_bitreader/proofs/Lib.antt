@@ -1,2 +1,0 @@
--- The window of a whole slice.
-pub mod Whole

@@ -1,0 +1,7 @@
+-- `vrf_reader::fields::read_net_field_exports` satisfies its contract: a run of exports.
+use Rattle.vrf_model.specs.Runs.{fields_run}
+use Rattle.vrf_reader.proofs.fields.read_net_field_exports.Goals as goal
+
+pub returns : goal.returns
+unfolding fields_run
+returns c = c.read_run.ensures

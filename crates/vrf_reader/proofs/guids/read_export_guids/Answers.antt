@@ -1,0 +1,7 @@
+-- `vrf_reader::guids::read_export_guids` satisfies its contract: a run of objects in payloads.
+use Rattle.vrf_model.specs.Runs.{guid_run}
+use Rattle.vrf_reader.proofs.guids.read_export_guids.Goals as goal
+
+pub returns : goal.returns
+unfolding guid_run
+returns c = c.read_run.ensures

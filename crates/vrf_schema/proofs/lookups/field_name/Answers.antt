@@ -1,0 +1,15 @@
+-- `vrf_schema::lookups::field_name` satisfies its contract.
+use Rattle.std.proofs.lemmas.Result.{err_from_is_err_and}
+use Rattle.vrf_model.specs.Calls.{if_text_accepted, look_groups, look_guids, look}
+use Rattle.vrf_schema.proofs.Laws.Checked.{call-refused, admitted-good, looked}
+use Rattle.vrf_schema.proofs.lookups.field_name.Goals as goal
+
+pub returns-in_err-check_book : goal.returns-in_err-check_book
+returns-in_err-check_book c = let p = err_from_is_err_and c.from_residual.result c.from_residual.ensures.1 in rw (p.1, p.2) (call-refused _ c.in_err-check_book.ensures)
+
+pub field_name-requires : goal.field_name-requires
+field_name-requires c = admitted-good c.in_ok-check_book.ensures
+
+pub returns : goal.returns
+unfolding if_text_accepted look_groups look_guids look
+returns c = search (looked, c.in_ok-check_book.ensures, c.field_name.ensures)

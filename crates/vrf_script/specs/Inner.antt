@@ -1,2 +1,0 @@
--- Bounds of what is read from a script.
-pub mod Bounds

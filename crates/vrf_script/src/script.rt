@@ -1,0 +1,123 @@
+// Reads the items of a script.
+use std::fmt;
+
+// Why a run ends before its script does.
+#[derive(Clone, Copy, Debug, PartialEq, Eq)]
+pub enum Stop {
+    // The bytes are not a script, or the script ends within a call.
+    NoScript,
+    // No call has the byte that was read.
+    NoSuchCall,
+    // The player does not have enough space for the call.
+    TooLarge,
+}
+
+impl fmt::Display for Stop {
+    fn fmt<W: fmt::Write>(&self, f: &mut fmt::Formatter<W>) -> fmt::Result {
+        match self {
+            Stop::NoScript => write!(f, "no script"),
+            Stop::NoSuchCall => write!(f, "no such call"),
+            Stop::TooLarge => write!(f, "too large"),
+        }
+    }
+}
+
+// Only so that `?` passes on the result of `write!`: an answer that does not fit is cut, and is no error.
+impl From<fmt::Error> for Stop {
+    fn from(_e: fmt::Error) -> Stop {
+        Stop::TooLarge
+    }
+}
+
+// A blob of at least this length is a filled one.
+const FILLED: usize = 0x8000_0000;
+
+// A blob is bytes of the script. A filled blob is bytes of the script, and then the fill byte up to its length.
+#[derive(Clone, Copy)]
+pub enum Blob<'a> {
+    Given(&'a [u8]),
+    Filled {
+        head: &'a [u8],
+        len: usize,
+        fill: u8,
+    },
+}
+
+impl<'a> Blob<'a> {
+    // The bytes of a blob. A filled one is laid out at the front of the scratch buffer.
+    pub fn bytes<'b>(self, scratch: &'b mut [u8]) -> Result<&'b [u8], Stop>
+    where
+        'a: 'b,
+    {
+        match self {
+            Blob::Given(bytes) => Ok(bytes),
+            Blob::Filled { head, len, fill } => {
+                let Some((all, _)) = scratch.split_at_mut_checked(len) else {
+                    return Err(Stop::TooLarge);
+                };
+                let Some((first, others)) = all.split_at_mut_checked(head.len()) else {
+                    return Err(Stop::NoScript);
+                };
+                first.copy_from_slice(head);
+                others.fill(fill);
+                Ok(all)
+            }
+        }
+    }
+}
+
+// The part of a script that is still to be read.
+#[derive(Clone, Copy)]
+pub struct Script<'a> {
+    rest: &'a [u8],
+}
+
+impl<'a> Script<'a> {
+    pub fn new(bytes: &'a [u8]) -> Script<'a> {
+        Script { rest: bytes }
+    }
+
+    // The next byte, if the script does not end here.
+    pub fn next_byte(&mut self) -> Option<u8> {
+        let (first, rest) = self.rest.split_first()?;
+        self.rest = rest;
+        Some(*first)
+    }
+
+    fn take(&mut self, n: usize) -> Result<&'a [u8], Stop> {
+        let (head, rest) = self.rest.split_at_checked(n).ok_or(Stop::NoScript)?;
+        self.rest = rest;
+        Ok(head)
+    }
+
+    pub fn take_u8(&mut self) -> Result<u8, Stop> {
+        self.next_byte().ok_or(Stop::NoScript)
+    }
+
+    pub fn take_u32(&mut self) -> Result<u32, Stop> {
+        let (head, rest) = self.rest.split_first_chunk::<4>().ok_or(Stop::NoScript)?;
+        self.rest = rest;
+        Ok(u32::from_le_bytes(*head))
+    }
+
+    pub fn take_u64(&mut self) -> Result<u64, Stop> {
+        let (head, rest) = self.rest.split_first_chunk::<8>().ok_or(Stop::NoScript)?;
+        self.rest = rest;
+        Ok(u64::from_le_bytes(*head))
+    }
+
+    pub fn take_blob(&mut self) -> Result<Blob<'a>, Stop> {
+        let n = self.take_u32()? as usize;
+        if n < FILLED {
+            return Ok(Blob::Given(self.take(n)?));
+        }
+        let len = n - FILLED;
+        let head = self.take_u32()? as usize;
+        if len < head {
+            return Err(Stop::NoScript);
+        }
+        let head = self.take(head)?;
+        let fill = self.take_u8()?;
+        Ok(Blob::Filled { head, len, fill })
+    }
+}

@@ -1,2 +1,0 @@
--- A law about written blocks.
-pub mod Blocks

@@ -1,0 +1,7 @@
+-- `vrf_table::spell::following` satisfies its contract.
+use Rattle.vrf_table.proofs.Laws.Spelled.{part-following}
+use Rattle.vrf_table.proofs.spell.following.Goals as goal
+
+pub returns : goal.returns
+returns c =
+    part-following c.args.t.now c.args.k c.lower-from.result c.lower-from.ensures
