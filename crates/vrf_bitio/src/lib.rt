@@ -176,7 +176,7 @@ fn put_word(dst: &mut [u8], at: usize, v: u64)
 }
 
 // Writes the low t bytes of v, low byte first, to dst from place at on.
-// This is a loop since `copy_from_slice` of a few bytes was tried: copies of fewer than 64 bits then took longer than before.
+// A loop, because copies of fewer than 64 bits take longer with a `copy_from_slice` of so few bytes.
 fn put_bytes(dst: &mut [u8], at: usize, v: u64, t: usize)
     requires { at + t ≤ length dst.old }
     ensures { dst.new ≡ pasted dst.old at (low_bytes t v) }

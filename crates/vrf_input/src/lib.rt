@@ -12,6 +12,7 @@ pub fn read_full(rt: &impl Input, buf: &mut [u8]) -> io::Result<usize>
 {
     let mut reader = rt.reader();
     let mut done = 0;
+    // No `for`: how far a turn gets is known only when it has read.
     while done < buf.len() {
         let n = reader.read(&mut buf[done..])?;
         if n == 0 {

@@ -141,7 +141,8 @@ fn clear_32(s: &[u8], b: u32) -> bool
     x | y | z | w == 0
 }
 
-// The number of bytes at the start of s, in blocks of 32, whose bit b is 0.
+// The number of bytes at the start of s, in blocks of 32, whose bit b is 0. A `for` over blocks would be no plainer: the answer is the place
+// itself, and the last block may be short.
 fn clear_run(s: &[u8], b: u32) -> usize
     requires { b < 8 }
     ensures { (result ≤ length s.now) × Clear s.now b result }
@@ -164,6 +165,7 @@ fn step_in(s: &[u8]) -> usize
     if k == 8 && clear_32(s, 7) { 32 } else { k }
 }
 
+// No `for`: what a step passes, 1 to 32 bytes, is known only when it has looked.
 pub fn is_utf8(t: &[u8]) -> bool
     ensures { result ≡ utf8 t.now }
 {
@@ -292,7 +294,8 @@ impl Span<'_> {
     }
 
     // `is_utf8` by words that may begin inside a byte. The free `is_utf8` is not this loop at bit 0, because it takes slices whose bit
-    // count does not fit 64 bits and reads each word by one load. Both loops use the same lemmas about a step.
+    // count does not fit 64 bits and reads each word by one load. Both loops use the same lemmas about a step, and neither is a `for`, because what a
+    // step passes is known only when it has looked.
     fn is_utf8_in_words(self) -> bool
         ensures { result ≡ utf8 (bytes_in self.entry) }
     {
@@ -331,7 +334,7 @@ impl Span<'_> {
         }
     }
 
-    // The length of the units as UTF-8, if they are UTF-16.
+    // The length of the units as UTF-8, if they are UTF-16. No `for`: a character has one or two units.
     fn utf8_len(self) -> Option<u32>
         ensures { MeasuredAnswer (units_to_utf8 (units_in self.entry)) result }
     {
@@ -345,7 +348,7 @@ impl Span<'_> {
         Some(len)
     }
 
-    // Writes the UTF-8 of the units, which `utf8_len` has measured, into the first bytes of out.
+    // Writes the UTF-8 of the units, which `utf8_len` has measured, into the first bytes of out. No `for`: a character has one or two units.
     fn put_utf8(self, out: &mut [u8])
         requires { FitsTarget (units_to_utf8 (units_in self)) (length out.old) }
         ensures { WroteText (units_to_utf8 (units_in self.entry)) out.old out.new }

@@ -54,7 +54,7 @@ toggle-determined t None None a b = refl
 pub key-determined : {t : List ℕ} {alias : List ℕ → Option (List ℕ)} {key : List ℕ → Maybe Key} {r q : Maybe Key} → KeyAnswer t alias key r → KeyAnswer t alias key q → r ≡ q
 key-determined a b = a.made ∙ sym b.made
 
--- `next_stem`
+-- the steps of `Stems`
 pub stem-determined : (name : List ℕ) {l : List (List ℕ)} (s r : Maybe Stem) → StemAnswer name l s → StemAnswer name l r → s ≡ r
 stem-determined name (Some s) (Some r) a b =
     let size : s.len ≡ r.len = fronts name a.within b.within (cc (a.stems, b.stems)) in
