@@ -4,7 +4,8 @@
 rt only sees that the crate of an edit is refused. An edit can have many wrong programs, so it has a line for each place in which a fact
 must fail:
 
-    refuses: FUNCTION            the function itself is not proved; it is not enough that a function it calls is not proved
+    refuses: FUNCTION            the function itself is not proved; it is not enough that a function it calls is not proved. A function of
+                                 `impl Trait for Type` is TypeTrait::NAME, as rt names it
     refuses: proofs/FILE         a law or an example of that file is wrong; it is not enough that a law it uses is wrong
     refuses: proofs/FILE NAME    the law of that name, or the field of that name in a record of laws, is wrong
 
@@ -109,14 +110,14 @@ class Edit:
 
 
 def functions_of(folder):
-    """The functions of a crate's code, with their modules and their types. The files are laid out, so a block begins and ends at the edge."""
+    """The functions of a crate's code, with their modules, types and traits. The files are laid out, so a block begins and ends at the edge."""
     found = set()
     for path in folder.rglob('*.rt'):
         module = [part for part in path.relative_to(folder).with_suffix('').parts if part not in ('lib', 'main', 'mod')]
         type_of = []
         for line in path.read_text('utf8').split('\n'):
-            if match := re.match(r'impl\b(?:<[^>]*>)? *(?:.* for )?(\w+)', line):
-                type_of = [match[1]]
+            if match := re.match(r'impl\b(?:<[^>]*>)? *(?:([\w:]+).* for )?(\w+)', line):
+                type_of = [match[2] + (match[1] or '').split('::')[-1]]
             elif line.startswith('}'):
                 type_of = []
             elif match := re.match(r' *(?:pub(?:\([^)]*\))? +)?(?:(?:extern "C"|const|unsafe) +)*fn (\w+)', line):

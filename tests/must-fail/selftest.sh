@@ -112,6 +112,12 @@ impl Cursor {
         self.pos
     }
 }
+
+impl<'a> iter::Iterator for Cursor<'a> {
+    fn next(&mut self) -> Option<u8> {
+        None
+    }
+}
 FILE
     put crates/some/src/inner.rt <<'FILE'
 pub extern "C" fn by_hand(a: u8) -> u8 {
@@ -152,6 +158,7 @@ FILE
 # what is wrong
 refuses: inner::by_hand
 refuses: by_itself
+refuses: CursorIterator::next
 refuses: proofs/Laws.antt
 refuses: proofs/Laws.antt law
 refuses: proofs/Laws.antt second
@@ -172,7 +179,7 @@ placed() { # STATUS ARGUMENTS
     printf '%s\n' "$out"
 }
 tree
-diff <(placed 0) <(echo 'places: 8 places in 1 edits: 0 faults') || { echo "must-fail: places.py finds faults in the tree as it should be"; exit 1; }
+diff <(placed 0) <(echo 'places: 9 places in 1 edits: 0 faults') || { echo "must-fail: places.py finds faults in the tree as it should be"; exit 1; }
 
 wrong=0
 # Changes the edit by a sed script. places.py must name the faults that are given on standard input.
@@ -183,13 +190,13 @@ wrongs() { # WHAT SCRIPT
     wrong=$((wrong + 1))
 }
 wrongs 'an old text that is not there' 's/^old: .*/old: a + 5/' <<'FAULTS'
-places: some/good: line 12: its old text is in src/lib.rt 0 times, not once
+places: some/good: line 13: its old text is in src/lib.rt 0 times, not once
 FAULTS
 wrongs 'an old text that is there more than once' 's/^old: .*/old: a/' <<'FAULTS'
-places: some/good: line 12: its old text is in src/lib.rt 5 times, not once
+places: some/good: line 13: its old text is in src/lib.rt 8 times, not once
 FAULTS
 wrongs 'an edit that changes nothing' 's/^new: .*/new: a + 1/' <<'FAULTS'
-places: some/good: line 12: its new text is the old one
+places: some/good: line 13: its new text is the old one
 FAULTS
 wrongs 'a place for which nothing is changed' '$a\refuses: waits' <<'FAULTS'
 places: some/good: it changes nothing for waits
@@ -201,7 +208,7 @@ wrongs 'a line that is not read' '1s/# //' <<'FAULTS'
 places: some/good: line 1: it begins with none of '#', 'refuses: ', 'file: ', 'old: ', 'new: '
 FAULTS
 wrongs 'a file that is not there' 's/^file: .*/file: src\/more.rt/' <<'FAULTS'
-places: some/good: line 10: there is no src/more.rt
+places: some/good: line 11: there is no src/more.rt
 FAULTS
 wrongs 'a function that is not there' 's/^(refuses: )by_itself/\1inner::by_itself/' <<'FAULTS'
 places: some/good: line 3: there is no inner::by_itself
@@ -209,14 +216,17 @@ FAULTS
 wrongs 'a function without its type' 's/^(refuses: )by_itself/\1misfit/' <<'FAULTS'
 places: some/good: line 3: there is no misfit
 FAULTS
-wrongs 'a file of laws that is not there' '4s/Laws/Law/' <<'FAULTS'
-places: some/good: line 4: there is no proofs/Law.antt
+wrongs 'a function of a trait without the trait' 's/^(refuses: )CursorIterator/\1Cursor/' <<'FAULTS'
+places: some/good: line 4: there is no Cursor::next
 FAULTS
-wrongs 'a law that is not there' '5s/law$/lawful/' <<'FAULTS'
-places: some/good: line 5: there is no proofs/Laws.antt lawful
+wrongs 'a file of laws that is not there' '5s/Laws/Law/' <<'FAULTS'
+places: some/good: line 5: there is no proofs/Law.antt
+FAULTS
+wrongs 'a law that is not there' '6s/law$/lawful/' <<'FAULTS'
+places: some/good: line 6: there is no proofs/Laws.antt lawful
 FAULTS
 
-# ---- places.py --check: rt is a script here, which prints a log that has every kind of refusal. Functions: two by a fact, one because it
+# ---- places.py --check: rt is a script here, which prints a log that has every kind of refusal. Functions: three by a fact, one because it
 # calls another one, one because its proof was written for another program. Laws: one law and one field of a record by a fact, one law
 # because it uses another one. A file in a folder also has a law and a field that are refused by a fact.
 mkdir "$scratch/bin" "$scratch/made"
@@ -242,6 +252,7 @@ cat >"$scratch/log" <<'LOG'
 ./proofs/Laws/Groups/Index.antt:2:7: error: `law`: the two types differ
 ./proofs/Laws/Groups/Index.antt:14:12: error: `laws`: the two types differ
 fn some::by_itself: no proof: expected answers in ./proofs/by_itself/Answers.antt; `search` did not prove `returns`
+fn some::CursorIterator::next: no proof: expected answers in ./proofs/CursorIterator/next/Answers.antt; `search` did not prove `returns`
 fn some::waits: not proved; it calls `some::by_itself`, which is not proved
 fn some::inner::by_hand: not proved
 fn some::inner::fine: proved
@@ -250,8 +261,8 @@ logic=not-proved
 LOG
 tree
 diff <(placed 0 --check some | sed '/chose/d') - <<'WANTED' || { echo "must-fail: places.py does not find the facts that fail"; exit 1; }
-places: some/good: a fact fails in 8 of 8 places
-places: 8 places in 1 edits: 0 faults
+places: some/good: a fact fails in 9 of 9 places
+places: 9 places in 1 edits: 0 faults
 WANTED
 rm "$scratch/tree/crates/some/must-fail/good.edit"
 put crates/some/must-fail/bad.edit <<'FILE'

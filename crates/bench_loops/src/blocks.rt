@@ -1,12 +1,12 @@
 // What tests/compare times of checkpoint blocks and fields runs: the exported functions, and the unchecked calls, which leave out the check
-// of the book.
+// of the book. The C interface passes numbers and flags, so `checked` chooses between the two, and a refusal is a 0.
 ghost use Rattle.std.specs.Prelude.{◌≤◌, length};
 ghost use Rattle.vrf_store.specs.Inner.WellFormed.{WellFormed};
 
 use crate::whole;
 use vrf_bitio::Refusal;
 use vrf_checkpoint::block;
-use vrf_model::{CheckpointTables, Ran};
+use vrf_model::{Allowances, CheckpointTables, Ran};
 use vrf_reader::fields;
 use vrf_schema::calls::open;
 use vrf_schema::{reading, writing};
@@ -47,7 +47,14 @@ pub extern "C" fn bench_read_block(
     s: &[u8],
     checked: bool,
 ) -> u64 {
-    match open(m, guids, groups, fields, text, guids) {
+    let allowed = Allowances {
+        guids,
+        groups,
+        fields,
+        text,
+        literals: guids,
+    };
+    match open(m, allowed) {
         Err(_) => 0,
         Ok(()) => {
             if checked {

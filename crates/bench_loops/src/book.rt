@@ -9,13 +9,15 @@ use vrf_cache::groups::add_export_group;
 use vrf_cache::guids::set_net_guid_path;
 use vrf_cache::resolve::{resolve_cnc_for_instance_name, unique_leaf_match};
 use vrf_check::check;
+use vrf_model::Allowances;
 use vrf_schema::calls::open;
 use vrf_store::look::{find_guid, find_index, find_path_place, guid_path};
 use vrf_text::check_text;
 use vrf_words::get32;
 
 // A row of a sheet. A call has a kind, numbers and a text. The numbers are a GUID and its outer (kind 0), a group's index and slot count
-// (kind 1), or a field's group index, handle and checksum (kind 2). A lookup uses the first number or the text.
+// (kind 1), or a field's group index, handle and checksum (kind 2). A lookup uses the first number or the text. The kind stays a number: the
+// driver passes a sheet over the C interface, as words.
 #[derive(Clone, Copy)]
 struct Row {
     kind: u32,
@@ -125,7 +127,14 @@ pub extern "C" fn bench_fill(
     sheet: &[u8],
     texts: &[u8],
 ) -> u64 {
-    match open(m, guids, groups, fields, text, 0) {
+    let allowed = Allowances {
+        guids,
+        groups,
+        fields,
+        text,
+        literals: 0,
+    };
+    match open(m, allowed) {
         Ok(()) => set_all(m, sheet, texts),
         Err(_) => 0,
     }
@@ -165,7 +174,8 @@ fn sum_of<F: Fn(Row) -> u64>(sheet: &[u8], look: F) -> u64
     sum
 }
 
-// A sheet's lookups, all of one kind. The unchecked functions are timed, so the caller checks the book first, with `bench_check`.
+// A sheet's lookups, all of one kind, which is a number because the C interface passes it. The unchecked functions are timed, so the caller
+// checks the book first, with `bench_check`.
 #[unsafe(no_mangle)]
 pub extern "C" fn bench_look(m: &[u8], what: u32, sheet: &[u8], texts: &[u8]) -> u64
     requires { WellFormed m.now }

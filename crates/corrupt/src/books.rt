@@ -1,5 +1,6 @@
 // The books that the program corrupts. Each needs 784 bytes.
 use vrf_bitio::Refusal;
+use vrf_model::Allowances;
 use vrf_schema::calls;
 
 // Three GUID records. The third has an outer that has an outer itself. One path is replaced, so that the text area has unused bytes.
@@ -44,15 +45,29 @@ fn work_on(book: &mut [u8]) -> Result<(), Refusal> {
     Ok(())
 }
 
-// The number of different books.
-pub const BOOKS: u32 = 3;
+const ALLOWED: Allowances = Allowances {
+    guids: 3,
+    groups: 3,
+    fields: 3,
+    text: 100,
+    literals: 1,
+};
 
-// Opens a book. Book 0 stays empty, book 1 is full, and book 2 is full and has further calls made on it.
-pub fn make(book: &mut [u8], which: u32) -> Result<(), Refusal> {
-    calls::open(book, 3, 3, 3, 100, 1)?;
+#[derive(Clone, Copy, Debug, PartialEq, Eq)]
+pub enum Book {
+    Empty,
+    Full,
+    // Full, with further calls made on it.
+    Worked,
+}
+
+pub const BOOKS: [Book; 3] = [Book::Empty, Book::Full, Book::Worked];
+
+pub fn make(book: &mut [u8], which: Book) -> Result<(), Refusal> {
+    calls::open(book, ALLOWED)?;
     match which {
-        0 => Ok(()),
-        1 => fill(book),
-        _ => work_on(book),
+        Book::Empty => Ok(()),
+        Book::Full => fill(book),
+        Book::Worked => work_on(book),
     }
 }

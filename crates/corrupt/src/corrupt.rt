@@ -3,7 +3,45 @@
 ghost use Rattle.std.specs.Prelude.{◌<◌, length};
 
 use crate::totals::{Broken, Totals, try_all};
+use std::fmt;
 use vrf_words::put_part;
+
+// How a book is corrupted.
+#[derive(Clone, Copy, Debug, PartialEq, Eq)]
+pub enum Damage {
+    Nothing,
+    EachByte,
+    Cuts,
+    // At random: a few bytes, all bytes after the header, some heads and links of groups, or all bytes.
+    SomeBytes,
+    BehindHeader,
+    HeadsAndLinks,
+    AnyBytes,
+}
+
+pub const DAMAGES: [Damage; 7] = [
+    Damage::Nothing,
+    Damage::EachByte,
+    Damage::Cuts,
+    Damage::SomeBytes,
+    Damage::BehindHeader,
+    Damage::HeadsAndLinks,
+    Damage::AnyBytes,
+];
+
+impl fmt::Display for Damage {
+    fn fmt<W: fmt::Write>(&self, f: &mut fmt::Formatter<W>) -> fmt::Result {
+        match self {
+            Damage::Nothing => write!(f, "as they are"),
+            Damage::EachByte => write!(f, "one byte changed"),
+            Damage::Cuts => write!(f, "cut"),
+            Damage::SomeBytes => write!(f, "some bytes changed"),
+            Damage::BehindHeader => write!(f, "any bytes behind a header"),
+            Damage::HeadsAndLinks => write!(f, "other heads and links"),
+            Damage::AnyBytes => write!(f, "any bytes"),
+        }
+    }
+}
 
 // How many random memories are made of each kind.
 const MANY: u32 = 5_000;
@@ -94,47 +132,42 @@ fn scatter_pointers(s: &mut [u8], seed: u32) -> u32 {
     x
 }
 
-// Changes a memory that holds the book at random: a few bytes, all bytes after the header, some heads and links of groups, or all bytes.
-fn scramble(s: &mut [u8], how: u32, seed: u32) -> u32 {
-    match how {
-        3 => change_some(s, seed),
-        4 => scatter(s, 128, seed),
-        5 => scatter_pointers(s, seed),
-        _ => scatter(s, 0, seed),
-    }
-}
-
-fn by_chance(
+// Tries many copies of the book, each scrambled at random.
+fn by_chance<F: FnMut(&mut [u8], u32) -> u32>(
     book: &[u8],
     s: &mut [u8],
     work: &mut [u8],
-    how: u32,
     t: &mut Totals,
-) -> Result<(), Broken> {
+    mut scramble: F,
+) -> Result<(), Broken>
+    requires { (f : _) (s : _) (seed : _) → F.pre f s seed }
+{
     if s.len() < book.len() {
         return Ok(());
     }
     let mut x: u32 = 1;
     for _ in 0..MANY {
         put_part(s, 0, book);
-        x = scramble(s, how, x);
+        x = scramble(s, x);
         try_all(s, work, t)?;
     }
     Ok(())
 }
 
-// Tries a book as it is (0), with each byte changed (1), cut (2), or changed at random.
 pub fn corrupt(
     book: &mut [u8],
     s: &mut [u8],
     work: &mut [u8],
-    how: u32,
+    how: Damage,
     t: &mut Totals,
 ) -> Result<(), Broken> {
     match how {
-        0 => try_all(book, work, t),
-        1 => each_byte(book, work, t),
-        2 => each_cut(book, work, t),
-        _ => by_chance(book, s, work, how, t),
+        Damage::Nothing => try_all(book, work, t),
+        Damage::EachByte => each_byte(book, work, t),
+        Damage::Cuts => each_cut(book, work, t),
+        Damage::SomeBytes => by_chance(book, s, work, t, change_some),
+        Damage::BehindHeader => by_chance(book, s, work, t, |s, x| scatter(s, 128, x)),
+        Damage::HeadsAndLinks => by_chance(book, s, work, t, scatter_pointers),
+        Damage::AnyBytes => by_chance(book, s, work, t, |s, x| scatter(s, 0, x)),
     }
 }

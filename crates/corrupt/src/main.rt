@@ -8,34 +8,16 @@ mod corrupt;
 mod totals;
 
 use books::{BOOKS, make};
-use calls::OPENING;
-use corrupt::corrupt;
+use corrupt::{DAMAGES, Damage, corrupt};
 use std::io;
 use totals::{Broken, Totals};
 
-// How the books are corrupted.
-fn title(how: u32) -> &'static str {
-    match how {
-        0 => "as they are",
-        1 => "one byte changed",
-        2 => "cut",
-        3 => "some bytes changed",
-        4 => "any bytes behind a header",
-        5 => "other heads and links",
-        _ => "any bytes",
-    }
-}
-
-fn report(rt: &impl Print, how: u32, t: Totals, end: Result<(), Broken>) -> io::Result<()> {
-    let title = title(how);
+fn report(rt: &impl Print, how: Damage, t: Totals, end: Result<(), Broken>) -> io::Result<()> {
     if let Err(broken) = end {
-        return println!(rt;
-            "{title}: broken at memory {} by call {}",
-            t.copies, broken.call
-        );
+        return println!(rt; "{how}: broken at memory {} by {broken}", t.copies);
     }
     println!(rt;
-        "{title}: {} memories, {} accepted; {} calls, {} refused with 2",
+        "{how}: {} memories, {} accepted; {} calls, {} refused with 2",
         t.copies, t.accepted, t.calls, t.refused
     )
 }
@@ -45,12 +27,12 @@ fn each_book(
     book: &mut [u8],
     s: &mut [u8],
     work: &mut [u8],
-    how: u32,
+    how: Damage,
     t: &mut Totals,
 ) -> Result<(), Broken> {
-    for which in 0..BOOKS {
+    for which in BOOKS {
         if make(book, which).is_err() {
-            return Err(Broken { call: OPENING });
+            return Err(Broken::Book);
         }
         corrupt(book, s, work, how, t)?;
     }
@@ -58,7 +40,7 @@ fn each_book(
 }
 
 fn run(rt: &impl Print, book: &mut [u8], s: &mut [u8], work: &mut [u8]) -> io::Result<()> {
-    for how in 0..7 {
+    for how in DAMAGES {
         let mut t = Totals::default();
         let end = each_book(book, s, work, how, &mut t);
         report(rt, how, t, end)?;

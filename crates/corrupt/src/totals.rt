@@ -2,6 +2,7 @@
 ghost use Rattle.std.specs.Prelude.{◌≤◌, length};
 
 use crate::calls::{CALLS, CallEnd, FIRST_LOOKUP, OPENING, call, is_corrupt};
+use std::fmt;
 use vrf_path::same;
 use vrf_words::put_part;
 
@@ -15,10 +16,27 @@ pub struct Totals {
     pub refused: u64,
 }
 
-// The call that broke its contract.
+// Why the program stops before its end.
 #[derive(Clone, Copy)]
-pub struct Broken {
-    pub call: u32,
+pub enum Broken {
+    // The call with this number broke its contract.
+    Call(u32),
+    // The book to corrupt was not made.
+    Book,
+    // The scratch buffer has another length than the memory.
+    Lengths,
+}
+
+// The report has the number of a call in every case: that of the opening for a book, and one that no call has for the lengths.
+impl fmt::Display for Broken {
+    fn fmt<W: fmt::Write>(&self, f: &mut fmt::Formatter<W>) -> fmt::Result {
+        let call = match self {
+            Broken::Call(which) => *which,
+            Broken::Book => OPENING,
+            Broken::Lengths => CALLS,
+        };
+        write!(f, "call {call}")
+    }
 }
 
 impl Totals {
@@ -61,7 +79,7 @@ fn try_call(
     if kept {
         Ok(())
     } else {
-        Err(Broken { call: which })
+        Err(Broken::Call(which))
     }
 }
 
@@ -70,7 +88,7 @@ pub fn try_all(s: &[u8], work: &mut [u8], t: &mut Totals) -> Result<(), Broken> 
     let corrupt = is_corrupt(s);
     t.count_copy(!corrupt);
     if work.len() != s.len() {
-        return Err(Broken { call: CALLS });
+        return Err(Broken::Lengths);
     }
     for which in 0..CALLS {
         try_call(s, work, which, corrupt, t)?;

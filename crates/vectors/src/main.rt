@@ -1,3 +1,4 @@
+// Over lists written by hand. `replay` is this program over a script of calls of every kind: a program has one stored input, so there are two.
 #![tactic(auto)]
 
 use std::io;

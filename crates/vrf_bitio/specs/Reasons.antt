@@ -1,5 +1,6 @@
--- Document 01's table of refusals: the number of each reason.
-use Rattle.std.specs.Prelude.{ℕ}
+-- Document 01's table of refusals: the number of each reason, and how a refusal is printed.
+use Rattle.std.specs.Prelude.{ℕ, List, ◌++◌, codes, decimal}
+use Rattle.vrf_bitio.specs.declared.Refusal.{Refusal}
 use Rattle.vrf_bitio.specs.declared.Reason.{Reason}
 use Rattle.vrf_bitio.specs.declared.Reason.TheVariants.{AllowanceAboveTop, CorruptBook, MemoryTooShort, TooFew, PackedRunsOn, PackedTooLarge, TextLength, BadText, Short, Width, UnknownPathIndex, BadExportedFlag, TooManySlots, CrossedIdentity, NegativePayloadSize, TrailingPayload, TooDeep, ReservedWordSet, CountOverflow, BadPathKind, PathIndexOutOfBounds, GroupCollision, HandleNotSlot, FrameOffsetMismatch, NotUtf8, TextTooLong, AllowancePassed, WindowTooLarge, PathIsEarlierKey, BlockTooLong}
 
@@ -34,3 +35,7 @@ number AllowancePassed = 42
 number WindowTooLarge = 43
 number PathIsEarlierKey = 44
 number BlockTooLong = 45
+
+-- the text "refused NUMBER A B"
+abbrev pub refusal_text : Refusal → List ℕ
+refusal_text r = codes "refused " ++ decimal (number r.reason) ++ codes " " ++ decimal r.a ++ codes " " ++ decimal r.b

@@ -1,13 +1,13 @@
 // The bit reader of document 01 over byte slices. The function names are those of vrf-bitio's lib.rs.
 #![tactic(auto)]
 
-ghost use Rattle.std.specs.Prelude.{◌≡◌, cond, ◌+◌, ◌-◌, ◌*◌, ◌<◌, ◌≤◌, ◌^◌, ◌%◌, ◌/◌, min, nat_abs, length, get_or};
+ghost use Rattle.std.specs.Prelude.{◌≡◌, cond, ◌+◌, ◌-◌, ◌*◌, ◌<◌, ◌≤◌, ◌^◌, ◌%◌, ◌/◌, min, nat_abs, length, get_or, Some};
 ghost use Rattle.vrf_bitio.specs.Bits.{bits_of, packed_bits, bytes_for};
 ghost use Rattle.vrf_bitio.specs.Window.{window, inner, copied};
 ghost use Rattle.vrf_bitio.specs.Number.{byte, word32, int32, packed, chunks, low_bytes};
 ghost use Rattle.vrf_bitio.specs.Pasted.{pasted};
 ghost use Rattle.vrf_bitio.specs.Inner.Reader.{Takes, TakesBits, LastChunk};
-ghost use Rattle.vrf_bitio.specs.Reasons.{number};
+ghost use Rattle.vrf_bitio.specs.Reasons.{number, refusal_text};
 ghost use Rattle.vrf_bitio.specs.Answers.{read_here, bits_here, Answers, AnswersAs, Opens, InnerAnswer, CopiedAnswer};
 
 use std::fmt;
@@ -68,6 +68,8 @@ pub struct Refusal {
 }
 
 impl fmt::Display for Refusal {
+    ghost output = { λ r. Some (refusal_text r) };
+
     fn fmt<W: fmt::Write>(&self, f: &mut fmt::Formatter<W>) -> fmt::Result {
         let number = self.reason.number();
         let a = self.a;
@@ -86,14 +88,15 @@ pub struct BitReader<'a> {
     pub pos: u32,
 }
 
-// The byte at i, 0 past the end.
+// The byte at i, 0 past the end. (`vrf_path` and `vrf_table` have their own: a public one would be one more promise of this exported crate.)
 fn byte_or_zero(s: &[u8], i: usize) -> u64
     ensures { (result ≡ get_or s.now i 0) × (result < 256) }
 {
-    if i < s.len() { s[i] as u64 } else { 0 }
+    u64::from(s.get(i).copied().unwrap_or(0))
 }
 
-// The eight bytes from i on as a number, low byte first. This compiles to one load.
+// The eight bytes from i on as a number, low byte first. This compiles to one load. (`vrf_path` and `vrf_words` have their own: a public
+// function of an exported crate may not ask for these eight bytes.)
 fn whole_word(s: &[u8], i: usize) -> u64
     requires { i + 8 ≤ length s.now }
     ensures { result ≡ bits_of s.now (8 * i) 64 }
@@ -101,14 +104,16 @@ fn whole_word(s: &[u8], i: usize) -> u64
     u64::from_le_bytes(s[i..i + 8].try_into().unwrap())
 }
 
-// The number of bytes or bits from place i to the end at n; 0 past the end.
+// The number of bytes or bits from place i to the end at n; 0 past the end. It is one call of the library, and stays because it is public
+// (such a function may go only into a generic one).
 pub fn left_from(n: usize, i: usize) -> usize
     ensures { result ≡ n - i }
 {
     n.saturating_sub(i)
 }
 
-// `load_u64` where fewer than eight bytes are left; the missing bytes are 0.
+// `load_u64` where fewer than eight bytes are left; the missing bytes are 0. (`from_le_bytes` of an array of zeros into which these bytes
+// are copied is no shorter: i can be past the end, where there is nothing to copy.)
 fn load_u64_padded(s: &[u8], i: usize) -> u64
     requires { (i < 2 ^ 61) × (length s.now < i + 8) }
     ensures { result ≡ bits_of s.now (8 * i) 64 }
@@ -436,7 +441,7 @@ impl<'a> BitReader<'a> {
     }
 }
 
-// A signed number without its sign.
+// A signed number without its sign. It is one call of the library, and stays because it is public.
 pub fn magnitude(n: i32) -> u32
     ensures { result ≡ nat_abs n }
 {

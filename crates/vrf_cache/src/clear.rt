@@ -5,7 +5,7 @@ ghost use Rattle.vrf_store.specs.Inner.Stepped.{held};
 ghost use Rattle.vrf_cache.specs.Inner.Taken.{StepBy};
 
 use vrf_bitio::Refusal;
-use vrf_store::counters::{step_guid, step_schema};
+use vrf_store::counters::{Counter, step};
 use vrf_store::open::clear_book;
 
 pub fn clear(m: &mut [u8]) -> Result<(), Refusal>
@@ -13,7 +13,7 @@ pub fn clear(m: &mut [u8]) -> Result<(), Refusal>
     ensures { StepBy (clear (held m.old)) m.old m.new result }
 {
     clear_book(m);
-    step_schema(m);
-    step_guid(m);
+    step(m, Counter::Schema);
+    step(m, Counter::Guid);
     Ok(())
 }

@@ -1,4 +1,4 @@
-// `set_field_on_group`: a slot of a group takes a checksum and a name.
+// `set_field_on_group`: a slot of a group takes a checksum and a name, which are parameters one by one, as in the Rust.
 ghost use Rattle.std.specs.Prelude.{◌≡◌, false, ◌<◌};
 ghost use Rattle.std.proofs.Math.Option.{some};
 ghost use Rattle.vrf_text.specs.Text.{IsText};
@@ -16,12 +16,12 @@ use crate::full::fits;
 use crate::texts::keep_text;
 use vrf_bitio::Refusal;
 use vrf_path::same;
-use vrf_store::counters::{step_dropped, step_renamed};
+use vrf_store::counters::{Counter, step};
 use vrf_store::fields::{push_field, set_field_row};
 use vrf_store::look::{find_field, find_index, group_slots};
 use vrf_store::parts::{field_rows, texts};
-use vrf_store::rows::{text_at, text_len};
-use vrf_table::row_text;
+use vrf_store::rows::text_span;
+use vrf_table::{TextSpan, row_text};
 
 fn row_name(m: &[u8], e: u32) -> &[u8]
     requires { WellFormed m.now × (e < (header_of m.now).fields) }
@@ -42,8 +42,8 @@ fn add_field(
     ensures { StepBy (setting (held m.old) place slot checksum name.now) m.old m.new result }
 {
     fits(m, 0, 0, 1, 0, name.len() as u64)?;
-    let at = keep_text(m, name);
-    push_field(m, place, slot, at, name.len() as u32, checksum);
+    let span = keep_text(m, name);
+    push_field(m, place, slot, span, checksum);
     Ok(true)
 }
 
@@ -52,9 +52,8 @@ fn set_checksum(m: &mut [u8], e: u32, checksum: u32)
     requires { WellFormed m.old × (e < (header_of m.old).fields) }
     ensures { Renamed m.old m.new e (filled checksum (name_at m.old e)) }
 {
-    let at = text_at(field_rows(m), e);
-    let len = text_len(field_rows(m), e);
-    set_field_row(m, e, at, len, checksum);
+    let span = text_span(field_rows(m), e);
+    set_field_row(m, e, span, checksum);
 }
 
 // Releases the old name first, so that the old and the new name need not both fit.
@@ -64,10 +63,10 @@ fn rename_field(m: &mut [u8], e: u32, checksum: u32, name: &[u8]) -> Result<bool
 {
     let old = row_name(m, e).len() as u64;
     fits(m, 0, 0, 0, old, name.len() as u64)?;
-    set_field_row(m, e, 0, 0, checksum);
-    let at = keep_text(m, name);
-    set_field_row(m, e, at, name.len() as u32, checksum);
-    step_renamed(m);
+    set_field_row(m, e, TextSpan { at: 0, len: 0 }, checksum);
+    let span = keep_text(m, name);
+    set_field_row(m, e, span, checksum);
+    step(m, Counter::Renamed);
     Ok(true)
 }
 
@@ -88,7 +87,7 @@ fn drop_field(m: &mut [u8]) -> Result<bool, Refusal>
     requires { WellFormed m.old }
     ensures { StepBy (done false (held m.old) dropped_step) m.old m.new result }
 {
-    step_dropped(m);
+    step(m, Counter::Dropped);
     Ok(false)
 }
 

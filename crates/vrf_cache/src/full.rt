@@ -10,7 +10,7 @@ use vrf_store::parts::{
     fields, fields_allowed, groups, groups_allowed, guids, guids_allowed, held, text_allowed,
 };
 
-// The lowest allowance that these counts pass.
+// The lowest allowance that these counts pass, 1 to 4: the detail of refusal 42 in document 01's table, so a number and no enum.
 fn passed(m: &[u8], guids: u64, groups: u64, fields: u64, text: u64) -> Option<u32>
     requires { 128 ≤ length m.now }
     ensures { entry result ≡ passed_by (allowances_of m.now) guids groups fields text }

@@ -1,4 +1,5 @@
-// `add_export_group`: a group is appended, merged or replaced.
+// `add_export_group`: a group is appended, merged or replaced. Path, index and slots are three parameters, as in the Rust: a struct of them would
+// be made by each caller for one call, and its path looked up, its index compared and its slots stored one by one.
 ghost use Rattle.std.specs.Prelude.{◌≡◌, ◌&&◌, [], ◌+◌, ◌<◌, ◌≤◌, eqb, length};
 ghost use Rattle.std.proofs.Math.Option.{none, some};
 ghost use Rattle.vrf_text.specs.Text.{IsText};
@@ -16,13 +17,14 @@ use crate::full::fits;
 use crate::texts::keep_text;
 use vrf_bitio::{Reason, Refusal};
 use vrf_path::same;
-use vrf_store::counters::{step_replaced, step_schema};
+use vrf_store::counters::{Counter, step};
 use vrf_store::fields::drop_fields;
 use vrf_store::groups::{grow_group, push_group, replace_group, set_group};
 use vrf_store::look::{
     field_name, find_index, find_path_place, group_index, group_path, group_slots,
 };
 use vrf_store::parts::{groups, held, text_allowed};
+use vrf_table::TextSpan;
 
 // Appends a group with an index that no group has.
 pub fn append_group(m: &mut [u8], path: &[u8], index: u32, slots: u32) -> Result<u32, Refusal>
@@ -31,9 +33,9 @@ pub fn append_group(m: &mut [u8], path: &[u8], index: u32, slots: u32) -> Result
 {
     fits(m, 0, 1, 0, 0, path.len() as u64)?;
     let n = groups(m);
-    let at = keep_text(m, path);
-    push_group(m, index, at, path.len() as u32, slots);
-    step_schema(m);
+    let span = keep_text(m, path);
+    push_group(m, index, span, slots);
+    step(m, Counter::Schema);
     Ok(n)
 }
 
@@ -47,11 +49,11 @@ fn release_path(m: &mut [u8], e: u32, n: u64)
         return;
     }
     let index = group_index(m, e);
-    set_group(m, e, index, 0, 0, 0);
+    set_group(m, e, index, TextSpan { at: 0, len: 0 }, 0);
 }
 
-// Writes the new path of group e to the texts and answers its position. The row of group e is set later.
-fn put_path(m: &mut [u8], e: u32, path: &[u8]) -> u32
+// Writes the new path of group e to the texts and answers where it is. The row of group e is set later.
+fn put_path(m: &mut [u8], e: u32, path: &[u8]) -> TextSpan
     requires { PathFits m.old e (length path.now) }
     ensures { PathWritten m.old path.now m.new e result }
 {
@@ -66,9 +68,9 @@ fn rename_group(m: &mut [u8], e: u32, path: &[u8], index: u32, slots: u32) -> Re
 {
     let gone = group_path(m, e).len() as u64;
     fits(m, 0, 0, 0, gone, path.len() as u64)?;
-    let at = put_path(m, e, path);
-    set_group(m, e, index, at, path.len() as u32, slots);
-    step_schema(m);
+    let span = put_path(m, e, path);
+    set_group(m, e, index, span, slots);
+    step(m, Counter::Schema);
     Ok(e)
 }
 
@@ -86,7 +88,7 @@ fn merge_group(m: &mut [u8], e: u32, path: &[u8], index: u32, slots: u32) -> Res
 {
     if is_named(m, e, path, index) {
         grow_group(m, e, slots);
-        step_schema(m);
+        step(m, Counter::Schema);
         return Ok(e);
     }
     rename_group(m, e, path, index, slots)
@@ -112,10 +114,10 @@ fn replace_at(m: &mut [u8], e: u32, path: &[u8], index: u32, slots: u32) -> Resu
     let gone = group_text(m, e);
     fits(m, 0, 0, 0, gone, path.len() as u64)?;
     drop_fields(m, e);
-    let at = put_path(m, e, path);
-    replace_group(m, e, index, at, path.len() as u32, slots);
-    step_schema(m);
-    step_replaced(m);
+    let span = put_path(m, e, path);
+    replace_group(m, e, index, span, slots);
+    step(m, Counter::Schema);
+    step(m, Counter::Replaced);
     Ok(e)
 }
 

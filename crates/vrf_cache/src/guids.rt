@@ -14,9 +14,10 @@ use crate::full::fits;
 use crate::texts::keep_text;
 use vrf_bitio::Refusal;
 use vrf_path::same;
-use vrf_store::counters::step_guid;
+use vrf_store::counters::{Counter, step};
 use vrf_store::guids::{push_guid, set_guid};
 use vrf_store::look::{find_guid, guid_outer, guid_path};
+use vrf_table::TextSpan;
 
 // Appends a record for a GUID that has none.
 fn add_guid(m: &mut [u8], guid: u32, path: &[u8], outer: u32) -> Result<(), Refusal>
@@ -24,9 +25,9 @@ fn add_guid(m: &mut [u8], guid: u32, path: &[u8], outer: u32) -> Result<(), Refu
     ensures { StepBy (setting (with_new (held m.old) (new_guid guid path.now outer))) m.old m.new result }
 {
     fits(m, 1, 0, 0, 0, path.len() as u64)?;
-    let at = keep_text(m, path);
-    push_guid(m, guid, at, path.len() as u32, outer);
-    step_guid(m);
+    let span = keep_text(m, path);
+    push_guid(m, guid, span, outer);
+    step(m, Counter::Guid);
     Ok(())
 }
 
@@ -37,10 +38,10 @@ fn change_guid(m: &mut [u8], e: u32, path: &[u8], outer: u32) -> Result<(), Refu
 {
     let gone = guid_path(m, e).len() as u64;
     fits(m, 0, 0, 0, gone, path.len() as u64)?;
-    set_guid(m, e, 0, 0, outer);
-    let at = keep_text(m, path);
-    set_guid(m, e, at, path.len() as u32, outer);
-    step_guid(m);
+    set_guid(m, e, TextSpan { at: 0, len: 0 }, outer);
+    let span = keep_text(m, path);
+    set_guid(m, e, span, outer);
+    step(m, Counter::Guid);
     Ok(())
 }
 

@@ -124,7 +124,8 @@ fn find_or_toggled(m: &[u8], key: &[u8]) -> Option<u32>
     find_path_place(m, key).or_else(|| find_toggled(m, key))
 }
 
-// The group of a path's key, written to a scratch buffer of N bytes, or of its toggle.
+// The group of a path's key, written to a scratch buffer of N bytes, or of its toggle. (It differs from `find_within` in what it writes and in
+// how it searches: with a closure for each, only the buffer would be left.)
 fn find_spelled<const N: usize>(m: &[u8], path: &[u8], key: Key) -> Option<u32>
     requires { WellFormed m.now × (length (key_bytes path.now key) ≤ N) × (N ≤ 4105) }
     ensures { entry result ≡ with_toggle (held m.now).groups (some (key_bytes path.now key)) }

@@ -2,26 +2,25 @@
 // steps.
 #![tactic(auto)]
 
-ghost use Rattle.std.specs.Prelude.{◌≡◌, true, ◌+◌, ◌*◌, ◌<◌, ◌≤◌, ◌^◌, length};
+ghost use Rattle.std.specs.Prelude.{◌≡◌, ℕ, Bool, true, ◌+◌, ◌*◌, ◌<◌, ◌≤◌, ◌^◌, length};
 ghost use Rattle.vrf_path.specs.Answers.{spelled, key_bytes};
 ghost use Rattle.vrf_table.specs.Table.{len};
-ghost use Rattle.vrf_table.specs.TextIndex.{find_path};
 ghost use Rattle.vrf_table.specs.Inner.Answers.{claim};
+ghost use Rattle.vrf_table.specs.Inner.Found.{path_found};
 ghost use Rattle.vrf_store.specs.UpTo.{all_below, sum_below};
 ghost use Rattle.vrf_store.specs.Layout;
 ghost use Rattle.vrf_store.specs.Store.{allowances_of, header_of, store_of};
-ghost use Rattle.vrf_store.specs.Check.{tops_ok, header_ok, bounds_ok, text_ok, found_ok, not_before, reach_ok, is_settled, store_ok, check};
-ghost use Rattle.vrf_store.specs.Inner.Check.{Walked};
-ghost use Rattle.vrf_check.specs.Inner.Steps.{row_ok, slot_in, field_row_ok, keys_reach, leaf_settled, path_ok, sum_ok, texts_ok, guids_ok, groups_ok, fields_ok, rows_ok, paths_ok, InBounds};
+ghost use Rattle.vrf_store.specs.Check.{tops_ok, header_ok, bounds_ok, text_ok, not_before, reach_ok, is_settled, store_ok, check};
+ghost use Rattle.vrf_check.specs.Inner.Steps.{finds_row, row_passes, slot_in, field_passes, keys_pass, leaf_passes, sum_ok, texts_ok, fields_ok, rows_ok, paths_ok, ShortTexts, InBounds};
 
 use vrf_path::{Key, core_alias, default_object_alias, leaf_at};
 use vrf_store::look::{
-    field_buckets, group_buckets, guid_buckets, leaf_buckets, path_buckets, row_info, row_key,
+    fields_by_key, groups_by_index, groups_by_leaf, groups_by_path, guids_by_key, row_info, row_key,
 };
 use vrf_store::parts;
-use vrf_store::rows::{text_at, text_len};
+use vrf_store::rows::{text_len, text_span};
 use vrf_table::spell::spell;
-use vrf_table::{Claim, find_key, find_path, leaf_claim, row_text};
+use vrf_table::{Claim, KeyIndex, LeafIndex, PathIndex, row_text};
 use vrf_text::is_utf8;
 
 // The most bytes that a text has.
@@ -32,6 +31,8 @@ const KEY_BYTES: usize = TEXT_BYTES + 23;
 
 // ---- the header
 
+// (`tops_ok` and `need` are not `above_top` and `needed` of `vrf_store`: those take the `Allowances` of a call. The five of the header would
+// first be copied into one, and the answer, which of them is too high, would then be thrown away.)
 fn tops_ok(m: &[u8]) -> bool
     requires { 128 ≤ length m.now }
     ensures { result ≡ tops_ok (allowances_of m.now) }
@@ -78,14 +79,13 @@ fn bounds_ok(m: &[u8]) -> bool
 
 // ---- rows
 
-// The sum of the lengths of the texts of n rows.
-fn length_sum(rows: &[u8], n: u32) -> u64
-    requires { 24 * n ≤ length rows.now }
-    ensures { (result ≡ sum_below (len rows.now) n) × (result ≤ 4294967295 * n) }
+// The sum of the lengths of the texts of all rows.
+fn length_sum(index: KeyIndex<'_>) -> u64
+    ensures { (result ≡ sum_below (len index.entry.rows.now) index.entry.count) × (result ≤ 4294967295 * index.entry.count) }
 {
     let mut sum = 0;
-    for e in 0..n {
-        sum += text_len(rows, e) as u64;
+    for e in 0..index.count {
+        sum += text_len(index.rows, e) as u64;
     }
     sum
 }
@@ -95,135 +95,112 @@ fn text_ok(used: u32, x: &[u8], rows: &[u8], e: u32) -> bool
     requires { (24 * e + 24 ≤ length rows.now) × (used ≤ length x.now) }
     ensures { result ≡ text_ok used x.now rows.now e }
 {
-    let n = text_len(rows, e) as usize;
-    text_at(rows, e) as usize + n <= used as usize
-        && n <= TEXT_BYTES
-        && is_utf8(row_text(rows, x, e))
+    let span = text_span(rows, e);
+    let n = span.len as usize;
+    span.at as usize + n <= used as usize && n <= TEXT_BYTES && is_utf8(row_text(rows, x, e))
 }
 
-fn each_text_ok(used: u32, x: &[u8], rows: &[u8], n: u32) -> bool
-    requires { (24 * n ≤ length rows.now) × (used ≤ length x.now) }
-    ensures { result ≡ all_below (text_ok used x.now rows.now) n }
+// Whether each number below n passes the test.
+fn each_below<Test: Fn(u32) -> bool>(n: u32, test: Test) -> bool
+    requires test_in { (e : ℕ) → e < n → Test.pre test e }
+    ensures { (ok : ℕ → Bool) → ((e : ℕ) (r : Bool) → Test.post test e r → r ≡ ok e) → result ≡ all_below ok n }
 {
-    (0..n).all(|e| text_ok(used, x, rows, e))
+    (0..n).all(
+        |e: u32|
+            requires { Test.pre test e }
+        { test(e) },
+    )
+}
+
+fn each_text_ok(used: u32, x: &[u8], index: KeyIndex<'_>) -> bool
+    requires { used ≤ length x.now }
+    ensures { result ≡ all_below (text_ok used x.now index.entry.rows.now) index.entry.count }
+{
+    each_below(index.count, |e| text_ok(used, x, index.rows, e))
 }
 
 // Whether the key of row e finds row e.
-fn found_ok(rows: &[u8], heads: &[u8], b: u32, n: u32, e: u32) -> bool
-    requires { (24 * n ≤ length rows.now) × (4 * b ≤ length heads.now) × (0 < b) × (e < n) }
-    ensures { result ≡ found_ok rows.now heads.now b n e }
+fn found_ok(index: KeyIndex<'_>, e: u32) -> bool
+    requires { e < index.count }
+    ensures { result ≡ finds_row index.entry e }
 {
-    find_key(rows, heads, b, n, row_key(rows, e)) == Some(e)
+    index.find(row_key(index.rows, e)) == Some(e)
 }
 
 // ---- the rows of each table, without their texts
 
 // Whether row e of the GUID records or of the groups passes: its key has 32 bits and finds it, and its number is at most `most`.
-fn row_ok(rows: &[u8], heads: &[u8], b: u32, n: u32, most: u32, e: u32) -> bool
-    requires { (24 * n ≤ length rows.now) × (4 * b ≤ length heads.now) × (0 < b) × (e < n) }
-    ensures { result ≡ row_ok rows.now heads.now b n most e }
+fn row_ok(index: KeyIndex<'_>, most: u32, e: u32) -> bool
+    requires { e < index.count }
+    ensures { result ≡ row_passes index.entry most e }
 {
-    row_key(rows, e) <= 0xFFFF_FFFF && row_info(rows, e) <= most && found_ok(rows, heads, b, n, e)
+    row_key(index.rows, e) <= 0xFFFF_FFFF && row_info(index.rows, e) <= most && found_ok(index, e)
 }
 
-fn each_row_ok(rows: &[u8], heads: &[u8], b: u32, n: u32, most: u32) -> bool
-    requires { (24 * n ≤ length rows.now) × (4 * b ≤ length heads.now) × (0 < b) }
-    ensures { result ≡ all_below (row_ok rows.now heads.now b n most) n }
+fn each_row_ok(index: KeyIndex<'_>, most: u32) -> bool
+    ensures { result ≡ all_below (row_passes index.entry most) index.entry.count }
 {
-    (0..n).all(|e| row_ok(rows, heads, b, n, most, e))
+    each_below(index.count, |e| row_ok(index, most, e))
 }
 
-// Whether k is the key of a slot of one of n groups.
-fn slot_ok(groups: &[u8], n: u32, k: u64) -> bool
-    requires { 24 * n ≤ length groups.now }
-    ensures { result ≡ slot_in groups.now n k }
+// Whether k is the key of a slot of a group.
+fn slot_ok(groups: KeyIndex<'_>, k: u64) -> bool
+    ensures { result ≡ slot_in groups.entry.rows.now groups.entry.count k }
 {
     let g = k / 0x1_0000;
-    g < n as u64 && k % 0x1_0000 < row_info(groups, g as u32) as u64
+    g < groups.count as u64 && k % 0x1_0000 < row_info(groups.rows, g as u32) as u64
 }
 
-fn field_ok(groups: &[u8], g: u32, rows: &[u8], heads: &[u8], b: u32, n: u32, e: u32) -> bool
-    requires { (24 * g ≤ length groups.now) × (24 * n ≤ length rows.now) × (4 * b ≤ length heads.now) × (0 < b) × (e < n) }
-    ensures { result ≡ field_row_ok groups.now g rows.now heads.now b n e }
+fn field_ok(groups: KeyIndex<'_>, index: KeyIndex<'_>, e: u32) -> bool
+    requires { e < index.count }
+    ensures { result ≡ field_passes groups.entry index.entry e }
 {
-    slot_ok(groups, g, row_key(rows, e)) && found_ok(rows, heads, b, n, e)
-}
-
-fn each_field_ok(groups: &[u8], g: u32, rows: &[u8], heads: &[u8], b: u32, n: u32) -> bool
-    requires { (24 * g ≤ length groups.now) × (24 * n ≤ length rows.now) × (4 * b ≤ length heads.now) × (0 < b) }
-    ensures { result ≡ all_below (field_row_ok groups.now g rows.now heads.now b n) n }
-{
-    (0..n).all(|e| field_ok(groups, g, rows, heads, b, n, e))
+    slot_ok(groups, row_key(index.rows, e)) && found_ok(index, e)
 }
 
 // ---- the path keys of groups
 
 // Whether the key k finds entry e or a later one.
-fn reaches(
-    rows: &[u8],
-    x: &[u8],
-    links: &[u8],
-    heads: &[u8],
-    b: u32,
-    n: u32,
-    e: u32,
-    k: &[u8],
-) -> bool
-    requires { Walked rows.now x.now links.now heads.now 12 b n × (length k.now < 2 ^ 31) }
-    ensures { result ≡ not_before e (find_path rows.now x.now links.now heads.now b n k.now) }
+fn reaches(index: PathIndex<'_>, e: u32, k: &[u8]) -> bool
+    requires { length k.now < 2 ^ 31 }
+    ensures { result ≡ not_before e (path_found index.entry k.now) }
 {
-    find_path(rows, x, links, heads, b, n, k).is_some_and(|i| e <= i)
+    index.find(k).is_some_and(|i| e <= i)
 }
 
 // Whether an alias finds entry e or a later one. The path must have this alias. It is written out first, since the book does not hold it.
-fn alias_reaches(
-    rows: &[u8],
-    x: &[u8],
-    links: &[u8],
-    heads: &[u8],
-    b: u32,
-    n: u32,
-    e: u32,
-    path: &[u8],
-    key: Key,
-) -> bool
-    requires { Walked rows.now x.now links.now heads.now 12 b n × (length path.now ≤ 4096) }
-    ensures { result ≡ not_before e (find_path rows.now x.now links.now heads.now b n (key_bytes path.now key)) }
+fn alias_reaches(index: PathIndex<'_>, e: u32, path: &[u8], key: Key) -> bool
+    requires { length path.now ≤ 4096 }
+    ensures { result ≡ not_before e (path_found index.entry (key_bytes path.now key)) }
 {
     let mut scratch = [0u8; KEY_BYTES];
     let k = spell(&mut scratch, path, key);
-    reaches(rows, x, links, heads, b, n, e, &scratch[..k])
+    reaches(index, e, &scratch[..k])
 }
 
-// Whether an alias finds entry e or a later one, if the path has this alias.
-fn alias_ok(
-    rows: &[u8],
-    x: &[u8],
-    links: &[u8],
-    heads: &[u8],
-    b: u32,
-    n: u32,
-    e: u32,
-    path: &[u8],
-    key: Option<Key>,
-) -> bool
-    requires { Walked rows.now x.now links.now heads.now 12 b n × (length path.now ≤ 4096) }
-    ensures { result ≡ reach_ok (find_path rows.now x.now links.now heads.now b n) e (spelled path.now key) }
+// Whether an alias finds entry e or a later one, if the path has this alias. (`is_none_or` was tried, with the closure's contract inferred and
+// with its clauses written. The proof does not close: the answer of this closure, which captures the index, is unknown where it is called.)
+fn alias_ok(index: PathIndex<'_>, e: u32, path: &[u8], key: Option<Key>) -> bool
+    requires { length path.now ≤ 4096 }
+    ensures { result ≡ reach_ok (path_found index.entry) e (spelled path.now key) }
 {
-    key.is_none_or(|k| alias_reaches(rows, x, links, heads, b, n, e, path, k))
+    match key {
+        Some(k) => alias_reaches(index, e, path, k),
+        None => true,
+    }
 }
 
 // Whether each key of group g finds its own entry or a later one.
-fn keys_ok(rows: &[u8], x: &[u8], links: &[u8], heads: &[u8], b: u32, n: u32, g: u32) -> bool
-    requires { Walked rows.now x.now links.now heads.now 12 b n × (g < n) }
-    ensures { result ≡ keys_reach rows.now x.now links.now heads.now b n g }
+fn keys_ok(index: PathIndex<'_>, g: u32) -> bool
+    requires { ShortTexts index.groups × (g < index.groups.count) }
+    ensures { result ≡ keys_pass index.entry g }
 {
-    let path = row_text(rows, x, g);
+    let path = index.groups.path(g);
     let e = 3 * g;
     let default = default_object_alias(path);
-    reaches(rows, x, links, heads, b, n, e, path)
-        && alias_ok(rows, x, links, heads, b, n, e + 1, path, default)
-        && alias_ok(rows, x, links, heads, b, n, e + 2, path, core_alias(path))
+    reaches(index, e, path)
+        && alias_ok(index, e + 1, path, default)
+        && alias_ok(index, e + 2, path, core_alias(path))
 }
 
 // ---- the leaves of groups
@@ -240,55 +217,15 @@ fn is_settled(g: u32, found: Claim) -> bool
 }
 
 // Whether the leaf of group g is claimed by g or ambiguous, if the group has a leaf.
-fn leaf_ok(rows: &[u8], x: &[u8], links: &[u8], heads: &[u8], b: u32, n: u32, g: u32) -> bool
-    requires { Walked rows.now x.now links.now heads.now 4 b n × (g < n) }
-    ensures { result ≡ leaf_settled rows.now x.now links.now heads.now b n g }
+fn leaf_ok(index: LeafIndex<'_>, g: u32) -> bool
+    requires { ShortTexts index.chains.groups × (g < index.chains.groups.count) }
+    ensures { result ≡ leaf_passes index.entry g }
 {
-    let path = row_text(rows, x, g);
+    let path = index.chains.groups.path(g);
     match leaf_at(path) {
-        Some(i) => is_settled(g, leaf_claim(rows, x, links, heads, b, n, &path[i..]).claim),
+        Some(i) => is_settled(g, index.claim(&path[i..]).claim),
         None => true,
     }
-}
-
-// ---- the texts by which groups are found
-
-// Whether group g is found by its keys and by its leaf.
-fn path_ok(
-    rows: &[u8],
-    x: &[u8],
-    links: &[u8],
-    heads: &[u8],
-    b: u32,
-    leaves: &[u8],
-    starts: &[u8],
-    c: u32,
-    n: u32,
-    g: u32,
-) -> bool
-    requires { Walked rows.now x.now links.now heads.now 12 b n × Walked rows.now x.now leaves.now starts.now 4 c n × (g < n) }
-    ensures { result ≡ path_ok rows.now x.now links.now heads.now b leaves.now starts.now c n g }
-{
-    keys_ok(rows, x, links, heads, b, n, g) && leaf_ok(rows, x, leaves, starts, c, n, g)
-}
-
-// Whether each group is found by its keys and by its leaf. The index by key has the links, heads and b buckets; the index by leaf has the
-// links `leaves`, the heads `starts` and c buckets.
-fn each_path_ok(
-    rows: &[u8],
-    x: &[u8],
-    links: &[u8],
-    heads: &[u8],
-    b: u32,
-    leaves: &[u8],
-    starts: &[u8],
-    c: u32,
-    n: u32,
-) -> bool
-    requires { Walked rows.now x.now links.now heads.now 12 b n × Walked rows.now x.now leaves.now starts.now 4 c n }
-    ensures { result ≡ all_below (path_ok rows.now x.now links.now heads.now b leaves.now starts.now c n) n }
-{
-    (0..n).all(|g| path_ok(rows, x, links, heads, b, leaves, starts, c, n, g))
 }
 
 // ---- the whole memory
@@ -298,9 +235,9 @@ fn sum_ok(m: &[u8]) -> bool
     requires { InBounds m.now }
     ensures { result ≡ sum_ok (store_of m.now) }
 {
-    let g = length_sum(parts::guid_rows(m), parts::guids(m));
-    let r = length_sum(parts::group_rows(m), parts::groups(m));
-    let f = length_sum(parts::field_rows(m), parts::fields(m));
+    let g = length_sum(guids_by_key(m));
+    let r = length_sum(groups_by_index(m));
+    let f = length_sum(fields_by_key(m));
     g + r + f == parts::held(m) as u64
 }
 
@@ -311,49 +248,18 @@ fn texts_ok(m: &[u8]) -> bool
 {
     let used = parts::used(m);
     let x = parts::texts(m);
-    each_text_ok(used, x, parts::guid_rows(m), parts::guids(m))
-        && each_text_ok(used, x, parts::group_rows(m), parts::groups(m))
-        && each_text_ok(used, x, parts::field_rows(m), parts::fields(m))
-}
-
-fn guids_ok(m: &[u8]) -> bool
-    requires { InBounds m.now }
-    ensures { result ≡ guids_ok (store_of m.now) }
-{
-    each_row_ok(
-        parts::guid_rows(m),
-        parts::guid_heads(m),
-        guid_buckets(m),
-        parts::guids(m),
-        0xFFFF_FFFF,
-    )
-}
-
-fn groups_ok(m: &[u8]) -> bool
-    requires { InBounds m.now }
-    ensures { result ≡ groups_ok (store_of m.now) }
-{
-    each_row_ok(
-        parts::group_rows(m),
-        parts::group_heads(m),
-        group_buckets(m),
-        parts::groups(m),
-        0x1_0000,
-    )
+    each_text_ok(used, x, guids_by_key(m))
+        && each_text_ok(used, x, groups_by_index(m))
+        && each_text_ok(used, x, fields_by_key(m))
 }
 
 fn fields_ok(m: &[u8]) -> bool
     requires { InBounds m.now }
     ensures { result ≡ fields_ok (store_of m.now) }
 {
-    each_field_ok(
-        parts::group_rows(m),
-        parts::groups(m),
-        parts::field_rows(m),
-        parts::field_heads(m),
-        field_buckets(m),
-        parts::fields(m),
-    )
+    let groups = groups_by_index(m);
+    let index = fields_by_key(m);
+    each_below(index.count, |e| field_ok(groups, index, e))
 }
 
 // Whether the rows of all three tables pass.
@@ -361,7 +267,9 @@ fn rows_ok(m: &[u8]) -> bool
     requires { InBounds m.now }
     ensures { result ≡ rows_ok (store_of m.now) }
 {
-    guids_ok(m) && groups_ok(m) && fields_ok(m)
+    each_row_ok(guids_by_key(m), 0xFFFF_FFFF)
+        && each_row_ok(groups_by_index(m), 0x1_0000)
+        && fields_ok(m)
 }
 
 // Whether all groups are found by their keys and leaves. A walk reads the text of any group, so all texts must have passed before.
@@ -369,17 +277,10 @@ fn paths_ok(m: &[u8]) -> bool
     requires { InBounds m.now × (texts_ok (store_of m.now) ≡ true) }
     ensures { result ≡ paths_ok (store_of m.now) }
 {
-    each_path_ok(
-        parts::group_rows(m),
-        parts::texts(m),
-        parts::path_links(m),
-        parts::path_heads(m),
-        path_buckets(m),
-        parts::leaf_links(m),
-        parts::leaf_heads(m),
-        leaf_buckets(m),
-        parts::groups(m),
-    )
+    let n = parts::groups(m);
+    let paths = groups_by_path(m, n);
+    let leaves = groups_by_leaf(m, n);
+    each_below(n, |g| keys_ok(paths, g) && leaf_ok(leaves, g))
 }
 
 // Whether the tables and indexes pass. The sum of the lengths is first: if it passes, the texts checked next have no more bytes in total

@@ -1,5 +1,5 @@
 // `read_checkpoint_tables`: the head of a block, its GUIDs, its groups, its end.
-ghost use Rattle.std.specs.Prelude.{◌≤◌, length, IfOk};
+ghost use Rattle.std.specs.Prelude.{◌≡◌, ◌≤◌, length, IfOk, IfErr};
 ghost use Rattle.vrf_model.specs.Block.{by_table, zero_word, count_up_to, block_end, block};
 ghost use Rattle.vrf_store.specs.Inner.WellFormed.{WellFormed};
 ghost use Rattle.vrf_reader.specs.Inner.Simulates.{RefinesReading};
@@ -25,7 +25,7 @@ fn read_zero(reader: &mut BitReader<'_>, at: u32) -> Result<(), Refusal>
     Ok(())
 }
 
-// A count; 31 gives which count it is, if it is above `top`.
+// A count; 31 gives which count it is, if it is above `top`: a detail of document 01's table, so a number.
 fn read_count(reader: &mut BitReader<'_>, which: u32, top: u32) -> Result<u32, Refusal>
     ensures reads { RefinesReading (count_up_to which top) reader.old reader.new result }
     ensures few { IfOk result (λ n. n ≤ top) }
@@ -64,18 +64,21 @@ pub fn read_checkpoint_tables(
     scratch: &mut [u8],
 ) -> Result<CheckpointTables, Refusal>
     requires { WellFormed m.old × (4096 ≤ length scratch.old) }
-    ensures { BlockReads (block by_table) reader.old reader.new m.old m.new result }
+    ensures reads { BlockReads (block by_table) reader.old reader.new m.old m.new result }
+    ensures stays { IfErr result (λ _. reader.new ≡ reader.old) }
 {
-    let w = reader.read_u32()?;
+    let mut at = *reader;
+    let w = at.read_u32()?;
     // Three calls and no loop, whose invariant would have these three cases.
-    read_zero(reader, 4)?;
-    read_zero(reader, 8)?;
-    read_zero(reader, 12)?;
-    let guids = read_count(reader, 1, 1_000_000)?;
-    let t = read_guids(reader, m, scratch, guids)?;
-    let groups = read_count(reader, 2, 100_000)?;
-    let fields = read_groups(reader, m, scratch, groups)?;
-    let frame = read_end(reader, w)?;
+    read_zero(&mut at, 4)?;
+    read_zero(&mut at, 8)?;
+    read_zero(&mut at, 12)?;
+    let guids = read_count(&mut at, 1, 1_000_000)?;
+    let t = read_guids(&mut at, m, scratch, guids)?;
+    let groups = read_count(&mut at, 2, 100_000)?;
+    let fields = read_groups(&mut at, m, scratch, groups)?;
+    let frame = read_end(&at, w)?;
+    *reader = at;
     Ok(CheckpointTables {
         guid_count: guids,
         group_count: groups,

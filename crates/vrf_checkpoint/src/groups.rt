@@ -1,5 +1,5 @@
 // The groups of a block and their slots.
-ghost use Rattle.std.specs.Prelude.{◌≡◌, ◌||◌, ◌*◌, ◌≤◌, length, IfOk};
+ghost use Rattle.std.specs.Prelude.{◌≡◌, ◌||◌, ◌*◌, ◌≤◌, length, IfOk, IfErr};
 ghost use Rattle.vrf_text.specs.Text.{IsText};
 ghost use Rattle.vrf_model.specs.Lookup.{index_place, path_place};
 ghost use Rattle.vrf_model.specs.Parser.{sum_from};
@@ -115,10 +115,13 @@ pub fn read_groups(
     requires { WellFormed m.old × (4096 ≤ length scratch.old) × (n ≤ 100000) }
     ensures reads { Refines (sum_from n 0 (λ _. block_group)) reader.old reader.new m.old m.new result }
     ensures few { IfOk result (λ k. k ≤ 65536 * n) }
+    ensures stays { IfErr result (λ _. reader.new ≡ reader.old) }
 {
+    let mut at = *reader;
     let mut fields: u64 = 0;
     for _ in 0..n {
-        fields += read_group(reader, m, scratch)?;
+        fields += read_group(&mut at, m, scratch)?;
     }
+    *reader = at;
     Ok(fields)
 }

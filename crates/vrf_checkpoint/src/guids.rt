@@ -1,5 +1,5 @@
 // The GUIDs of a block. The memory stores the position of each literal, and its text is found again in the block.
-ghost use Rattle.std.specs.Prelude.{◌≤◌, length};
+ghost use Rattle.std.specs.Prelude.{◌≡◌, ◌≤◌, length, IfErr};
 ghost use Rattle.vrf_model.specs.Block.{no_paths, literal, resolved, by_table, path_of_kind, block_guid, block_guids};
 ghost use Rattle.vrf_store.specs.Inner.WellFormed.{WellFormed};
 ghost use Rattle.vrf_checkpoint.specs.Inner.Guids.{BeforeEntry, PathBy, GuidReads, GuidBy};
@@ -32,6 +32,7 @@ fn read_literal(
 {
     let at = reader.position();
     let n = read_text(reader, scratch)?;
+    // 5, the literals, is the detail of refusal 42 in document 01's table.
     if literals_allowed(m) <= t.literals as usize {
         return Err(Refusal {
             reason: Reason::AllowancePassed,
@@ -83,7 +84,7 @@ fn read_place(
     ))
 }
 
-// Decision over the kind byte: 0 place, 1 text, any other refused.
+// Decision over the kind byte: 0 place, 1 text, any other refused. (A byte of the wire: an enum would be made of it here and matched at once.)
 fn read_path(
     reader: &mut BitReader<'_>,
     m: &mut [u8],
@@ -133,11 +134,14 @@ pub fn read_guids(
     n: u32,
 ) -> Result<Paths, Refusal>
     requires { WellFormed m.old × (4096 ≤ length scratch.old) × (n ≤ 1000000) }
-    ensures { GuidReads (block_guids by_table n 0 no_paths) reader.old reader.new m.old m.new n result }
+    ensures reads { GuidReads (block_guids by_table n 0 no_paths) reader.old reader.new m.old m.new n result }
+    ensures stays { IfErr result (λ _. reader.new ≡ reader.old) }
 {
+    let mut at = *reader;
     let mut t = Paths::default();
     for entry in 0..n {
-        t = read_guid(reader, m, scratch, entry, t)?;
+        t = read_guid(&mut at, m, scratch, entry, t)?;
     }
+    *reader = at;
     Ok(t)
 }

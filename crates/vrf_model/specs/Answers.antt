@@ -1,15 +1,21 @@
--- Document 01's answer for each case of the code's answers. The contracts use these definitions.
+-- Document 01's value for what a call takes, and its answer for each case of the code's answers. The contracts use these definitions.
 use Rattle.std.specs.Prelude.{Bool, ℕ, Some, None, Result, Ok, Err}
 use Rattle.std.specs.Prelude as std
 use Rattle.std.proofs.Math.Option.{none, some}
 use Rattle.vrf_bitio.specs.Reasons
 use Rattle.vrf_bitio.specs.declared.Refusal.{Refusal}
+use Rattle.vrf_model.specs.Book
 use Rattle.vrf_model.specs.Block.{BlockCounts}
 use Rattle.vrf_model.specs.Writer
 use Rattle.vrf_model.specs.Writer.{written, not_written}
 use Rattle.vrf_model.specs.Calls.{Answer, refusal-of, acted, field_placed, at_place, found, ran, block_counts, number}
+use Rattle.vrf_model.specs.declared.Allowances.{Allowances}
 use Rattle.vrf_model.specs.declared.CheckpointTables.{CheckpointTables}
 use Rattle.vrf_model.specs.declared.Ran.{Ran}
+
+-- the five allowances that a book is opened with
+abbrev pub allowed_by : Allowances → Book.Allowances
+allowed_by a = record { guids = a.guids; groups = a.groups; fields = a.fields; text = a.text; literals = a.literals }
 
 -- a refusal carries a number and details a, b
 abbrev pub refusal_of : Refusal → Answer

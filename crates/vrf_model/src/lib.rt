@@ -1,6 +1,16 @@
-// What the book calls answer beside numbers: a call answers `Result<_, Refusal>`, a lookup that may find nothing an Option in it.
-// specs/Answers.antt gives document 01's answer for each case.
+// What the book calls take and answer beside numbers: a call answers `Result<_, Refusal>`, a lookup that may find nothing an Option in it.
+// specs/Answers.antt gives document 01's value for each of them.
 #![tactic(auto)]
+
+// The five allowances that a book is opened with.
+#[derive(Clone, Copy, Debug, PartialEq, Eq)]
+pub struct Allowances {
+    pub guids: u64,
+    pub groups: u64,
+    pub fields: u64,
+    pub text: u64,
+    pub literals: u64,
+}
 
 // The answer of a run: its count, or the GUID of `load_object`; and the position after it, in bits.
 #[derive(Clone, Copy, Debug, PartialEq, Eq)]

@@ -67,13 +67,13 @@ module _ (out : List ℕ) (at : ℕ) {s : Suffix} where
   put-empty e = rw e (sym (pasted-nil out at))
 
   module _ {n : ℕ} (h : at + length (suffix_text s) ≤ length out) where
-    pub plain-space : s ≡ Plain n → at + (1 + length (decimal n)) ≤ length out
+    plain-space : s ≡ Plain n → at + (1 + length (decimal n)) ≤ length out
     plain-space e = let g : at + suc (length (decimal n)) ≤ length out = rw e at h in omega arith
 
     pub put-plain : s ≡ Plain n → {o : List ℕ} → o ≡ pasted (set out at (code "_")) (at + 1) (decimal n) → o ≡ pasted out at (suffix_text s)
     put-plain e eo = eo ∙ rw e (sym (pasted-cons out at (code "_") (decimal n) (omega (arith, plain-space e))))
 
-    pub minus-space : s ≡ Minus n → at + (2 + length (decimal n)) ≤ length out
+    minus-space : s ≡ Minus n → at + (2 + length (decimal n)) ≤ length out
     minus-space e = let g : at + suc (suc (length (decimal n))) ≤ length out = rw e at h in omega arith
 
     pub put-minus : s ≡ Minus n → {o : List ℕ} → o ≡ pasted (set (set out at (code "_")) (at + 1) (code "-")) (at + 2) (decimal n) → o ≡ pasted out at (suffix_text s)

@@ -28,7 +28,8 @@ pub fn decimal_len(n: u64) -> usize
     n.max(1).ilog10() as usize + 1
 }
 
-// Writes n in decimal to out from place at on, the last digit first. It must fit.
+// Writes n in decimal to out from place at on, the last digit first. It must fit. (`write!` says which bytes it writes only for a `String`,
+// and there is no heap.)
 fn put_digits(n: u64, out: &mut [u8], at: usize)
     requires { at + length (decimal n) ≤ length out.old }
     ensures { out.new ≡ pasted out.old at (decimal n) }
@@ -83,12 +84,12 @@ fn suffix_of(number: i32) -> Suffix
     ensures { suffix_text result ≡ suffix number }
 {
     if number < 0 {
-        return Suffix::Minus(vrf_bitio::magnitude(number));
+        return Suffix::Minus(number.unsigned_abs());
     }
     if number == 0 {
         return Suffix::Empty;
     }
-    Suffix::Plain(vrf_bitio::magnitude(number) - 1)
+    Suffix::Plain(number.unsigned_abs() - 1)
 }
 
 // The number of bytes that a suffix adds.

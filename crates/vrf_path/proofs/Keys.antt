@@ -1,21 +1,18 @@
 -- Lemmas for `key_len`, `key_byte` and `has_key`: a key's length and bytes, by the recipe that makes it.
-use mathlib.Core.Path.{◌≡◌, refl, sym, ap, ◌∙◌}
+use mathlib.Core.Path.{◌≡◌, sym, ap, ◌∙◌}
 use mathlib.Core.Bool.{Bool, true, false}
-use mathlib.Core.List.{List, ◌∷◌, ◌++◌}
+use mathlib.Core.List.{List, ◌++◌}
 use mathlib.Core.Option.{Option}
-use Prim.Native.Char.{code}
-use Prim.Native.Nat.{ℕ, suc, ◌+◌, ◌-◌, ◌<◌, ◌≤◌}
+use Prim.Native.Nat.{ℕ, ◌+◌, ◌-◌, ◌<◌, ◌≤◌}
 use native.Mathlib.Omega.{arith}
-use lib.Dec.{ltb}
-use lib.ListN.{length, get_or, take, drop, length-append, length-take, length-drop, get_or-append, get_or-eq_default}
-use lib.Seq.{take_all, get_or-take, get_or-drop, get_or-append-add, get_or_at, length-take-le}
-use borrow.Author.Tests.{ltb-true, ltb-false}
+use lib.ListN.{length, get_or, drop, length-drop, get_or-append}
+use lib.Seq.{get_or-drop, get_or-append-add}
 use Rattle.vrf_path.specs.Text.{same}
 use Rattle.vrf_path.specs.Keys.{default_prefix, characters_core, has_key, default_alias, core_alias, key_is}
 use Rattle.vrf_path.specs.Answers.{key_bytes}
 use Rattle.vrf_path.proofs.Laws.Keys.{has-by-parts}
 use Rattle.vrf_path.specs.declared.Key.{Key}
-use Rattle.vrf_path.specs.declared.Key.TheVariants.{Prefixed, Cut, Inserted}
+use Rattle.vrf_path.specs.declared.Key.TheVariants.{Prefixed, Inserted}
 
 -- the length of a key
 module _ (t : List ℕ) {k : Key} where
@@ -32,44 +29,6 @@ past : (p t : List ℕ) (i : ℕ) → length p ≤ i → get_or (p ++ t) i 0 ≡
 past p t i h =
     let e : i ≡ length p + (i - length p) = omega arith in
     ap (λ (n : ℕ). get_or (p ++ t) n 0) e ∙ get_or-append-add p t (i - length p) 0
-
--- the bytes of a path with `/` in place of its `/_Core/`
-module _ (t : List ℕ) (at i : ℕ) where
-  module _ (h : length t < at) where
-    pub cut-past-slash : i ≡ length t → code "/" ≡ get_or (key_bytes t (Cut at)) i 0
-    cut-past-slash e = sym (get_or_at (take at t) (code "/") (drop (at + 7) t) 0 i (rw (take_all at t (omega arith)) (sym e)))
-
-    pub cut-past : (i ≡ length t → ⊥) → {r : ℕ} → r ≡ get_or t i 0 → r ≡ get_or (key_bytes t (Cut at)) i 0
-    cut-past e er = er ∙ sym (by (ltb i (length t)) refl)
-      where
-        size : length (take at t ++ (code "/" ∷ drop (at + 7) t)) ≡ length t + 1
-        size = simp (length-append, length-take, length-drop) (omega arith)
-
-        by : (x : Bool) → ltb i (length t) ≡ x → get_or (take at t ++ (code "/" ∷ drop (at + 7) t)) i 0 ≡ get_or t i 0
-        by true x =
-            let hi : i < length t = ltb-true i (length t) x in
-            get_or-append (take at t) (code "/" ∷ drop (at + 7) t) 0 i (rw length-take (omega arith)) ∙ get_or-take at t i 0 (omega arith)
-        by false x =
-            let hi : length t ≤ i = ltb-false i (length t) x in
-            get_or-eq_default (take at t ++ (code "/" ∷ drop (at + 7) t)) 0 (omega (arith, size)) ∙ sym (get_or-eq_default t 0 hi)
-
-  module _ (h : at ≤ length t) where
-    pub cut-before : i < at → {r : ℕ} → r ≡ get_or t i 0 → r ≡ get_or (key_bytes t (Cut at)) i 0
-    cut-before hi er = er ∙ sym (get_or-append (take at t) (code "/" ∷ drop (at + 7) t) 0 i (rw length-take (omega arith)) ∙ get_or-take at t i 0 hi)
-
-    pub cut-slash : i ≡ at → code "/" ≡ get_or (key_bytes t (Cut at)) i 0
-    cut-slash e = sym (get_or_at (take at t) (code "/") (drop (at + 7) t) 0 i (length-take-le at t h ∙ sym e))
-
-    pub cut-following : at ≤ i → (i ≡ at → ⊥) → {r : ℕ} → r ≡ get_or t (i + 6) 0 → r ≡ get_or (key_bytes t (Cut at)) i 0
-    cut-following hi e er =
-        er ∙ sym (past (take at t) (code "/" ∷ drop (at + 7) t) i (rw length-take (omega arith))
-        ∙ rw (length-take-le at t h, next) (get_or-drop (at + 7) t (i - at - 1) 0 ∙ ap (λ (n : ℕ). get_or t n 0) place))
-      where
-        next : i - at ≡ suc (i - at - 1)
-        next = omega arith
-
-        place : at + 7 + (i - at - 1) ≡ i + 6
-        place = omega arith
 
 -- the bytes of a key
 module _ (t : List ℕ) {k : Key} (i : ℕ) {r : ℕ} where

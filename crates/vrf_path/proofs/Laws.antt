@@ -1,4 +1,4 @@
--- Laws of texts, keys, leaves, toggles, stems and bases, and that each contract determines its answer.
+-- Laws of texts, keys, leaves, toggles, stems and bases, what a key of the code spells, and that each contract determines its answer.
 pub mod Text
 pub mod Keys
 pub mod Leaf
@@ -6,4 +6,5 @@ pub mod Toggle
 pub mod Stems
 pub mod Base
 pub mod Determined
+pub mod Answers
 pub mod Left

@@ -1,16 +1,17 @@
 -- Lemmas for the functions of stems: their answers, by what their searches found.
-use Rattle.std.specs.Prelude.{◌≡◌, refl, List, ◌++◌, ℕ, zero, suc, ◌<◌, ◌≤◌, length, Some}
+use Rattle.std.specs.Prelude.{◌≡◌, refl, List, ◌++◌, ℕ, zero, suc, ◌<◌, ◌≤◌, min, length, Some}
 use Rattle.std.specs.Prelude.{Option as Maybe}
-use Rattle.std.proofs.Common.{ap, ◌∙◌, arith}
+use Rattle.std.proofs.Common.{sym, ap, ◌∙◌, arith}
+use Rattle.std.proofs.Math.Nat.{min-eq_left, min-eq_right}
+use Rattle.vrf_bitio.proofs.Laws.Cases.{by_order}
 use Rattle.std.proofs.Math.Option.{Option, none, some}
 use Prim.Native.Char.{code}
 use Rattle.vrf_path.specs.Text.{last_below}
-use Rattle.vrf_path.specs.Stems.{digits_from, digit_stems}
-use Rattle.vrf_path.specs.Answers.{stems_after, stems_from}
-use Rattle.vrf_path.specs.Inner.Stems.{StemAnswer}
+use Rattle.vrf_path.specs.Stems.{cuts_below, digits_from, digit_stems}
+use Rattle.vrf_path.specs.Answers.{stems_after, stems_from, StemAnswer}
 use Rattle.vrf_path.proofs.Laws.Text.{last_within}
 use Rattle.vrf_path.proofs.Laws.Leaf.{last-is}
-use Rattle.vrf_path.proofs.Laws.Stems.{cut_at, cuts-last, rule-cut}
+use Rattle.vrf_path.proofs.Laws.Stems.{cut_at, cuts-last, cuts-past, rule-cut}
 use Rattle.vrf_path.specs.declared.Phase.TheVariants.{Underscore}
 use Rattle.vrf_path.specs.declared.Stem.{Stem}
 
@@ -36,3 +37,10 @@ module _ (name : List ℕ) (n : ℕ) {i : ℕ} (e : last_below (code "_") name n
 
 pub cut-none : (name : List ℕ) (n : ℕ) → last_below (code "_") name n ≡ none → stems_after name n Underscore ≡ digit_stems name (digits_from name (length name))
 cut-none name n e = following name n e
+
+-- there is no cut past the end
+pub from_end : (name : List ℕ) (n : ℕ) → stems_after name n Underscore ≡ stems_after name (min n (length name)) Underscore
+from_end name n =
+    by_order (length name) n
+    (λ h. ap (λ (c : List (List ℕ)). c ++ digit_stems name (digits_from name (length name))) (cuts-past name n h ∙ ap (cuts_below name) (sym (min-eq_right h))))
+    (λ h. ap (λ (k : ℕ). stems_after name k Underscore) (sym (min-eq_left (omega arith))))

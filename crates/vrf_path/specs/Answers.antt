@@ -77,3 +77,17 @@ stems_from name None = []
 abbrev pub stem_length : Maybe Stem → ℕ
 stem_length (Some s) = s.len
 stem_length None = 0
+
+-- the rule that made the stem of n bytes: the byte after it is a digit, a capital, or neither
+unfoldable pub rule_at : List ℕ → ℕ → Phase
+rule_at name n = cond (is_digit (get_or name n 0)) Digits (cond (is_capital (get_or name n 0)) Capital Underscore)
+
+abbrev pub Ruled : List ℕ → Maybe Stem → Type 0
+Ruled name (Some s) = s.phase ≡ rule_at name s.len
+Ruled name None = Unit {0}
+
+-- the stems l are this stem, made by its rule, and the stems after it
+pub record StemAnswer (name : List ℕ) (l : List (List ℕ)) (s : Maybe Stem) : Type 0 where
+  pub stems : l ≡ stems_from name s
+  pub within : stem_length s ≤ length name
+  pub rule : Ruled name s

@@ -1,4 +1,3 @@
 -- Definitions for contracts of functions that are not exported, and of the book's crates.
 pub mod Leaf
-pub mod Stems
 pub mod Text

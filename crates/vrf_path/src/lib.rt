@@ -7,8 +7,7 @@ ghost use Rattle.vrf_path.specs.Text.{same, eight, starts_with, ends_with, first
 ghost use Rattle.vrf_path.specs.Keys.{is_separator, has_separator, default_alias, core_alias, has_key, key_is};
 ghost use Rattle.vrf_path.specs.Stems.{digits_from, digit_stems, capital_stems, stems};
 ghost use Rattle.vrf_path.specs.Base.{cut_at, class_base, leaf_base};
-ghost use Rattle.vrf_path.specs.Answers.{Front, spelled, default_key, core_key, KeyAnswer, key_bytes, LeafAnswer, ToggleAnswer, stem_length, stems_after, stems_from};
-ghost use Rattle.vrf_path.specs.Inner.Stems.{StemAnswer};
+ghost use Rattle.vrf_path.specs.Answers.{Front, spelled, default_key, core_key, KeyAnswer, key_bytes, LeafAnswer, ToggleAnswer, stem_length, stems_after, stems_from, StemAnswer};
 ghost use Rattle.vrf_path.specs.Inner.Text.{place, Differ};
 
 // One of a path's keys, as the recipe that makes it from the bytes of the path. So a key is compared and hashed without being built.
@@ -35,7 +34,7 @@ pub enum Toggle {
 
 // The rule that made a stem: cut at `_`, without the trailing digits, or also without a capital.
 #[derive(Clone, Copy, Debug, PartialEq, Eq)]
-enum Phase {
+pub enum Phase {
     Underscore,
     Digits,
     Capital,
@@ -43,9 +42,9 @@ enum Phase {
 
 // A stem of a name: its first `len` bytes.
 #[derive(Clone, Copy, Debug, PartialEq, Eq)]
-struct Stem {
-    len: usize,
-    phase: Phase,
+pub struct Stem {
+    pub len: usize,
+    pub phase: Phase,
 }
 
 // The stems of a name, in order.
@@ -56,21 +55,13 @@ pub struct Stems<'a> {
     ghost within: { stem_length stem ≤ length name.now },
 }
 
-// The eight bytes from i on as one number, low byte first. This compiles to one load; `first_chunk` would test the length too.
+// The eight bytes from i on as one number, low byte first. This compiles to one load. (`vrf_bitio` has the same one, for itself: a public
+// function of an exported crate may not ask for these eight bytes.)
 fn eight(t: &[u8], i: usize) -> u64
     requires { i + 8 ≤ length t.now }
     ensures { result ≡ eight t.now i }
 {
-    u64::from_le_bytes([
-        t[i],
-        t[i + 1],
-        t[i + 2],
-        t[i + 3],
-        t[i + 4],
-        t[i + 5],
-        t[i + 6],
-        t[i + 7],
-    ])
+    u64::from_le_bytes(t[i..i + 8].try_into().unwrap())
 }
 
 // Compares two texts of one length byte by byte.
@@ -165,7 +156,8 @@ fn ends_with(text: &[u8], p: &[u8]) -> bool
     same(&text[from..], p)
 }
 
-// The first place at which a text has p, which is not empty. The whole of p is compared only where its first byte is found.
+// The first place at which a text has p, which is not empty. The whole of p is compared only where its first byte is found. (`position`
+// over `windows` is no plainer: its closure would hold the same test, and a text shorter than p, which has no window, would be a case apart.)
 fn find(text: &[u8], p: &[u8]) -> Option<usize>
     requires { 0 < length p.now }
     ensures { place result ≡ first_from p.now 0 text.now }
@@ -284,14 +276,15 @@ pub fn core_alias(path: &[u8]) -> Option<Key>
     None
 }
 
-// n - k, or 0 if k is larger.
+// n - k, or 0 if k is larger. It is one call of the library, and stays because it is public: such a function may go only into a generic one.
 pub fn left(n: usize, k: usize) -> usize
     ensures { result ≡ n - k }
 {
     n.saturating_sub(k)
 }
 
-// The byte at i, 0 past the end.
+// The byte at i, 0 past the end. (`vrf_bitio` and `vrf_table` have their own, which answers a wider number. A public
+// one would be one more promise of an exported crate, for one line.)
 fn byte_at(text: &[u8], i: usize) -> u8
     ensures { result ≡ get_or text.now i 0 }
 {
@@ -368,7 +361,7 @@ pub fn key_byte(path: &[u8], key: Key, i: usize) -> u8
     }
 }
 
-// Whether the bytes of a path's key are this text.
+// Whether the bytes of a path's key are this text. (A loop, because `has_key` takes a tenth longer with `all`.)
 fn same_key(path: &[u8], key: Key, text: &[u8]) -> bool
     ensures { result ≡ same (key_bytes path.now key) text.now }
 {
@@ -412,7 +405,8 @@ pub fn has_key(path: &[u8], text: &[u8]) -> bool
     false
 }
 
-// The place where a path's leaf starts: the non-empty text after its last dot.
+// The place where a path's leaf starts: the non-empty text after its last dot. (A place and no slice, as `leaf_base` and `class_base` answer one,
+// which callers pass on as a number.)
 pub fn leaf_at(path: &[u8]) -> Option<usize>
     ensures { LeafAnswer path.now result }
 {
@@ -476,7 +470,7 @@ pub fn leaf_base(l: &[u8]) -> usize
     class_base(l)
 }
 
-// The length of a name without its trailing digits.
+// The length of a name without its trailing digits. (A loop as in `rfind`, where `rposition` takes a third longer for the same search.)
 fn digits_from(name: &[u8]) -> usize
     ensures { (result ≡ digits_from name.now (length name.now)) × (result ≤ length name.now) }
 {
@@ -507,10 +501,12 @@ fn digit_stem(name: &[u8]) -> Option<Stem>
 
 // The stem of n bytes without one trailing capital, if something is left.
 fn capital_stem(name: &[u8], n: usize) -> Option<Stem>
-    requires { n ≤ length name.now }
     ensures { StemAnswer name.now (capital_stems name.now n) result }
 {
     if n < 2 {
+        return None;
+    }
+    if name.len() < n {
         return None;
     }
     if name[n - 1].is_ascii_uppercase() {
@@ -538,13 +534,12 @@ fn cut_stem(name: &[u8], n: usize) -> Option<Stem>
 }
 
 // The stem after the one of len bytes that this rule made.
-fn next_stem(name: &[u8], stem: Stem) -> Option<Stem>
-    requires { stem.len ≤ length name.now }
-    ensures { StemAnswer name.now (stems_after name.now stem.len stem.phase) result }
+pub fn next_stem(name: &[u8], len: usize, phase: Phase) -> Option<Stem>
+    ensures { StemAnswer name.now (stems_after name.now len phase) result }
 {
-    match stem.phase {
-        Phase::Underscore => cut_stem(name, stem.len),
-        Phase::Digits => capital_stem(name, stem.len),
+    match phase {
+        Phase::Underscore => cut_stem(name, len.min(name.len())),
+        Phase::Digits => capital_stem(name, len),
         Phase::Capital => None,
     }
 }
@@ -573,7 +568,7 @@ impl<'a> Iterator for Stems<'a> {
 
     fn next(&mut self) -> Option<&'a [u8]> {
         let stem = self.stem?;
-        self.stem = next_stem(self.name, stem);
+        self.stem = next_stem(self.name, stem.len, stem.phase);
         Some(&self.name[..stem.len])
     }
 }

@@ -1,5 +1,5 @@
 // `read_net_field_exports`: each export declares a group or refers to one, and may set a field on it.
-ghost use Rattle.std.specs.Prelude.{◌≤◌, length};
+ghost use Rattle.std.specs.Prelude.{◌≡◌, ◌≤◌, length, IfErr};
 ghost use Rattle.vrf_model.specs.Runs.{declared_group, group_of, exported_field, export_entry, fields_run};
 ghost use Rattle.vrf_store.specs.Inner.WellFormed.{WellFormed};
 ghost use Rattle.vrf_reader.specs.Inner.Simulates.{Refines};
@@ -23,11 +23,14 @@ pub fn named_field(
     handle: u32,
 ) -> Result<(), Refusal>
     requires { WellFormed m.old × (4096 ≤ length scratch.old) }
-    ensures { Refines (field_read index handle) reader.old reader.new m.old m.new result }
+    ensures reads { Refines (field_read index handle) reader.old reader.new m.old m.new result }
+    ensures stays { IfErr result (λ _. reader.new ≡ reader.old) }
 {
-    let checksum = reader.read_u32()?;
-    let n = read_fname(reader, scratch)?;
+    let mut at = *reader;
+    let checksum = at.read_u32()?;
+    let n = read_fname(&mut at, scratch)?;
     set_field_on_group(m, index, handle, checksum, &scratch[..n as usize])?;
+    *reader = at;
     Ok(())
 }
 
@@ -84,7 +87,8 @@ fn declared_group(
     Ok(())
 }
 
-// Flag 1 declares a group. Flag 0 refers to a group that the book has; 20 if it has none. Any other flag is 21.
+// Flag 1 declares a group. Flag 0 refers to a group that the book has; 20 if it has none. Any other flag is 21. (The flag is a number of the
+// wire: an enum would be made of it here and matched at once.)
 fn group_of(
     reader: &mut BitReader<'_>,
     m: &mut [u8],
@@ -122,12 +126,16 @@ pub fn export_entry(
     scratch: &mut [u8],
 ) -> Result<(), Refusal>
     requires { WellFormed m.old × (4096 ≤ length scratch.old) }
-    ensures { Refines export_entry reader.old reader.new m.old m.new result }
+    ensures reads { Refines export_entry reader.old reader.new m.old m.new result }
+    ensures stays { IfErr result (λ _. reader.new ≡ reader.old) }
 {
-    let index = reader.read_int_packed()?;
-    let flag = reader.read_int_packed()?;
-    group_of(reader, m, scratch, index, flag)?;
-    field_of(reader, m, scratch, index)
+    let mut at = *reader;
+    let index = at.read_int_packed()?;
+    let flag = at.read_int_packed()?;
+    group_of(&mut at, m, scratch, index, flag)?;
+    field_of(&mut at, m, scratch, index)?;
+    *reader = at;
+    Ok(())
 }
 
 pub fn read_net_field_exports(
@@ -136,7 +144,8 @@ pub fn read_net_field_exports(
     scratch: &mut [u8],
 ) -> Result<u32, Refusal>
     requires { WellFormed m.old × (4096 ≤ length scratch.old) }
-    ensures { Refines fields_run reader.old reader.new m.old m.new result }
+    ensures reads { Refines fields_run reader.old reader.new m.old m.new result }
+    ensures stays { IfErr result (λ _. reader.new ≡ reader.old) }
 {
     read_run(reader, m, scratch, export_entry)
 }

@@ -1,5 +1,6 @@
-// `read_export_guids`: each entry is an object in a payload of its own.
-ghost use Rattle.std.specs.Prelude.{true, ◌≤◌, length};
+// `read_export_guids`: each entry is an object in a payload of its own. `ReaderWithin` is a clause: `BitReader` has public fields and reads any
+// window, also one that leaves its slice, so a ghost field there would ask more of all its callers.
+ghost use Rattle.std.specs.Prelude.{◌≡◌, true, ◌≤◌, length, IfErr};
 ghost use Rattle.vrf_model.specs.Runs.{object_at, payload_of, guid_entry, guid_run};
 ghost use Rattle.vrf_store.specs.Inner.WellFormed.{WellFormed};
 ghost use Rattle.vrf_reader.specs.Inner.Simulates.{Refines};
@@ -39,9 +40,11 @@ pub fn guid_entry(
     scratch: &mut [u8],
 ) -> Result<(), Refusal>
     requires { WellFormed m.old × ((4096 ≤ length scratch.old) × ReaderWithin reader.old) }
-    ensures { Refines guid_entry reader.old reader.new m.old m.new result }
+    ensures reads { Refines guid_entry reader.old reader.new m.old m.new result }
+    ensures stays { IfErr result (λ _. reader.new ≡ reader.old) }
 {
-    let size = reader.read_u32()?;
+    let mut at = *reader;
+    let size = at.read_u32()?;
     if 0x8000_0000 <= size {
         return Err(Refusal {
             reason: Reason::NegativePayloadSize,
@@ -49,7 +52,8 @@ pub fn guid_entry(
             b: 0,
         });
     }
-    read_payload(reader, m, scratch, size)?;
+    read_payload(&mut at, m, scratch, size)?;
+    *reader = at;
     Ok(())
 }
 
@@ -59,7 +63,8 @@ pub fn read_export_guids(
     scratch: &mut [u8],
 ) -> Result<u32, Refusal>
     requires { WellFormed m.old × ((4096 ≤ length scratch.old) × ReaderWithin reader.old) }
-    ensures { Refines guid_run reader.old reader.new m.old m.new result }
+    ensures reads { Refines guid_run reader.old reader.new m.old m.new result }
+    ensures stays { IfErr result (λ _. reader.new ≡ reader.old) }
 {
     read_run(reader, m, scratch, guid_entry)
 }

@@ -1,5 +1,6 @@
-// Texts and field names, read into the front of a scratch buffer of 4,096 bytes.
-ghost use Rattle.std.specs.Prelude.{◌≤◌, length};
+// Texts and field names, read into the front of a scratch buffer of 4,096 bytes. The answer is a length and no slice, since the caller lends
+// the buffer again for the next text.
+ghost use Rattle.std.specs.Prelude.{◌≡◌, ◌≤◌, length, IfErr};
 ghost use Rattle.vrf_bitio.specs.Answers.{read_here};
 ghost use Rattle.vrf_text.specs.Text.{fstring};
 ghost use Rattle.vrf_model.specs.Names.{text_name, index_name, fname};
@@ -12,7 +13,8 @@ use vrf_text::read_fstring;
 // Every accepted text fits the 4,096 bytes. Answers its length there.
 pub fn read_text(reader: &mut BitReader<'_>, scratch: &mut [u8]) -> Result<u32, Refusal>
     requires { 4096 ≤ length scratch.old }
-    ensures { TextIn reader.old reader.new (read_here reader.old fstring) scratch.new result }
+    ensures reads { TextIn reader.old reader.new (read_here reader.old fstring) scratch.new result }
+    ensures stays { IfErr result (λ _. reader.new ≡ reader.old) }
 {
     read_fstring(reader, scratch)
 }
@@ -39,10 +41,15 @@ fn read_index_name(reader: &mut BitReader<'_>, scratch: &mut [u8]) -> Result<u32
 // A field name has a kind byte.
 pub fn read_fname(reader: &mut BitReader<'_>, scratch: &mut [u8]) -> Result<u32, Refusal>
     requires { 4096 ≤ length scratch.old }
-    ensures { TextIn reader.old reader.new (read_here reader.old fname) scratch.new result }
+    ensures reads { TextIn reader.old reader.new (read_here reader.old fname) scratch.new result }
+    ensures stays { IfErr result (λ _. reader.new ≡ reader.old) }
 {
-    if reader.read_u8()? == 0 {
-        return read_text_name(reader, scratch);
-    }
-    read_index_name(reader, scratch)
+    let mut at = *reader;
+    let n = if at.read_u8()? == 0 {
+        read_text_name(&mut at, scratch)?
+    } else {
+        read_index_name(&mut at, scratch)?
+    };
+    *reader = at;
+    Ok(n)
 }

@@ -1,5 +1,5 @@
 // The two export runs: a packed count, then that many entries of one kind.
-ghost use Rattle.std.specs.Prelude.{◌≤◌, length};
+ghost use Rattle.std.specs.Prelude.{◌≡◌, ◌≤◌, length, IfErr};
 ghost use Rattle.vrf_model.specs.Parser.{Parser};
 ghost use Rattle.vrf_model.specs.Runs.{run_of};
 ghost use Rattle.vrf_store.specs.Inner.WellFormed.{WellFormed};
@@ -17,11 +17,14 @@ pub fn read_run<F: FnMut(&mut BitReader<'_>, &mut [u8], &mut [u8]) -> Result<(),
 ) -> Result<u32, Refusal>
     ghost entry: { Parser (Unit {0}) }
     requires { WellFormed m.old × ((4096 ≤ length scratch.old) × ReadsEntries F.FnMut entry reader.old) }
-    ensures { Refines (run_of entry) reader.old reader.new m.old m.new result }
+    ensures reads { Refines (run_of entry) reader.old reader.new m.old m.new result }
+    ensures stays { IfErr result (λ _. reader.new ≡ reader.old) }
 {
-    let n = reader.read_int_packed()?;
+    let mut at = *reader;
+    let n = at.read_int_packed()?;
     for _ in 0..n {
-        read_entry(reader, m, scratch)?;
+        read_entry(&mut at, m, scratch)?;
     }
+    *reader = at;
     Ok(n)
 }

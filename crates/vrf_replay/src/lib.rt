@@ -4,12 +4,10 @@
 
 mod tallies;
 
-ghost use Rattle.std.specs.Prelude.{◌≤◌, length, IfOk};
+ghost use Rattle.std.specs.Prelude.{◌≤◌, length};
 ghost use Rattle.vrf_script_calls.specs.Inner.Areas.{total};
 ghost use Rattle.vrf_script_calls.specs.Inner.Blocks.{KeptIn};
 
-use std::fmt;
-use std::fmt::Write;
 use vrf_script::answers::Answers;
 use vrf_script::bits;
 use vrf_script::call::{BookCall, Call};
@@ -27,27 +25,24 @@ struct Played {
     kept: usize,
 }
 
-// A call on an opened book. Answers the length of the last written block.
+// A call on an opened book. `kept` is the length of the last written block.
 fn on_book(
     call: BookCall<'_>,
     book: &mut [u8],
     scratch: &mut [u8],
-    kept: usize,
+    kept: &mut usize,
     answers: &mut Answers<'_>,
-) -> Result<usize, Stop>
-    requires { KeptIn (length scratch.old) kept }
-    ensures { IfOk result (KeptIn (length scratch.old)) }
+) -> Result<(), Stop>
+    requires { KeptIn (length scratch.old) kept.old }
+    ensures { KeptIn (length scratch.old) kept.new }
 {
     match call {
         BookCall::Write(n) => blocks::write(book, n, scratch, kept, answers),
         BookCall::ReadWritten => {
-            calls::play_written(book, &scratch[..kept], answers)?;
-            Ok(kept)
+            calls::play_written(book, &scratch[..*kept], answers);
+            Ok(())
         }
-        _ => {
-            calls::play(book, call, &mut scratch[kept..], answers)?;
-            Ok(kept)
-        }
+        _ => calls::play(book, call, &mut scratch[*kept..], answers),
     }
 }
 
@@ -56,44 +51,36 @@ fn play_call(
     script: &mut Script<'_>,
     memory: &mut [u8],
     scratch: &mut [u8],
-    played: Played,
+    played: &mut Played,
     answers: &mut Answers<'_>,
-) -> Result<Played, Stop>
-    requires { (total played.books ≤ length memory.old) × (KeptIn (length scratch.old) played.kept) }
-    ensures { IfOk result (λ p. (total p.books ≤ length memory.old) × (KeptIn (length scratch.old) p.kept)) }
+) -> Result<(), Stop>
+    requires { (total played.old.books ≤ length memory.old) × (KeptIn (length scratch.old) played.old.kept) }
+    ensures { (total played.new.books ≤ length memory.old) × (KeptIn (length scratch.old) played.new.kept) }
 {
-    let mut books = played.books;
-    let kept = played.kept;
     match call {
         Call::Open { book, allowances } => {
-            books.choose(book);
-            let books = books::open(memory, books, allowances, answers)?;
-            Ok(Played { books, kept })
+            played.books.choose(book);
+            played.books = books::open(memory, played.books, allowances, answers);
         }
         Call::Use(book) => {
-            books.choose(book);
-            answers.line("using")?;
-            Ok(Played { books, kept })
+            played.books.choose(book);
+            answers.line("using");
         }
         Call::OnBook(call) => {
-            let area = books.area(memory);
+            let area = played.books.area(memory);
             if area.from == area.to {
-                answers.line("no book")?;
-                return Ok(played);
+                answers.line("no book");
+                return Ok(());
             }
             let book = &mut memory[area.from..area.to];
-            let kept = on_book(call, book, scratch, kept, answers)?;
-            Ok(Played { books, kept })
+            on_book(call, book, scratch, &mut played.kept, answers)?;
         }
         Call::Bits(blob) => {
-            bits::play(blob.bytes(&mut scratch[kept..])?, script, answers)?;
-            Ok(played)
+            bits::play(blob.bytes(&mut scratch[played.kept..])?, script, answers)?;
         }
-        Call::Tally(blob) => {
-            tallies::play(blob.bytes(&mut scratch[kept..])?, answers)?;
-            Ok(played)
-        }
+        Call::Tally(blob) => tallies::play(blob.bytes(&mut scratch[played.kept..])?, answers),
     }
+    Ok(())
 }
 
 // A call has at least one byte, so a script has at most as many calls as bytes.
@@ -117,15 +104,8 @@ fn play_calls(
         };
         answers.call = n as u64;
         let call = Call::take(code, &mut script)?;
-        played = play_call(call, &mut script, memory, scratch, played, answers)?;
+        play_call(call, &mut script, memory, scratch, &mut played, answers)?;
     }
-    Ok(())
-}
-
-fn stopped(stop: Stop, answers: &mut Answers<'_>) -> fmt::Result {
-    answers.begin()?;
-    write!(answers, "{stop}")?;
-    answers.end();
     Ok(())
 }
 
@@ -135,8 +115,10 @@ pub fn play(script: &[u8], memory: &mut [u8], scratch: &mut [u8], out: &mut [u8]
 {
     let mut answers = Answers::new(&mut *out);
     if let Err(stop) = play_calls(script, memory, scratch, &mut answers) {
-        let _ = stopped(stop, &mut answers);
+        answers.line(stop);
     }
+    // `len` is within the buffer that the answers hold, but after a `write!` it is not known that this is `out`. Tried: a clause on `byte`, `end`
+    // and `put` that the buffer keeps its length. In `put` it does not prove, because a failed `write!` says nothing of its writer.
     let n = answers.len();
     n.min(out.len())
 }

@@ -1,7 +1,7 @@
 // The calls that change a book: opening one, and document 01's book calls.
 ghost use Rattle.std.specs.Prelude.{◌≡◌};
 ghost use Rattle.vrf_model.specs.Calls.{clear_book, add_export_group, set_net_guid_path, set_field_on_group};
-ghost use Rattle.vrf_model.specs.Answers.{acted_of, added_of, placed_of};
+ghost use Rattle.vrf_model.specs.Answers.{allowed_by, acted_of, added_of, placed_of};
 ghost use Rattle.vrf_store.specs.Opening.{memory_needed};
 ghost use Rattle.vrf_schema.specs.CallContract.{CallContract};
 ghost use Rattle.vrf_schema.specs.OpenContract.{OpenContract};
@@ -9,27 +9,22 @@ ghost use Rattle.vrf_schema.specs.OpenContract.{OpenContract};
 use crate::checked::{check_book, check_book_text};
 use vrf_bitio::{Reason, Refusal};
 use vrf_cache::{clear, fields, groups, guids};
+use vrf_model::Allowances;
 use vrf_store::open;
 
-// The number of bytes that `open` needs; 0 if `open` refuses the allowances.
-pub fn memory_needed(guids: u64, groups: u64, fields: u64, text: u64, literals: u64) -> u64
-    ensures { result ≡ memory_needed (record { guids = guids; groups = groups; fields = fields; text = text; literals = literals }) }
+// The number of bytes that `open` needs, or 0 if it refuses the allowances. No Option: document 01's `memory_needed` is 0 there, and a function
+// that cannot fail must stay one.
+pub fn memory_needed(allowed: Allowances) -> u64
+    ensures { result ≡ memory_needed (allowed_by allowed) }
 {
-    open::memory_needed(guids, groups, fields, text, literals)
+    open::memory_needed(allowed)
 }
 
 // Opens a book with five allowances. The memory may hold anything before.
-pub fn open(
-    book: &mut [u8],
-    guids: u64,
-    groups: u64,
-    fields: u64,
-    text: u64,
-    literals: u64,
-) -> Result<(), Refusal>
-    ensures { OpenContract (record { guids = guids; groups = groups; fields = fields; text = text; literals = literals }) book.old book.new result }
+pub fn open(book: &mut [u8], allowed: Allowances) -> Result<(), Refusal>
+    ensures { OpenContract (allowed_by allowed) book.old book.new result }
 {
-    open::open(book, guids, groups, fields, text, literals)
+    open::open(book, allowed)
 }
 
 pub fn clear(book: &mut [u8]) -> Result<(), Refusal>

@@ -1,4 +1,5 @@
-// The calls that read a window into a book: both export readers, `load_object` and the block reader.
+// The calls that read a window into a book: both export readers, `load_object` and the block reader. A window is three parameters, as
+// `BitReader::window` takes it: each call opens it first.
 ghost use Rattle.std.specs.Prelude.{◌≡◌, ◌-◌};
 ghost use Rattle.vrf_model.specs.Calls.{read_net_field_exports, read_export_guids, load_object, read_checkpoint_tables};
 ghost use Rattle.vrf_model.specs.Answers.{ran_of, tables_of};
@@ -24,12 +25,16 @@ fn check_book_window<'a>(
     BitReader::window(window, first, count)
 }
 
-// The depth left: an object at depth 16 or more is refused.
+// The depth left: an object at depth 16 or more is refused. It is one call of the library, and stays: it gives document 01's limit a name and
+// a contract, which the proof of `load_object` uses.
 fn depth_left(depth: u32) -> u32
     ensures { result ≡ 16 - depth }
 {
     16u32.saturating_sub(depth)
 }
+
+// These three keep a body each. One function over the reader was tried: with a ghost parser and call, and a relation between the reader and
+// both, the code and the definitions became longer, and each caller still had to prove the relation.
 
 // Reads a fields run.
 pub fn read_net_field_exports(

@@ -1,19 +1,23 @@
 // The answers of a run: lines of text in a lent buffer.
-ghost use Rattle.std.specs.Prelude.{◌≤◌, length};
+ghost use Rattle.std.specs.Prelude.{◌≡◌, ◌≤◌, length};
 
 use std::fmt;
 use std::fmt::Write;
+use vrf_bitio::Refusal;
 
 // What does not fit into the buffer is left out. Every line begins with the number of its call.
 #[derive(Drop)]
 pub struct Answers<'a> {
     out: &'a mut [u8],
     to: usize,
+    ghost within: { to ≤ length out.now },
     pub call: u64,
 }
 
 impl<'a> Answers<'a> {
-    pub fn new(out: &'a mut [u8]) -> Answers<'a> {
+    pub fn new(out: &'a mut [u8]) -> Answers<'a>
+        ensures { length result.out.now ≡ length out.old }
+    {
         Answers {
             out,
             to: 0,
@@ -22,7 +26,9 @@ impl<'a> Answers<'a> {
     }
 
     // The number of bytes that are written.
-    pub fn len(&self) -> usize {
+    pub fn len(&self) -> usize
+        ensures { result ≤ length self.now.out.now }
+    {
         self.to
     }
 
@@ -44,9 +50,14 @@ impl<'a> Answers<'a> {
         }
     }
 
-    pub fn begin(&mut self) -> fmt::Result {
+    // Text of any kind. The result is let go: `write_str` below never errs, because what does not fit is left out.
+    pub fn put<T: fmt::Display + Drop>(&mut self, what: T) {
+        let _ = write!(self, "{what}");
+    }
+
+    pub fn begin(&mut self) {
         let call = self.call;
-        write!(self, "{call} ")
+        self.put(format_args!("{call} "));
     }
 
     pub fn end(&mut self) {
@@ -54,11 +65,10 @@ impl<'a> Answers<'a> {
     }
 
     // A line with only this text.
-    pub fn line(&mut self, text: &str) -> fmt::Result {
-        self.begin()?;
-        self.write_str(text)?;
+    pub fn line<T: fmt::Display + Drop>(&mut self, what: T) {
+        self.begin();
+        self.put(what);
         self.end();
-        Ok(())
     }
 
     // Lines, joined by single spaces.
@@ -68,18 +78,25 @@ impl<'a> Answers<'a> {
         }
     }
 
+    // A value after its label, or the refusal.
+    pub fn value<T: fmt::Display + Drop>(&mut self, label: &str, answer: Result<T, Refusal>) {
+        match answer {
+            Ok(v) => self.put(format_args!("{label}{v}")),
+            Err(r) => self.put(r),
+        }
+    }
+
     // A text in quotes. A byte that is not printable ASCII, or is a quote or a backslash, is written as `\xHH`.
-    pub fn quoted(&mut self, text: &[u8]) -> fmt::Result {
+    pub fn quoted(&mut self, text: &[u8]) {
         self.byte(b'"');
         for b in text {
             match b {
-                b'"' | b'\\' => write!(self, "\\x{b:02x}")?,
+                b'"' | b'\\' => self.put(format_args!("\\x{b:02x}")),
                 0x20..=0x7E => self.byte(*b),
-                _ => write!(self, "\\x{b:02x}")?,
+                _ => self.put(format_args!("\\x{b:02x}")),
             }
         }
         self.byte(b'"');
-        Ok(())
     }
 }
 

@@ -3,9 +3,7 @@ ghost use Rattle.std.specs.Prelude.{◌≤◌};
 
 use crate::answers::Answers;
 use crate::script::{Script, Stop};
-use std::fmt;
-use std::fmt::Write;
-use vrf_bitio::{BitReader, Refusal};
+use vrf_bitio::BitReader;
 use vrf_reader::names::{read_fname, read_text};
 
 // The most bytes that a copy's target may have.
@@ -55,7 +53,7 @@ impl Reading {
     }
 }
 
-// The windows around the one in which the readings are made, innermost last. Each is after the window in it.
+// The windows around the one in which the readings are made, innermost last. An array with a count, because there is no heap for a `Vec`.
 #[derive(Drop)]
 struct Around<'a> {
     windows: [BitReader<'a>; DEEPEST],
@@ -89,48 +87,33 @@ impl<'a> Around<'a> {
     }
 }
 
-fn value<T: fmt::Display + Drop>(
-    read: Result<T, Refusal>,
-    answers: &mut Answers<'_>,
-) -> fmt::Result {
-    match read {
-        Ok(v) => write!(answers, "value {v}"),
-        Err(r) => write!(answers, "{r}"),
-    }
-}
-
-// Reads a field name, or a text that is no field name. A refused one moves nothing.
-fn text(reader: &mut BitReader<'_>, named: bool, answers: &mut Answers<'_>) -> fmt::Result {
+// Reads a field name, or a text that is no field name. A refused one moves nothing. (The reading is a parameter and no closure: a closure
+// would need a contract, that its length is at most that of the scratch buffer.)
+fn text(reading: Reading, reader: &mut BitReader<'_>, answers: &mut Answers<'_>) {
     let mut scratch = [0u8; 4096];
     let mut after = *reader;
-    let read = if named {
-        read_fname(&mut after, &mut scratch)
-    } else {
-        read_text(&mut after, &mut scratch)
+    let read = match reading {
+        Reading::Name => read_fname(&mut after, &mut scratch),
+        _ => read_text(&mut after, &mut scratch),
     };
     match read {
-        Err(r) => write!(answers, "{r}"),
+        Err(r) => answers.put(r),
         Ok(n) => {
             *reader = after;
-            answers.write_str("text ")?;
-            answers.quoted(&scratch[..n as usize])
+            answers.put("text ");
+            answers.quoted(&scratch[..n as usize]);
         }
     }
 }
 
 // The target is shown after a refusal too: it must be as it was before.
-fn copy(
-    reader: &mut BitReader<'_>,
-    target: &mut [u8],
-    bits: u64,
-    answers: &mut Answers<'_>,
-) -> fmt::Result {
+fn copy(reader: &mut BitReader<'_>, target: &mut [u8], bits: u64, answers: &mut Answers<'_>) {
     match reader.copy_bits_to(target, bits) {
-        Ok(()) => answers.write_str("copied")?,
-        Err(r) => write!(answers, "{r}")?,
+        Ok(()) => answers.put("copied"),
+        Err(r) => answers.put(r),
     }
-    answers.write_str(" target ")?;
-    answers.quoted(target)
+    answers.put(" target ");
+    answers.quoted(target);
 }
 
 // The answer of a reading that stays in its window.
@@ -140,32 +123,30 @@ fn read(
     answers: &mut Answers<'_>,
 ) -> Result<(), Stop> {
     match reading {
-        Reading::Bit => value(reader.read_bit().map(u8::from), answers)?,
-        Reading::Bits(width) => value(reader.read_bits(width), answers)?,
-        Reading::U8 => value(reader.read_u8(), answers)?,
-        Reading::U32 => value(reader.read_u32(), answers)?,
-        Reading::I32 => value(reader.read_i32(), answers)?,
-        Reading::IntPacked => value(reader.read_int_packed(), answers)?,
-        Reading::Text => text(reader, false, answers)?,
-        Reading::Name => text(reader, true, answers)?,
+        Reading::Bit => answers.value("value ", reader.read_bit().map(u8::from)),
+        Reading::Bits(width) => answers.value("value ", reader.read_bits(width)),
+        Reading::U8 => answers.value("value ", reader.read_u8()),
+        Reading::U32 => answers.value("value ", reader.read_u32()),
+        Reading::I32 => answers.value("value ", reader.read_i32()),
+        Reading::IntPacked => answers.value("value ", reader.read_int_packed()),
+        Reading::Text | Reading::Name => text(reading, reader, answers),
         Reading::Copy { size, bits } => {
             let mut target = [0xA5u8; TARGET];
             let (part, _) = target
                 .split_at_mut_checked(size as usize)
                 .ok_or(Stop::TooLarge)?;
-            copy(reader, part, bits, answers)?;
+            copy(reader, part, bits, answers);
         }
-        _ => answers.write_str("no such reading")?,
+        _ => answers.put("no such reading"),
     }
     Ok(())
 }
 
 // Ends the line of a reading with the position of its window.
-fn placed(reader: &BitReader<'_>, answers: &mut Answers<'_>) -> fmt::Result {
+fn placed(reader: &BitReader<'_>, answers: &mut Answers<'_>) {
     let position = reader.position();
-    write!(answers, " at {position}")?;
+    answers.put(format_args!(" at {position}"));
     answers.end();
-    Ok(())
 }
 
 // Opens an inner window. Its line has the outer position.
@@ -177,15 +158,15 @@ fn enter<'a>(
 ) -> Result<(), Stop> {
     match reader.sub_reader(n) {
         Err(r) => {
-            answers.begin()?;
-            write!(answers, "{r}")?;
-            placed(reader, answers)?;
+            answers.begin();
+            answers.put(r);
+            placed(reader, answers);
         }
         Ok(inner) => {
             around.push(*reader)?;
-            answers.begin()?;
-            answers.write_str("inner")?;
-            placed(reader, answers)?;
+            answers.begin();
+            answers.put("inner");
+            placed(reader, answers);
             *reader = inner;
         }
     }
@@ -193,17 +174,13 @@ fn enter<'a>(
 }
 
 // Goes back to the window around the current one. The outermost window stays.
-fn leave<'a>(
-    reader: &mut BitReader<'a>,
-    around: &mut Around<'a>,
-    answers: &mut Answers<'_>,
-) -> fmt::Result {
+fn leave<'a>(reader: &mut BitReader<'a>, around: &mut Around<'a>, answers: &mut Answers<'_>) {
     if let Some(outer) = around.pop() {
         *reader = outer;
     }
-    answers.begin()?;
-    answers.write_str("up")?;
-    placed(reader, answers)
+    answers.begin();
+    answers.put("up");
+    placed(reader, answers);
 }
 
 fn make<'a>(
@@ -214,12 +191,12 @@ fn make<'a>(
 ) -> Result<(), Stop> {
     match reading {
         Reading::Inner(n) => enter(reader, around, n, answers)?,
-        Reading::Outer => leave(reader, around, answers)?,
+        Reading::Outer => leave(reader, around, answers),
         Reading::Copy { size, .. } if TARGET < size as usize => return Err(Stop::TooLarge),
         _ => {
-            answers.begin()?;
+            answers.begin();
             read(reading, reader, answers)?;
-            placed(reader, answers)?;
+            placed(reader, answers);
         }
     }
     Ok(())
@@ -238,15 +215,13 @@ pub fn play(bytes: &[u8], script: &mut Script<'_>, answers: &mut Answers<'_>) ->
     };
     match window {
         Err(r) => {
-            answers.begin()?;
-            write!(answers, "{r}")?;
-            answers.end();
+            answers.line(r);
             for _ in 0..n {
                 Reading::take(script)?;
             }
         }
         Ok(window) => {
-            answers.line("window")?;
+            answers.line("window");
             let mut reader = window;
             let mut around = Around::nothing(window);
             for _ in 0..n {

@@ -1,15 +1,6 @@
 // The calls of a script, with their arguments.
 use crate::script::{Blob, Script, Stop};
-
-// The five allowances that a book is opened with.
-#[derive(Clone, Copy, Debug, PartialEq, Eq)]
-pub struct Allowances {
-    pub guids: u64,
-    pub groups: u64,
-    pub fields: u64,
-    pub text: u64,
-    pub literals: u64,
-}
+use vrf_model::Allowances;
 
 // The bytes of a window, its first bit and its bit count.
 #[derive(Clone, Copy)]
@@ -87,16 +78,14 @@ pub enum Call<'a> {
     Tally(Blob<'a>),
 }
 
-impl Allowances {
-    fn take(script: &mut Script<'_>) -> Result<Allowances, Stop> {
-        Ok(Allowances {
-            guids: script.take_u64()?,
-            groups: script.take_u64()?,
-            fields: script.take_u64()?,
-            text: script.take_u64()?,
-            literals: script.take_u64()?,
-        })
-    }
+fn take_allowances(script: &mut Script<'_>) -> Result<Allowances, Stop> {
+    Ok(Allowances {
+        guids: script.take_u64()?,
+        groups: script.take_u64()?,
+        fields: script.take_u64()?,
+        text: script.take_u64()?,
+        literals: script.take_u64()?,
+    })
 }
 
 impl<'a> Window<'a> {
@@ -208,7 +197,7 @@ impl<'a> Call<'a> {
         Ok(match code {
             0x01 => Call::Open {
                 book: script.take_u8()?,
-                allowances: Allowances::take(script)?,
+                allowances: take_allowances(script)?,
             },
             0x02 => Call::Use(script.take_u8()?),
             0x30 => Call::Bits(script.take_blob()?),

@@ -22,13 +22,6 @@ impl fmt::Display for Stop {
     }
 }
 
-// Only so that `?` passes on the result of `write!`: an answer that does not fit is cut, and is no error.
-impl From<fmt::Error> for Stop {
-    fn from(_e: fmt::Error) -> Stop {
-        Stop::TooLarge
-    }
-}
-
 // A blob of at least this length is a filled one.
 const FILLED: usize = 0x8000_0000;
 

@@ -1,6 +1,6 @@
 -- A block that was written is inside the buffer that was lent for it, and is not longer than a window may be.
 use Rattle.std.specs.Prelude.{Result, Ok, Err, IfOk}
-use Rattle.std.proofs.Common.{◌≡◌, ℕ, Bool, true, false, List, length, sym, refl, arith}
+use Rattle.std.proofs.Common.{◌≡◌, ◌≤◌, ℕ, Bool, true, false, List, length, sym, refl, arith}
 use Rattle.vrf_bitio.specs.declared.Refusal.{Refusal}
 use Rattle.vrf_model.specs.Writer.{written, not_written}
 use Rattle.vrf_model.proofs.Laws.Writer.{write-accepts}
@@ -18,3 +18,8 @@ wrote-in {m} {before} (Ok n) h = by (check m) refl
     by : (b : Bool) → check m ≡ b → KeptIn (length before) n
     by false s = no_length (h.corrupt s).answer
     by true s = let a = write-accepts (length before) _ (sym (h.wrote s).answer) in omega (arith, a.fits, a.size, a.long)
+
+-- a block that is written into a part of a buffer is not longer than the buffer
+pub wrote-within : (m n : ℕ) (o : Result ℕ Refusal) → m ≤ n → IfOk o (KeptIn m) → IfOk o (KeptIn n)
+wrote-within m n (Ok size) le h = omega (arith, le, h)
+wrote-within m n (Err q) le h = tt

@@ -1,10 +1,8 @@
 // The call `write`. The last written block is at the front of the scratch buffer. The writer is lent bytes after it, so a refused writing
 // leaves that block. A new block is then moved to the front and replaces it.
-ghost use Rattle.std.specs.Prelude.{◌≡◌, ◌+◌, ◌≤◌, length, IfOk};
+ghost use Rattle.std.specs.Prelude.{length, IfOk};
 ghost use Rattle.vrf_script_calls.specs.Inner.Blocks.{KeptIn};
 
-use crate::books::move_part;
-use std::fmt::Write;
 use vrf_bitio::Refusal;
 use vrf_schema::writing::write_checkpoint_tables;
 use vrf_script::answers::Answers;
@@ -28,35 +26,34 @@ fn write_into(book: &[u8], buffer: &mut [u8]) -> Result<u64, Refusal>
 }
 
 // Writes the book into a buffer of n bytes after the last written block. The line has the answer, and the hash of the whole buffer after the writing.
-// Answers the length of the last written block.
+// `kept` is the length of the last written block.
 pub fn write(
     book: &[u8],
     n: u64,
     scratch: &mut [u8],
-    kept: usize,
+    kept: &mut usize,
     answers: &mut Answers<'_>,
-) -> Result<usize, Stop>
-    requires { KeptIn (length scratch.old) kept }
-    ensures { IfOk result (KeptIn (length scratch.old)) }
+) -> Result<(), Stop>
+    requires { KeptIn (length scratch.old) kept.old }
+    ensures { KeptIn (length scratch.old) kept.new }
 {
-    let space = scratch.len() - kept;
+    let from = *kept;
+    let space = scratch.len() - from;
     if (space as u64) < n {
         return Err(Stop::TooLarge);
     }
-    let end = kept + n as usize;
-    let buffer = &mut scratch[kept..end];
+    let to = from + n as usize;
+    let buffer = &mut scratch[from..to];
     let written = write_into(book, buffer);
     let sum = fnv(buffer);
-    answers.begin()?;
-    match written {
-        Ok(length) => write!(answers, "length {length}")?,
-        Err(r) => write!(answers, "{r}")?,
-    }
-    write!(answers, " fnv {sum:016x}")?;
+    answers.begin();
+    answers.value("length ", written);
+    answers.put(format_args!(" fnv {sum:016x}"));
     answers.end();
-    let Ok(length) = written else {
-        return Ok(kept);
-    };
-    move_part(scratch, kept, 0, length as usize);
-    Ok(length as usize)
+    if let Ok(length) = written {
+        let size = length as usize;
+        scratch.copy_within(from..from + size, 0);
+        *kept = size;
+    }
+    Ok(())
 }

@@ -3,15 +3,14 @@
 // The books are one after another at the front of the memory, in the order of their numbers. The memory after the last book is free. An
 // unopened book has no bytes; every opened book has some. When a book is opened with a new size, the books after it are moved, so there is
 // no unused memory between books. An opening fails for lack of memory only if all the books together are longer than the memory.
-ghost use Rattle.std.specs.Prelude.{◌≡◌, ◌+◌, ◌≤◌, length, IfOk};
+ghost use Rattle.std.specs.Prelude.{◌≡◌, ◌+◌, ◌≤◌, length};
 ghost use Rattle.vrf_script_calls.specs.Inner.Areas.{total};
 
-use std::fmt;
-use std::fmt::Write;
+use vrf_model::Allowances;
 use vrf_script::answers::Answers;
-use vrf_script::call::Allowances;
 
-// The number of the current book, and the size of each book in bytes.
+// The number of the current book, and the size of each book in bytes. Four fields and no array with an index: the sums in `resized` are then
+// linear, so the check finds their bounds alone; a part of an array would need laws about its sum.
 #[derive(Clone, Copy, Debug, PartialEq, Eq)]
 pub struct Books {
     pub current: u8,
@@ -86,29 +85,11 @@ impl Books {
     }
 }
 
-// Moves n bytes. The order is such that a byte that is overwritten has been moved already.
-pub fn move_part(memory: &mut [u8], from: usize, to: usize, n: usize)
-    requires { (from + n ≤ length memory.old) × (to + n ≤ length memory.old) }
-{
-    if from < to {
-        for k in (0..n).rev() {
-            memory[to + k] = memory[from + k];
-        }
-    } else {
-        for k in 0..n {
-            memory[to + k] = memory[from + k];
-        }
+fn open_book(book: &mut [u8], allowed: Allowances, answers: &mut Answers<'_>) {
+    match vrf_schema::calls::open(book, allowed) {
+        Ok(()) => answers.line("opened"),
+        Err(r) => answers.line(r),
     }
-}
-
-fn open_book(book: &mut [u8], w: Allowances, answers: &mut Answers<'_>) -> fmt::Result {
-    answers.begin()?;
-    match vrf_schema::calls::open(book, w.guids, w.groups, w.fields, w.text, w.literals) {
-        Ok(()) => answers.write_str("opened")?,
-        Err(r) => write!(answers, "{r}")?,
-    }
-    answers.end();
-    Ok(())
 }
 
 // Opens the current book over n bytes, if the memory has space for all books then. The books that follow are moved to the place after
@@ -116,22 +97,22 @@ fn open_book(book: &mut [u8], w: Allowances, answers: &mut Answers<'_>) -> fmt::
 fn open_sized(
     memory: &mut [u8],
     books: Books,
-    w: Allowances,
+    allowed: Allowances,
     n: usize,
     answers: &mut Answers<'_>,
-) -> Result<Books, fmt::Error>
+) -> Books
     requires { total books ≤ length memory.old }
-    ensures { IfOk result (λ b. total b ≤ length memory.old) × (length memory.new ≡ length memory.old) }
+    ensures { (total result ≤ length memory.old) × (length memory.new ≡ length memory.old) }
 {
     let (Area { from, to, end }, resized) = books.resized(memory, n);
     if memory.len() - from - (end - to) < n {
-        answers.line("no memory")?;
-        return Ok(books);
+        answers.line("no memory");
+        return books;
     }
     let next = from + n;
-    move_part(memory, to, next, end - to);
-    open_book(&mut memory[from..next], w, answers)?;
-    Ok(resized)
+    memory.copy_within(to..end, next);
+    open_book(&mut memory[from..next], allowed, answers);
+    resized
 }
 
 // The call `open`. The book becomes the current one, even if it is not opened. If `memory_needed` answers 0, `open` refuses the allowances.
@@ -139,17 +120,17 @@ fn open_sized(
 pub fn open(
     memory: &mut [u8],
     books: Books,
-    w: Allowances,
+    allowed: Allowances,
     answers: &mut Answers<'_>,
-) -> Result<Books, fmt::Error>
+) -> Books
     requires { total books ≤ length memory.old }
-    ensures { IfOk result (λ b. total b ≤ length memory.old) × (length memory.new ≡ length memory.old) }
+    ensures { (total result ≤ length memory.old) × (length memory.new ≡ length memory.old) }
 {
-    match vrf_schema::calls::memory_needed(w.guids, w.groups, w.fields, w.text, w.literals) {
+    match vrf_schema::calls::memory_needed(allowed) {
         0 => {
-            open_book(&mut memory[..0], w, answers)?;
-            Ok(books)
+            open_book(&mut memory[..0], allowed, answers);
+            books
         }
-        n => open_sized(memory, books, w, n as usize, answers),
+        n => open_sized(memory, books, allowed, n as usize, answers),
     }
 }

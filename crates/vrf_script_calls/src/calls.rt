@@ -2,8 +2,6 @@
 ghost use Rattle.std.specs.Prelude.{◌≤◌, length};
 
 use crate::{dump, lookups};
-use std::fmt;
-use std::fmt::Write;
 use vrf_bitio::Refusal;
 use vrf_model::{CheckpointTables, Ran};
 use vrf_schema::{calls, reading};
@@ -11,64 +9,53 @@ use vrf_script::answers::Answers;
 use vrf_script::call::{BookCall, Window};
 use vrf_script::script::Stop;
 
-fn done(answer: Result<(), Refusal>, what: &str, answers: &mut Answers<'_>) -> fmt::Result {
+fn done(answer: Result<(), Refusal>, what: &str, answers: &mut Answers<'_>) {
     match answer {
-        Ok(()) => answers.write_str(what),
-        Err(r) => write!(answers, "{r}"),
+        Ok(()) => answers.put(what),
+        Err(r) => answers.put(r),
     }
 }
 
-fn added(answer: Result<u32, Refusal>, answers: &mut Answers<'_>) -> fmt::Result {
+fn placed(answer: Result<bool, Refusal>, answers: &mut Answers<'_>) {
     match answer {
-        Ok(place) => write!(answers, "place {place}"),
-        Err(r) => write!(answers, "{r}"),
-    }
-}
-
-fn placed(answer: Result<bool, Refusal>, answers: &mut Answers<'_>) -> fmt::Result {
-    match answer {
-        Ok(true) => answers.write_str("placed"),
-        Ok(false) => answers.write_str("not placed"),
-        Err(r) => write!(answers, "{r}"),
+        Ok(true) => answers.put("placed"),
+        Ok(false) => answers.put("not placed"),
+        Err(r) => answers.put(r),
     }
 }
 
 // The count of a run or the GUID of an object, and the position after what was read.
-fn ran(answer: Result<Ran, Refusal>, what: &str, answers: &mut Answers<'_>) -> fmt::Result {
+fn ran(answer: Result<Ran, Refusal>, what: &str, answers: &mut Answers<'_>) {
     match answer {
-        Ok(Ran { count, pos }) => write!(answers, "{what} {count} at {pos}"),
-        Err(r) => write!(answers, "{r}"),
+        Ok(Ran { count, pos }) => answers.put(format_args!("{what} {count} at {pos}")),
+        Err(r) => answers.put(r),
     }
 }
 
 // The seven counts of a block.
-fn counts(n: CheckpointTables, answers: &mut Answers<'_>) -> fmt::Result {
+fn counts(n: CheckpointTables, answers: &mut Answers<'_>) {
     let (guids, groups) = (n.guid_count, n.group_count);
     let (fields, frame) = (n.exported_fields, n.frame_offset);
     let (indexed, literal) = (n.indexed_paths, n.literal_paths);
     let resolved = n.resolved_path_indices;
-    write!(answers, "counts {guids} {groups} {fields} {frame}")?;
-    write!(answers, " {indexed} {literal} {resolved}")
+    answers.put(format_args!("counts {guids} {groups} {fields} {frame}"));
+    answers.put(format_args!(" {indexed} {literal} {resolved}"));
 }
 
-fn tables(answer: Result<CheckpointTables, Refusal>, answers: &mut Answers<'_>) -> fmt::Result {
+fn tables(answer: Result<CheckpointTables, Refusal>, answers: &mut Answers<'_>) {
     match answer {
         Ok(n) => counts(n, answers),
-        Err(r) => write!(answers, "{r}"),
+        Err(r) => answers.put(r),
     }
 }
 
 // The answer of a call that has one line. A call with a text or a window is given its bytes.
-fn say(
-    book: &mut [u8],
-    call: BookCall<'_>,
-    bytes: &[u8],
-    answers: &mut Answers<'_>,
-) -> fmt::Result {
+fn say(book: &mut [u8], call: BookCall<'_>, bytes: &[u8], answers: &mut Answers<'_>) {
     match call {
         BookCall::Clear => done(calls::clear(book), "cleared", answers),
         BookCall::AddExportGroup { index, slots, .. } => {
-            added(calls::add_export_group(book, bytes, index, slots), answers)
+            let answer = calls::add_export_group(book, bytes, index, slots);
+            answers.value("place ", answer);
         }
         BookCall::SetFieldOnGroup {
             index,
@@ -77,19 +64,19 @@ fn say(
             ..
         } => {
             let answer = calls::set_field_on_group(book, index, handle, checksum, bytes);
-            placed(answer, answers)
+            placed(answer, answers);
         }
         BookCall::SetNetGuidPath { guid, outer, .. } => {
             let answer = calls::set_net_guid_path(book, guid, bytes, outer);
-            done(answer, "set", answers)
+            done(answer, "set", answers);
         }
         BookCall::FieldsRun(Window { first, count, .. }) => {
             let answer = reading::read_net_field_exports(book, bytes, first, count);
-            ran(answer, "count", answers)
+            ran(answer, "count", answers);
         }
         BookCall::GuidRun(Window { first, count, .. }) => {
             let answer = reading::read_export_guids(book, bytes, first, count);
-            ran(answer, "count", answers)
+            ran(answer, "count", answers);
         }
         BookCall::LoadObject {
             window,
@@ -98,17 +85,17 @@ fn say(
         } => {
             let Window { first, count, .. } = window;
             let answer = reading::load_object(book, bytes, first, count, exporting, depth);
-            ran(answer, "guid", answers)
+            ran(answer, "guid", answers);
         }
         BookCall::ReadBlock(Window { first, count, .. }) => {
             tables(
                 reading::read_checkpoint_tables(book, bytes, first, count),
                 answers,
-            )
+            );
         }
         BookCall::Lookup(lookup) => lookups::say(book, lookup, bytes, answers),
         // These have lines of their own.
-        BookCall::Write(_) | BookCall::ReadWritten | BookCall::Dump { .. } => Ok(()),
+        BookCall::Write(_) | BookCall::ReadWritten | BookCall::Dump { .. } => {}
     }
 }
 
@@ -125,26 +112,25 @@ pub fn play(
         guids,
     } = call
     {
-        dump::play(book, groups, slots, guids, answers)?;
+        dump::play(book, groups, slots, guids, answers);
         return Ok(());
     }
     let bytes = call.blob().bytes(scratch)?;
-    answers.begin()?;
-    say(book, call, bytes, answers)?;
+    answers.begin();
+    say(book, call, bytes, answers);
     answers.end();
     Ok(())
 }
 
 // Reads the last written block into the book.
-pub fn play_written(book: &mut [u8], block: &[u8], answers: &mut Answers<'_>) -> fmt::Result
+pub fn play_written(book: &mut [u8], block: &[u8], answers: &mut Answers<'_>)
     requires { length block.now ≤ 268435456 }
 {
-    answers.begin()?;
+    answers.begin();
     let bits = 8 * block.len() as u64;
     tables(
         reading::read_checkpoint_tables(book, block, 0, bits),
         answers,
-    )?;
+    );
     answers.end();
-    Ok(())
 }

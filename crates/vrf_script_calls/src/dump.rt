@@ -1,52 +1,41 @@
 // The call `dump`: a line for every place below the given numbers, also for an empty place, because no lookup gives the number of places.
 // Once the buffer is full, no further line would be seen. The rest is then skipped, because the numbers may ask for billions of lines.
 use crate::lookups::{group, guid, name};
-use std::fmt;
-use std::fmt::Write;
 use vrf_schema::lookups::{get_field, group_slots};
 use vrf_script::answers::Answers;
 
 // A group with its filled slots: at most those that it has, and at most those asked for.
-fn group_line(book: &[u8], place: u32, slots: u32, answers: &mut Answers<'_>) -> fmt::Result {
-    answers.begin()?;
-    write!(answers, "group {place} ")?;
-    group(book, place, answers)?;
+fn group_line(book: &[u8], place: u32, slots: u32, answers: &mut Answers<'_>) {
+    answers.begin();
+    answers.put(format_args!("group {place} "));
+    group(book, place, answers);
     for slot in 0..group_slots(book, place).unwrap_or(0).min(slots) {
         if let Ok(Some(checksum)) = get_field(book, place, slot) {
-            write!(answers, " field {slot} {checksum}")?;
-            name(" ", book, place, slot, answers)?;
+            answers.put(format_args!(" field {slot} {checksum}"));
+            name(" ", book, place, slot, answers);
         }
     }
     answers.end();
-    Ok(())
 }
 
-fn guid_line(book: &[u8], place: u32, answers: &mut Answers<'_>) -> fmt::Result {
-    answers.begin()?;
-    write!(answers, "guid {place} ")?;
-    guid(book, place, answers)?;
+fn guid_line(book: &[u8], place: u32, answers: &mut Answers<'_>) {
+    answers.begin();
+    answers.put(format_args!("guid {place} "));
+    guid(book, place, answers);
     answers.end();
-    Ok(())
 }
 
-pub fn play(
-    book: &[u8],
-    groups: u32,
-    slots: u32,
-    guids: u32,
-    answers: &mut Answers<'_>,
-) -> fmt::Result {
+pub fn play(book: &[u8], groups: u32, slots: u32, guids: u32, answers: &mut Answers<'_>) {
     for place in 0..groups {
         if answers.is_full() {
             break;
         }
-        group_line(book, place, slots, answers)?;
+        group_line(book, place, slots, answers);
     }
     for place in 0..guids {
         if answers.is_full() {
             break;
         }
-        guid_line(book, place, answers)?;
+        guid_line(book, place, answers);
     }
-    Ok(())
 }

@@ -1,84 +1,62 @@
 // The lookups, which do not change a book.
-use std::fmt;
-use std::fmt::Write;
 use vrf_bitio::Refusal;
 use vrf_schema::lookups;
 use vrf_script::answers::Answers;
 use vrf_script::call::Lookup;
 
 // What was found, after its label.
-fn found(
-    answer: Result<Option<u32>, Refusal>,
-    label: &str,
-    answers: &mut Answers<'_>,
-) -> fmt::Result {
+fn found(answer: Result<Option<u32>, Refusal>, label: &str, answers: &mut Answers<'_>) {
     match answer {
-        Ok(Some(n)) => write!(answers, "{label} {n}"),
-        Ok(None) => answers.write_str("absent"),
-        Err(r) => write!(answers, "{r}"),
+        Ok(Some(n)) => answers.put(format_args!("{label} {n}")),
+        Ok(None) => answers.put("absent"),
+        Err(r) => answers.put(r),
     }
 }
 
 // A place of a group or of a GUID record.
-fn place(answer: Result<Option<u32>, Refusal>, answers: &mut Answers<'_>) -> fmt::Result {
-    found(answer, "place", answers)
-}
-
-fn number(label: &str, answer: Result<u32, Refusal>, answers: &mut Answers<'_>) -> fmt::Result {
-    match answer {
-        Ok(n) => write!(answers, "{label}{n}"),
-        Err(r) => write!(answers, "{r}"),
-    }
+fn place(answer: Result<Option<u32>, Refusal>, answers: &mut Answers<'_>) {
+    found(answer, "place", answers);
 }
 
 // A text of the book after its label.
-fn titled(label: &str, text: Result<&[u8], Refusal>, answers: &mut Answers<'_>) -> fmt::Result {
+fn titled(label: &str, text: Result<&[u8], Refusal>, answers: &mut Answers<'_>) {
     match text {
         Ok(text) => {
-            answers.write_str(label)?;
-            answers.quoted(text)
+            answers.put(label);
+            answers.quoted(text);
         }
-        Err(r) => write!(answers, "{r}"),
+        Err(r) => answers.put(r),
     }
 }
 
-pub fn group(book: &[u8], place: u32, answers: &mut Answers<'_>) -> fmt::Result {
-    titled("path ", lookups::group_path(book, place), answers)?;
-    number(" index ", lookups::group_index(book, place), answers)?;
-    number(" slots ", lookups::group_slots(book, place), answers)
+pub fn group(book: &[u8], place: u32, answers: &mut Answers<'_>) {
+    titled("path ", lookups::group_path(book, place), answers);
+    answers.value(" index ", lookups::group_index(book, place));
+    answers.value(" slots ", lookups::group_slots(book, place));
 }
 
-pub fn name(
-    label: &str,
-    book: &[u8],
-    place: u32,
-    slot: u32,
-    answers: &mut Answers<'_>,
-) -> fmt::Result {
-    titled(label, lookups::field_name(book, place, slot), answers)
+pub fn name(label: &str, book: &[u8], place: u32, slot: u32, answers: &mut Answers<'_>) {
+    titled(label, lookups::field_name(book, place, slot), answers);
 }
 
-pub fn guid(book: &[u8], place: u32, answers: &mut Answers<'_>) -> fmt::Result {
-    titled("path ", lookups::guid_path(book, place), answers)
+pub fn guid(book: &[u8], place: u32, answers: &mut Answers<'_>) {
+    titled("path ", lookups::guid_path(book, place), answers);
 }
 
-fn counters(book: &[u8], answers: &mut Answers<'_>) -> fmt::Result {
+fn counters(book: &[u8], answers: &mut Answers<'_>) {
     match lookups::get_counters(book) {
         Ok(n) => {
             let (schema, guid, dropped) = (n.schema, n.guid, n.dropped);
             let (replaced, renamed) = (n.replaced, n.renamed);
-            write!(
-                answers,
-                "counters schema {schema} guid {guid} dropped {dropped}"
-            )?;
-            write!(answers, " replaced {replaced} renamed {renamed}")
+            answers.put(format_args!("counters schema {schema} guid {guid} dropped {dropped}"));
+            answers.put(format_args!(" replaced {replaced} renamed {renamed}"));
         }
-        Err(r) => write!(answers, "{r}"),
+        Err(r) => answers.put(r),
     }
 }
 
 // The answer of a lookup. A lookup by a text is given its text.
-pub fn say(book: &[u8], lookup: Lookup<'_>, text: &[u8], answers: &mut Answers<'_>) -> fmt::Result {
+pub fn say(book: &[u8], lookup: Lookup<'_>, text: &[u8], answers: &mut Answers<'_>) {
     match lookup {
         Lookup::GroupByIndex(i) => place(lookups::get_group_by_index(book, i), answers),
         Lookup::GroupByPath(_) => place(lookups::get_group_by_path(book, text), answers),

@@ -1,7 +1,7 @@
 -- Contracts of the functions of `vrf_store`: what well-formed memory is, and what each function requires, answers and changes.
 pub mod Valid
 pub mod WellFormed
-pub mod Check
+pub mod Indexes
 pub mod Lookups
 pub mod Memory
 pub mod Stepped

@@ -1,10 +1,33 @@
 // The five counters of a book: 64-bit numbers that step modulo 2^64.
-ghost use Rattle.std.specs.Prelude.{◌≡◌, ◌+◌, ◌*◌, ◌≤◌, length};
-ghost use Rattle.vrf_model.specs.Setting.{schema_step, guid_step, dropped_step, renamed_step};
+ghost use Rattle.std.specs.Prelude.{◌≡◌, ◌≤◌, length};
 ghost use Rattle.vrf_store.specs.Store.{counters_of};
-ghost use Rattle.vrf_store.specs.Inner.Counters.{CountersStepped, replaced_alone, long_to, up};
+ghost use Rattle.vrf_store.specs.Inner.Counters.{CountersStepped, step_of, word_of};
 
 use vrf_words::{get64, put64};
+
+#[derive(Clone, Copy, Debug, PartialEq, Eq)]
+pub enum Counter {
+    Schema,
+    Guid,
+    Dropped,
+    Replaced,
+    Renamed,
+}
+
+impl Counter {
+    // The first of its two words in the header.
+    fn word(self) -> usize
+        ensures { result ≡ word_of self }
+    {
+        match self {
+            Counter::Schema => 11,
+            Counter::Guid => 13,
+            Counter::Dropped => 15,
+            Counter::Replaced => 17,
+            Counter::Renamed => 19,
+        }
+    }
+}
 
 #[derive(Clone, Copy)]
 pub struct BookCounters {
@@ -28,46 +51,12 @@ pub fn read_counters(m: &[u8]) -> BookCounters
     }
 }
 
-// Adds one to the counter at word i.
-fn step(m: &mut [u8], i: usize)
-    requires { 4 * i + 8 ≤ length m.old }
-    ensures { m.new ≡ long_to m.old i (up m.old i) }
+// Adds one to a counter.
+pub fn step(m: &mut [u8], counter: Counter)
+    requires { 128 ≤ length m.old }
+    ensures { CountersStepped m.old m.new (step_of counter) }
 {
+    let i = counter.word();
     let n = get64(m, i);
     put64(m, i, n.wrapping_add(1));
-}
-
-pub fn step_schema(m: &mut [u8])
-    requires { 128 ≤ length m.old }
-    ensures { CountersStepped m.old m.new schema_step }
-{
-    step(m, 11);
-}
-
-pub fn step_guid(m: &mut [u8])
-    requires { 128 ≤ length m.old }
-    ensures { CountersStepped m.old m.new guid_step }
-{
-    step(m, 13);
-}
-
-pub fn step_dropped(m: &mut [u8])
-    requires { 128 ≤ length m.old }
-    ensures { CountersStepped m.old m.new dropped_step }
-{
-    step(m, 15);
-}
-
-pub fn step_replaced(m: &mut [u8])
-    requires { 128 ≤ length m.old }
-    ensures { CountersStepped m.old m.new replaced_alone }
-{
-    step(m, 17);
-}
-
-pub fn step_renamed(m: &mut [u8])
-    requires { 128 ≤ length m.old }
-    ensures { CountersStepped m.old m.new (renamed_step 1) }
-{
-    step(m, 19);
 }

@@ -9,8 +9,8 @@ ghost use Rattle.vrf_store.specs.Inner.Stepped.{Stepped, held};
 ghost use Rattle.vrf_store.specs.Inner.Fields.{headless, pass_of, pass_row, pass_rows, emptied, NewField, NewName, with_field, with_group, Renamed};
 
 use crate::parts::{field_rows, fields, fields_allowed, groups_allowed, guids_allowed, held};
-use crate::rows::{push_row, text_len};
-use vrf_table::put_text;
+use crate::rows::{push_row, text_len, text_span};
+use vrf_table::{TextSpan, put_text};
 use vrf_words::{get32, get64, put32, zero_words};
 
 // The first byte of the field rows. Their heads follow.
@@ -21,33 +21,33 @@ fn fields_at(m: &[u8]) -> usize
     4 * (36 + 10 * guids_allowed(m) + 16 * groups_allowed(m))
 }
 
-// Adds a field. Its slot must be empty.
-pub fn push_field(m: &mut [u8], place: u32, slot: u32, at: u32, len: u32, checksum: u32)
-    requires { WellFormed m.old × NewField (store_of m.old) place slot at len }
-    ensures { Stepped m.old m.new (with_field (held m.old) place slot (filled checksum (part (store_of m.old).texts at len))) }
+// Adds a field. Its slot must be empty. (`guids` says why this is not one function with `push_guid`, and why each makes its own range.)
+pub fn push_field(m: &mut [u8], place: u32, slot: u32, span: TextSpan, checksum: u32)
+    requires { WellFormed m.old × NewField (store_of m.old) place slot span.at span.len }
+    ensures { Stepped m.old m.new (with_field (held m.old) place slot (filled checksum (part (store_of m.old).texts span.at span.len))) }
 {
     let cap = fields_allowed(m);
     let n = fields(m);
-    let total = held(m) + len;
+    let total = held(m) + span.len;
     let from = fields_at(m);
     let to = from + 24 * cap + 4 * (4 * cap + 1);
     let k = 65536 * (place as u64) + (slot as u64);
     let b = (4 * cap + 1) as u32;
-    push_row(&mut m[from..to], cap, b, n, k, at, len, checksum);
+    push_row(&mut m[from..to], cap, b, n, k, span, checksum);
     put32(m, 7, n + 1);
     put32(m, 8, total);
 }
 
 // Gives row e a new name and checksum.
-pub fn set_field_row(m: &mut [u8], e: u32, at: u32, len: u32, checksum: u32)
-    requires { WellFormed m.old × NewName (store_of m.old) e at len }
-    ensures { Renamed m.old m.new e (filled checksum (part (store_of m.old).texts at len)) }
+pub fn set_field_row(m: &mut [u8], e: u32, span: TextSpan, checksum: u32)
+    requires { WellFormed m.old × NewName (store_of m.old) e span.at span.len }
+    ensures { Renamed m.old m.new e (filled checksum (part (store_of m.old).texts span.at span.len)) }
 {
     let cap = fields_allowed(m);
     let from = fields_at(m);
     let to = from + 24 * cap + 4 * (4 * cap + 1);
-    let total = held(m) - text_len(field_rows(m), e) + len;
-    put_text(&mut m[from..to], e, at, len, checksum);
+    let total = held(m) - text_len(field_rows(m), e) + span.len;
+    put_text(&mut m[from..to], e, span, checksum);
     put32(m, 8, total);
 }
 
@@ -65,18 +65,17 @@ fn pass_row(t: &mut [u8], cap: usize, place: u32, e: u32, kept: KeptRows) -> Kep
 {
     let row = 6 * (e as usize);
     let k = get64(t, row);
-    let len = text_len(t, e);
+    let span = text_span(t, e);
     let rows = kept.rows;
     let gone = kept.gone;
     if k / 65536 == place as u64 {
         return KeptRows {
             rows: rows,
-            gone: gone + (len as u64),
+            gone: gone + (span.len as u64),
         };
     }
-    let at = get32(t, row + 3);
     let info = get32(t, row + 5);
-    push_row(t, cap, (4 * cap + 1) as u32, rows, k, at, len, info);
+    push_row(t, cap, (4 * cap + 1) as u32, rows, k, span, info);
     KeptRows {
         rows: rows + 1,
         gone: gone,

@@ -6,27 +6,24 @@ ghost use Rattle.vrf_path.specs.Answers.{spelled, key_bytes};
 ghost use Rattle.vrf_path.specs.Inner.Leaf.{Dotless};
 ghost use Rattle.vrf_words.specs.Words.{part};
 ghost use Rattle.vrf_model.specs.Setting.{with_groups, new_group, merged_group};
-ghost use Rattle.vrf_table.specs.Table.{info, text};
-ghost use Rattle.vrf_table.specs.TextIndex.{text_bucket, claim_of};
+ghost use Rattle.vrf_table.specs.TextIndex.{text_bucket};
 ghost use Rattle.vrf_table.specs.Inner.TextIndex.{leaf_bucket};
-ghost use Rattle.vrf_table.specs.Inner.Answers.{entry, RowTexts};
+ghost use Rattle.vrf_table.specs.Inner.Answers.{entry};
+ghost use Rattle.vrf_table.specs.Inner.Found.{claim_in};
 ghost use Rattle.vrf_store.specs.Store.{allowances_of, header_of, store_of, words};
 ghost use Rattle.vrf_store.specs.Inner.WellFormed.{Enough, WellFormed};
-ghost use Rattle.vrf_store.specs.Inner.Check.{Walked};
 ghost use Rattle.vrf_store.specs.Inner.Memory.{WrittenStore, push_row};
 ghost use Rattle.vrf_store.specs.Inner.Stepped.{Stepped, held};
 ghost use Rattle.vrf_store.specs.Inner.Fields.{with_group};
 ghost use Rattle.vrf_store.specs.Inner.Groups.{bucket_of, unless_shared, joined_by, linked, headed, BucketBelow, push_key, push_path, push_leaf, leaf_of, Unindexed, Indexable, Pushable, MoreIndexed};
 ghost use Rattle.vrf_store.specs.Inner.Groups.{BucketsOf, put_group, NewGroup, grown_group, OldGroup, Handles, group_of, Emptied};
 
-use crate::look::{leaf_buckets, row_info};
-use crate::parts::{
-    group_rows, groups, groups_allowed, guids_allowed, held, leaf_heads, leaf_links, texts,
-};
+use crate::look::{groups_by_leaf, row_info};
+use crate::parts::{group_rows, groups, groups_allowed, guids_allowed, held, texts};
 use crate::rows::text_len;
 use vrf_path::{Key, core_alias, default_object_alias, leaf_at};
 use vrf_table::spell::spell;
-use vrf_table::{Claim, key_bucket, leaf_claim, put_key, put_text, row_text, text_bucket};
+use vrf_table::{Claim, LeafIndex, TextSpan, key_bucket, put_key, put_text, row_text, text_bucket};
 use vrf_words::{get32, get64, put32, zero_words};
 
 // The buckets that a group's entries join, for its index, for the three keys of its path, and for its leaf. An entry can have none.
@@ -57,35 +54,26 @@ fn alias_bucket(path: &[u8], key: Option<Key>, b: u32) -> Option<u32>
     Some(spelled_bucket(path, key?, b))
 }
 
-// The bucket that leaf l joins, out of b buckets. If two of the n groups have the leaf already, it joins none: it is ambiguous and stays
-// so. So a chain holds each leaf at most twice, and a walk does not pass many groups that have another leaf with the same base.
-fn joined_bucket(
-    rows: &[u8],
-    x: &[u8],
-    links: &[u8],
-    heads: &[u8],
-    b: u32,
-    n: u32,
-    l: &[u8],
-) -> Option<u32>
-    requires { Dotless l.now × (24 * n ≤ length rows.now) × (4 * n ≤ length links.now) × (4 * b ≤ length heads.now) × (0 < b) × (n ≤ 100000) × RowTexts rows.now x.now n × (length l.now < 2 ^ 31) }
-    ensures { entry result ≡ unless_shared (claim_of rows.now x.now links.now heads.now b n l.now) (leaf_bucket b l.now) }
+// The bucket that leaf l joins. If two of the groups in the index have the leaf already, it joins none: it is ambiguous and stays so. So a
+// chain holds each leaf at most twice, and a walk does not pass many groups that have another leaf with the same base.
+fn joined_bucket(index: LeafIndex<'_>, l: &[u8]) -> Option<u32>
+    requires { Dotless l.now × (length l.now < 2 ^ 31) }
+    ensures { entry result ≡ unless_shared (claim_in index.entry l.now) (leaf_bucket index.entry.buckets l.now) }
 {
-    let found = leaf_claim(rows, x, links, heads, b, n, l);
+    let found = index.claim(l);
     match found.claim {
         Claim::Ambiguous => None,
         _ => Some(found.bucket),
     }
 }
 
-// The bucket that group g's leaf joins, out of b buckets, if the group has a leaf.
-fn leaf_bucket_of(rows: &[u8], x: &[u8], links: &[u8], heads: &[u8], b: u32, g: u32) -> Option<u32>
-    requires { Walked rows.now x.now links.now heads.now 4 b (g + 1) }
-    ensures { entry result ≡ joined_by (claim_of rows.now x.now links.now heads.now b g) (leaf_bucket b) (leaf (text rows.now x.now g)) }
+// The bucket that the leaf of a path joins, if the path has a leaf.
+fn leaf_bucket_of(index: LeafIndex<'_>, path: &[u8]) -> Option<u32>
+    requires { length path.now < 2 ^ 31 }
+    ensures { entry result ≡ joined_by (claim_in index.entry) (leaf_bucket index.entry.buckets) (leaf path.now) }
 {
-    let path = row_text(rows, x, g);
     let i = leaf_at(path)?;
-    joined_bucket(rows, x, links, heads, b, g, &path[i..])
+    joined_bucket(index, &path[i..])
 }
 
 // The bucket that group g's leaf joins, read from the memory.
@@ -93,8 +81,8 @@ fn leaf_bucket_in(m: &[u8], g: u32) -> Option<u32>
     requires { Indexable m.now g }
     ensures { entry result ≡ leaf_of (store_of m.now) g }
 {
-    let b = leaf_buckets(m);
-    leaf_bucket_of(group_rows(m), texts(m), leaf_links(m), leaf_heads(m), b, g)
+    let path = row_text(group_rows(m), texts(m), g);
+    leaf_bucket_of(groups_by_leaf(m, g), path)
 }
 
 // Puts an entry at the front of the chain of its bucket, if it has one. From word `at` on there are n words of links, then k heads. Word i
@@ -111,7 +99,8 @@ fn push_entry(m: &mut [u8], at: usize, n: usize, k: usize, i: usize, b: Option<u
     }
 }
 
-// These three put one entry of a group at the front of a chain: in the index by path-name index, by path key and by leaf.
+// These three put one entry of a group at the front of a chain: in the index by path-name index, by path key and by leaf. They stay apart:
+// what they share is `push_entry`, and each contract names its own part of the store.
 fn push_key(m: &mut [u8], e: u32, b: Option<u32>)
     requires { Pushable m.old 1 ((allowances_of m.old).groups + 1) e (entry b) }
     ensures { WrittenStore m.old m.new (push_key (store_of m.old) e (entry b)) }
@@ -181,32 +170,32 @@ fn index_group(m: &mut [u8], g: u32)
 }
 
 // Writes row e of a table. The link is set later, when the row joins the index.
-fn put_row(t: &mut [u8], e: u32, k: u64, at: u32, len: u32, info: u32)
+fn put_row(t: &mut [u8], e: u32, k: u64, span: TextSpan, info: u32)
     requires { 24 * e + 24 ≤ length t.old }
-    ensures { t.new ≡ push_row t.old e k 0 at len info }
+    ensures { t.new ≡ push_row t.old e k 0 span.at span.len info }
 {
-    put_text(t, e, at, len, info);
+    put_text(t, e, span, info);
     put_key(t, e, k, 0);
 }
 
-fn put_group(m: &mut [u8], e: u32, index: u32, at: u32, len: u32, slots: u32)
+fn put_group(m: &mut [u8], e: u32, index: u32, span: TextSpan, slots: u32)
     requires { Enough m.old × (e < (allowances_of m.old).groups) }
-    ensures { WrittenStore m.old m.new (put_group (store_of m.old) e index at len slots) }
+    ensures { WrittenStore m.old m.new (put_group (store_of m.old) e index span.at span.len slots) }
 {
     let cap = groups_allowed(m);
     let from = 4 * (33 + 10 * guids_allowed(m));
     let to = from + 24 * cap + 4 * (cap + 1);
-    put_row(&mut m[from..to], e, index as u64, at, len, slots);
+    put_row(&mut m[from..to], e, index as u64, span, slots);
 }
 
 // Adds a group. Its path is a text in the half in use.
-pub fn push_group(m: &mut [u8], index: u32, at: u32, len: u32, slots: u32)
-    requires { NewGroup m.old index at len slots }
-    ensures { Stepped m.old m.new (with_groups (held m.old) ((held m.old).groups ++ (new_group (part (store_of m.old).texts at len) index slots ∷ []))) }
+pub fn push_group(m: &mut [u8], index: u32, span: TextSpan, slots: u32)
+    requires { NewGroup m.old index span.at span.len slots }
+    ensures { Stepped m.old m.new (with_groups (held m.old) ((held m.old).groups ++ (new_group (part (store_of m.old).texts span.at span.len) index slots ∷ []))) }
 {
     let n = groups(m);
-    let total = held(m) + len;
-    put_group(m, n, index, at, len, slots);
+    let total = held(m) + span.len;
+    put_group(m, n, index, span, slots);
     put32(m, 6, n + 1);
     put32(m, 8, total);
     index_group(m, n);
@@ -224,6 +213,8 @@ pub fn grow_group(m: &mut [u8], e: u32, slots: u32)
 }
 
 // Clears the heads of the three indexes. Old heads would not make a search wrong, but the new chains would continue into the old ones.
+// (`zero_heads` of `open` clears these and two more. It does not call this function: it says only that header, counters and literals stay,
+// and this contract is about the indexes. So a third one, about these three writes alone, would have to stand between them.)
 fn clear_heads(m: &mut [u8])
     requires { Enough m.old }
     ensures { MoreIndexed m.old m.new 0 0 }
@@ -248,29 +239,29 @@ pub fn rebuild_group_indexes(m: &mut [u8])
 }
 
 // Gives row e a new index, path and slot count, and rebuilds the indexes.
-fn set_row(m: &mut [u8], e: u32, index: u32, at: u32, len: u32, slots: u32)
-    requires { OldGroup m.old e index at len slots × Handles (store_of m.old) e slots }
-    ensures { Stepped m.old m.new (with_group (held m.old) e (λ _. group_of (store_of m.old) e index at len slots)) }
+fn set_row(m: &mut [u8], e: u32, index: u32, span: TextSpan, slots: u32)
+    requires { OldGroup m.old e index span.at span.len slots × Handles (store_of m.old) e slots }
+    ensures { Stepped m.old m.new (with_group (held m.old) e (λ _. group_of (store_of m.old) e index span.at span.len slots)) }
 {
-    let total = held(m) - text_len(group_rows(m), e) + len;
-    put_group(m, e, index, at, len, slots);
+    let total = held(m) - text_len(group_rows(m), e) + span.len;
+    put_group(m, e, index, span, slots);
     put32(m, 8, total);
     rebuild_group_indexes(m);
 }
 
 // Gives group e a new index and path, and at least `slots` slots.
-pub fn set_group(m: &mut [u8], e: u32, index: u32, at: u32, len: u32, slots: u32)
-    requires { OldGroup m.old e index at len slots }
-    ensures { Stepped m.old m.new (with_group (held m.old) e (merged_group (part (store_of m.old).texts at len) index slots)) }
+pub fn set_group(m: &mut [u8], e: u32, index: u32, span: TextSpan, slots: u32)
+    requires { OldGroup m.old e index span.at span.len slots }
+    ensures { Stepped m.old m.new (with_group (held m.old) e (merged_group (part (store_of m.old).texts span.at span.len) index slots)) }
 {
     let most = row_info(group_rows(m), e).max(slots);
-    set_row(m, e, index, at, len, most);
+    set_row(m, e, index, span, most);
 }
 
 // Replaces group e, which must have no fields. It can then have fewer slots than before.
-pub fn replace_group(m: &mut [u8], e: u32, index: u32, at: u32, len: u32, slots: u32)
-    requires { OldGroup m.old e index at len slots × Emptied (held m.old) e }
-    ensures { Stepped m.old m.new (with_groups (held m.old) (slice_set (held m.old).groups e (new_group (part (store_of m.old).texts at len) index slots))) }
+pub fn replace_group(m: &mut [u8], e: u32, index: u32, span: TextSpan, slots: u32)
+    requires { OldGroup m.old e index span.at span.len slots × Emptied (held m.old) e }
+    ensures { Stepped m.old m.new (with_groups (held m.old) (slice_set (held m.old).groups e (new_group (part (store_of m.old).texts span.at span.len) index slots))) }
 {
-    set_row(m, e, index, at, len, slots);
+    set_row(m, e, index, span, slots);
 }

@@ -8,8 +8,10 @@ ghost use Rattle.vrf_table.specs.TextIndex.{text_start};
 ghost use Rattle.vrf_table.specs.Inner.Index.{claim_or_later};
 ghost use Rattle.vrf_table.specs.Inner.Answers.{entry, claim};
 ghost use Rattle.vrf_store.specs.Layout;
-ghost use Rattle.vrf_store.specs.Store.{allowances_of, store_of, slot_key, content_of};
-ghost use Rattle.vrf_store.specs.Inner.WellFormed.{WellFormed};
+ghost use Rattle.vrf_store.specs.Store.{allowances_of, header_of, store_of, slot_key, content_of};
+ghost use Rattle.vrf_store.specs.Inner.Valid.{ValidHeader};
+ghost use Rattle.vrf_store.specs.Inner.WellFormed.{Enough, WellFormed};
+ghost use Rattle.vrf_store.specs.Inner.Indexes.{Readable, KeyParts, GroupParts, PathParts, ChainParts, LeafParts};
 ghost use Rattle.vrf_store.specs.Inner.Lookups.{NameLeaves};
 ghost use Rattle.vrf_store.specs.Inner.Fields.{field_found, slot_row};
 
@@ -18,10 +20,12 @@ use crate::parts::{
     groups_allowed, guid_heads, guid_rows, guids, guids_allowed, leaf_heads, leaf_links,
     path_heads, path_links, texts,
 };
-use vrf_table::{Claim, find_key, find_path, first_claim, row_text, text_bucket};
+use vrf_table::{
+    Claim, GroupRows, KeyIndex, LeafChains, LeafIndex, PathIndex, row_text, text_bucket,
+};
 use vrf_words::{get32, get64};
 
-// The number of buckets of each index.
+// The number of buckets of each index. One function each: each contract names its own number of the layout, and asks for its own allowance.
 pub fn guid_buckets(m: &[u8]) -> u32
     requires { (128 ≤ length m.now) × ((allowances_of m.now).guids ≤ 1000000) }
     ensures { result ≡ Layout.guid_buckets (allowances_of m.now) }
@@ -72,18 +76,94 @@ pub fn row_info(rows: &[u8], e: u32) -> u32
     get32(rows, 6 * (e as usize) + 5)
 }
 
+// The indexes (docs/LAYOUT.md, Indexes). The first three have all rows of their tables, the last two the first n groups.
+// One function each: one that is told the table would have an arm for each of its four parts, in code and in contract.
+pub fn guids_by_key(m: &[u8]) -> KeyIndex<'_>
+    requires { Enough m.now × ValidHeader (header_of m.now) }
+    ensures { KeyParts result (store_of m.now).guid_rows (store_of m.now).guid_heads (Layout.guid_buckets (allowances_of m.now)) (header_of m.now).guids }
+{
+    KeyIndex {
+        rows: guid_rows(m),
+        heads: guid_heads(m),
+        buckets: guid_buckets(m),
+        count: guids(m),
+    }
+}
+
+pub fn groups_by_index(m: &[u8]) -> KeyIndex<'_>
+    requires { Enough m.now × ValidHeader (header_of m.now) }
+    ensures { KeyParts result (store_of m.now).group_rows (store_of m.now).group_heads (Layout.group_buckets (allowances_of m.now)) (header_of m.now).groups }
+{
+    KeyIndex {
+        rows: group_rows(m),
+        heads: group_heads(m),
+        buckets: group_buckets(m),
+        count: groups(m),
+    }
+}
+
+pub fn fields_by_key(m: &[u8]) -> KeyIndex<'_>
+    requires { Enough m.now × ValidHeader (header_of m.now) }
+    ensures { KeyParts result (store_of m.now).field_rows (store_of m.now).field_heads (Layout.field_buckets (allowances_of m.now)) (header_of m.now).fields }
+{
+    KeyIndex {
+        rows: field_rows(m),
+        heads: field_heads(m),
+        buckets: field_buckets(m),
+        count: fields(m),
+    }
+}
+
+fn first_groups(m: &[u8], n: u32) -> GroupRows<'_>
+    requires { Readable m.now n }
+    ensures { GroupParts result (store_of m.now) n }
+{
+    GroupRows {
+        rows: group_rows(m),
+        texts: texts(m),
+        count: n,
+    }
+}
+
+pub fn groups_by_path(m: &[u8], n: u32) -> PathIndex<'_>
+    requires { Readable m.now n }
+    ensures { PathParts result (store_of m.now) n }
+{
+    PathIndex {
+        groups: first_groups(m, n),
+        links: path_links(m),
+        heads: path_heads(m),
+        buckets: path_buckets(m),
+    }
+}
+
+fn leaf_chains(m: &[u8], n: u32) -> LeafChains<'_>
+    requires { Readable m.now n }
+    ensures { ChainParts result (store_of m.now) n }
+{
+    LeafChains {
+        groups: first_groups(m, n),
+        links: leaf_links(m),
+    }
+}
+
+pub fn groups_by_leaf(m: &[u8], n: u32) -> LeafIndex<'_>
+    requires { Readable m.now n }
+    ensures { LeafParts result (store_of m.now) n }
+{
+    LeafIndex {
+        chains: leaf_chains(m, n),
+        heads: leaf_heads(m),
+        buckets: leaf_buckets(m),
+    }
+}
+
 // The place of the record with this GUID.
 pub fn find_guid(m: &[u8], guid: u32) -> Option<u32>
     requires { WellFormed m.now }
     ensures { entry result ≡ guid_place guid (content_of (store_of m.now)).guids }
 {
-    find_key(
-        guid_rows(m),
-        guid_heads(m),
-        guid_buckets(m),
-        guids(m),
-        guid as u64,
-    )
+    guids_by_key(m).find(guid as u64)
 }
 
 // The place of the group with this path-name index.
@@ -91,13 +171,7 @@ pub fn find_index(m: &[u8], index: u32) -> Option<u32>
     requires { WellFormed m.now }
     ensures { entry result ≡ index_place index (content_of (store_of m.now)).groups }
 {
-    find_key(
-        group_rows(m),
-        group_heads(m),
-        group_buckets(m),
-        groups(m),
-        index as u64,
-    )
+    groups_by_index(m).find(index as u64)
 }
 
 // The place of the last group with the key k.
@@ -105,17 +179,7 @@ pub fn find_path_place(m: &[u8], k: &[u8]) -> Option<u32>
     requires { WellFormed m.now × (length k.now < 2 ^ 31) }
     ensures { entry result ≡ path_place k.now (content_of (store_of m.now)).groups }
 {
-    let b = path_buckets(m);
-    let n = groups(m);
-    let e = find_path(
-        group_rows(m),
-        texts(m),
-        path_links(m),
-        path_heads(m),
-        b,
-        n,
-        k,
-    )?;
+    let e = groups_by_path(m, groups(m)).find(k)?;
     Some(e / 3)
 }
 
@@ -147,9 +211,7 @@ pub fn claim_of(m: &[u8], name: &[u8], n: usize, s: &[u8], t: &[u8], u: &[u8]) -
 {
     let q = leaf_start(m, name);
     let p = front_start(m, name, n, q);
-    let rows = group_rows(m);
-    let x = texts(m);
-    first_claim(rows, x, leaf_links(m), groups(m), p, q, name, s, t, u)
+    leaf_chains(m, groups(m)).first_claim(p, q, name, s, t, u)
 }
 
 // The row of the field with the key of this place and slot. Both can be any numbers.
@@ -158,14 +220,11 @@ pub fn find_field(m: &[u8], place: u32, slot: u32) -> Option<u32>
     ensures { entry result ≡ field_found (store_of m.now) (slot_key place slot) }
 {
     let k = 65536 * (place as u64) + (slot as u64);
-    find_key(
-        field_rows(m),
-        field_heads(m),
-        field_buckets(m),
-        fields(m),
-        k,
-    )
+    fields_by_key(m).find(k)
 }
+
+// These five read a field of a record or of a group. They stay apart: what they share is one `if`, and a function that is given the table,
+// the field and the answer past the end would be no plainer.
 
 // The path of the GUID record at place i; empty past the records.
 pub fn guid_path(m: &[u8], i: u32) -> &[u8]

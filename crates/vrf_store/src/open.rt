@@ -1,5 +1,6 @@
 // Opening a book in lent memory, and removing all its records.
 ghost use Rattle.std.specs.Prelude.{◌≡◌, ◌≤◌, length};
+ghost use Rattle.vrf_model.specs.Answers.{allowed_by};
 ghost use Rattle.vrf_model.specs.Book.{zero_counters, fresh};
 ghost use Rattle.vrf_model.specs.Lawful.{Allowed};
 ghost use Rattle.vrf_table.specs.Inner.Answers.{entry};
@@ -12,60 +13,63 @@ ghost use Rattle.vrf_store.specs.Inner.Opening.{empty_header, OpenedMemory, Betw
 
 use crate::parts::{fields_allowed, groups_allowed, guids_allowed};
 use vrf_bitio::{Reason, Refusal};
+use vrf_model::Allowances;
 use vrf_words::{put32, zero_words};
 
-// The number of the lowest allowance above its top, if one is.
-fn above_top(guids: u64, groups: u64, fields: u64, text: u64, literals: u64) -> Option<u64>
-    ensures { entry result ≡ above_top (record { guids = guids; groups = groups; fields = fields; text = text; literals = literals }) }
+// The number of the lowest allowance above its top, 1 to 5, if one is: the detail of refusal 1 in document 01's table, so a number and no enum.
+fn above_top(allowed: Allowances) -> Option<u64>
+    ensures { entry result ≡ above_top (allowed_by allowed) }
 {
-    if 1_000_000 < guids {
+    if 1_000_000 < allowed.guids {
         return Some(1);
     }
-    if 100_000 < groups {
+    if 100_000 < allowed.groups {
         return Some(2);
     }
-    if 1_000_000 < fields {
+    if 1_000_000 < allowed.fields {
         return Some(3);
     }
-    if 67_108_864 < text {
+    if 67_108_864 < allowed.text {
         return Some(4);
     }
-    if 1_000_000 < literals {
+    if 1_000_000 < allowed.literals {
         return Some(5);
     }
     None
 }
 
 // The number of bytes that the allowances need. They must not be above their tops.
-fn needed(guids: u64, groups: u64, fields: u64, text: u64, literals: u64) -> u64
-    requires { Allowed (record { guids = guids; groups = groups; fields = fields; text = text; literals = literals }) }
-    ensures { result ≡ Layout.need (record { guids = guids; groups = groups; fields = fields; text = text; literals = literals }) }
+fn needed(allowed: Allowances) -> u64
+    requires { Allowed (allowed_by allowed) }
+    ensures { result ≡ Layout.need (allowed_by allowed) }
 {
-    4 * (37 + 10 * guids + 16 * groups + 10 * fields + literals) + 2 * text
+    4 * (37 + 10 * allowed.guids + 16 * allowed.groups + 10 * allowed.fields + allowed.literals)
+        + 2 * allowed.text
 }
 
-// The number of bytes to lend to `open`, or 0 if it refuses the allowances: the C interface answers one number.
-pub fn memory_needed(guids: u64, groups: u64, fields: u64, text: u64, literals: u64) -> u64
-    ensures { result ≡ memory_needed (record { guids = guids; groups = groups; fields = fields; text = text; literals = literals }) }
+// The number of bytes to lend to `open`, or 0 if it refuses the allowances. No Option: document 01's `memory_needed` is 0 there, and a function
+// that cannot fail must stay one.
+pub fn memory_needed(allowed: Allowances) -> u64
+    ensures { result ≡ memory_needed (allowed_by allowed) }
 {
-    match above_top(guids, groups, fields, text, literals) {
+    match above_top(allowed) {
         Some(_) => 0,
-        None => needed(guids, groups, fields, text, literals),
+        None => needed(allowed),
     }
 }
 
 // Writes the header of a book that holds nothing, with all counters at 0.
-fn write_header(m: &mut [u8], guids: u32, groups: u32, fields: u32, text: u32, literals: u32)
-    requires { 128 ≤ length m.old }
-    ensures { (header_of m.new ≡ empty_header (record { guids = guids; groups = groups; fields = fields; text = text; literals = literals }) 0)
+fn write_header(m: &mut [u8], allowed: Allowances)
+    requires { (128 ≤ length m.old) × Allowed (allowed_by allowed) }
+    ensures { (header_of m.new ≡ empty_header (allowed_by allowed) 0)
         × (counters_of m.new ≡ zero_counters)
         × (length m.new ≡ length m.old) }
 {
-    put32(m, 0, guids);
-    put32(m, 1, groups);
-    put32(m, 2, fields);
-    put32(m, 3, text);
-    put32(m, 4, literals);
+    put32(m, 0, allowed.guids as u32);
+    put32(m, 1, allowed.groups as u32);
+    put32(m, 2, allowed.fields as u32);
+    put32(m, 3, allowed.text as u32);
+    put32(m, 4, allowed.literals as u32);
     zero_words(m, 5, 27);
 }
 
@@ -84,24 +88,17 @@ pub fn zero_heads(m: &mut [u8])
     zero_words(m, 36 + 10 * g + 16 * r + 6 * f, 4 * f + 1);
 }
 
-pub fn open(
-    m: &mut [u8],
-    guids: u64,
-    groups: u64,
-    fields: u64,
-    text: u64,
-    literals: u64,
-) -> Result<(), Refusal>
-    ensures { OpenedMemory (record { guids = guids; groups = groups; fields = fields; text = text; literals = literals }) m.old m.new result }
+pub fn open(m: &mut [u8], allowed: Allowances) -> Result<(), Refusal>
+    ensures { OpenedMemory (allowed_by allowed) m.old m.new result }
 {
-    if let Some(which) = above_top(guids, groups, fields, text, literals) {
+    if let Some(which) = above_top(allowed) {
         return Err(Refusal {
             reason: Reason::AllowanceAboveTop,
             a: which,
             b: 0,
         });
     }
-    let bytes = needed(guids, groups, fields, text, literals);
+    let bytes = needed(allowed);
     if (m.len() as u64) < bytes {
         return Err(Refusal {
             reason: Reason::MemoryTooShort,
@@ -109,14 +106,7 @@ pub fn open(
             b: 0,
         });
     }
-    write_header(
-        m,
-        guids as u32,
-        groups as u32,
-        fields as u32,
-        text as u32,
-        literals as u32,
-    );
+    write_header(m, allowed);
     zero_heads(m);
     Ok(())
 }

@@ -6,7 +6,8 @@ ghost use Rattle.vrf_store.specs.Inner.WellFormed.{Enough};
 
 use vrf_words::get32;
 
-// The five allowances: words 0 to 4 of the header.
+// The five allowances: words 0 to 4 of the header. One function each: one over an enum would need its arms in code and definition both.
+// (`Counter` is an enum, because one function steps any counter; an allowance is read by callers that need its own field in the contract.)
 pub fn guids_allowed(m: &[u8]) -> usize
     requires { 128 ≤ length m.now }
     ensures { (result ≡ (allowances_of m.now).guids) × (result < 2 ^ 32) }
@@ -42,7 +43,7 @@ pub fn literals_allowed(m: &[u8]) -> usize
     get32(m, 4) as usize
 }
 
-// Counts and totals: words 5 to 10 of the header.
+// Counts and totals: words 5 to 10 of the header. One function each, so that each contract names its field of the header.
 pub fn guids(m: &[u8]) -> u32
     requires { 128 ≤ length m.now }
     ensures { result ≡ (header_of m.now).guids }
@@ -95,6 +96,7 @@ fn words(m: &[u8], i: usize, n: usize) -> &[u8]
     &m[from..to]
 }
 
+// The tables and the indexes. One function each: one over an enum of parts would put a list of all parts between a contract and its field.
 pub fn guid_rows(m: &[u8]) -> &[u8]
     requires { Enough m.now }
     ensures { result.now ≡ (store_of m.now).guid_rows }

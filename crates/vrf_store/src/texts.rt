@@ -8,18 +8,22 @@ ghost use Rattle.vrf_store.specs.Inner.Texts.{Appended, Compacted, TextMovable, 
 use crate::parts::{
     fields, groups, groups_allowed, guids, guids_allowed, half, half_at, text_allowed, used,
 };
+use vrf_table::TextSpan;
 use vrf_words::{get32, move_part, put_part, put32};
 
-// Writes t after the bytes used so far, where no row has its text. The answer is its place in the half.
-pub fn append_text(m: &mut [u8], t: &[u8]) -> u32
+// Writes t after the bytes used so far, where no row has its text.
+pub fn append_text(m: &mut [u8], t: &[u8]) -> TextSpan
     requires { WellFormed m.old × ((header_of m.old).used + length t.now ≤ (allowances_of m.old).text) }
     ensures { Appended m.old t.now m.new result }
 {
-    let a = used(m);
-    let at = half_at(m) + a as usize;
-    put_part(m, at, t);
-    put32(m, 9, a + t.len() as u32);
-    a
+    let span = TextSpan {
+        at: used(m),
+        len: t.len() as u32,
+    };
+    let from = half_at(m) + span.at as usize;
+    put_part(m, from, t);
+    put32(m, 9, span.at + span.len);
+    span
 }
 
 // Moves the text of one row from the old half to the new one, after the first `used` bytes. The answer is the number of bytes used then.

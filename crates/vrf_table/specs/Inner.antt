@@ -3,4 +3,5 @@ pub mod Index
 pub mod Table
 pub mod TextIndex
 pub mod Answers
+pub mod Found
 pub mod Spelled

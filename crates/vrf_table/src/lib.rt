@@ -8,15 +8,14 @@ ghost use Rattle.vrf_path.specs.Text.{four, eight, same};
 ghost use Rattle.vrf_path.specs.Keys.{key_is};
 ghost use Rattle.vrf_path.specs.Leaf.{leaf};
 ghost use Rattle.vrf_path.specs.Inner.Leaf.{Dotless};
-ghost use Rattle.vrf_words.specs.Words.{word};
 ghost use Rattle.vrf_table.specs.Chain.{walk};
-ghost use Rattle.vrf_table.specs.Table.{at, len, text, bucket, key_hash, key_bucket, find_key};
-ghost use Rattle.vrf_table.specs.TextIndex.{turn, four_turns, last_turns, text_hash, mixed, text_bucket, key_numbered, path_hit, find_path, leaf_hit, claim_at, claim_of};
+ghost use Rattle.vrf_table.specs.Table.{at, len, text, bucket, key_hash, key_bucket};
+ghost use Rattle.vrf_table.specs.TextIndex.{turn, four_turns, last_turns, text_hash, mixed, text_bucket, key_numbered, path_hit, leaf_hit};
 ghost use Rattle.vrf_table.specs.Inner.Table.{set_key, set_text};
-ghost use Rattle.vrf_table.specs.Inner.TextIndex.{leaf_bucket, first_at};
+ghost use Rattle.vrf_table.specs.Inner.TextIndex.{leaf_bucket};
 ghost use Rattle.vrf_table.specs.Inner.Answers.{entry, claim, Gives, Suffixed, RowTexts};
 
-use vrf_path::{core_alias, default_object_alias, is_key, leaf_base, left, same};
+use vrf_path::{core_alias, default_object_alias, is_key, leaf_base, same};
 use vrf_words::{get32, get64, put32, put64};
 
 // Which entry has a key: none, several, or only this one.
@@ -25,6 +24,59 @@ pub enum Claim {
     Absent,
     Ambiguous,
     Only(u32),
+}
+
+// The rows of a table, and the heads of its index by key (docs/LAYOUT.md, Indexes).
+#[derive(Clone, Copy)]
+pub struct KeyIndex<'a> {
+    pub rows: &'a [u8],
+    pub heads: &'a [u8],
+    pub buckets: u32,
+    pub count: u32,
+    ghost rows_in: { 24 * count ≤ length rows.now },
+    ghost heads_in: { 4 * buckets ≤ length heads.now },
+    ghost some: { 0 < buckets },
+}
+
+// The rows of the first `count` groups, and the memory of the texts that they point to.
+#[derive(Clone, Copy)]
+pub struct GroupRows<'a> {
+    pub rows: &'a [u8],
+    pub texts: &'a [u8],
+    pub count: u32,
+    ghost rows_in: { 24 * count ≤ length rows.now },
+    ghost texts_in: { RowTexts rows.now texts.now count },
+    ghost few: { count ≤ 100000 },
+}
+
+// Groups, and the index that finds them by the keys of their paths. It has three entries for each group.
+#[derive(Clone, Copy)]
+pub struct PathIndex<'a> {
+    pub groups: GroupRows<'a>,
+    pub links: &'a [u8],
+    pub heads: &'a [u8],
+    pub buckets: u32,
+    ghost links_in: { 12 * groups.count ≤ length links.now },
+    ghost heads_in: { 4 * buckets ≤ length heads.now },
+    ghost some: { 0 < buckets },
+}
+
+// Groups, and the links of the index that finds them by their leaves. It has one entry for each group.
+#[derive(Clone, Copy)]
+pub struct LeafChains<'a> {
+    pub groups: GroupRows<'a>,
+    pub links: &'a [u8],
+    ghost links_in: { 4 * groups.count ≤ length links.now },
+}
+
+// The index by leaf with its heads.
+#[derive(Clone, Copy)]
+pub struct LeafIndex<'a> {
+    pub chains: LeafChains<'a>,
+    pub heads: &'a [u8],
+    pub buckets: u32,
+    ghost heads_in: { 4 * buckets ≤ length heads.now },
+    ghost some: { 0 < buckets },
 }
 
 // The bucket of a hash, out of b buckets.
@@ -54,6 +106,8 @@ pub fn key_bucket(k: u64, b: u32) -> u32
 }
 
 // The newest entry below n that passes the test, in the chain that starts at pointer p. No `for`: only the links give the next entry.
+// (`successors` is no plainer: its state would be this pair, since the limit falls with each entry and the chain ends at the first link that
+// is not below it; and the test of an entry would stand apart from it in a `find`.)
 fn walk<Hit: Fn(u32) -> bool, Link: Fn(u32) -> u32>(
     p: u32,
     n: u32,
@@ -77,18 +131,22 @@ fn walk<Hit: Fn(u32) -> bool, Link: Fn(u32) -> u32>(
     None
 }
 
-// The newest row with the key k, out of n rows.
-pub fn find_key(rows: &[u8], heads: &[u8], b: u32, n: u32, k: u64) -> Option<u32>
-    requires { (24 * n ≤ length rows.now) × (4 * b ≤ length heads.now) × (0 < b) }
-    ensures { entry result ≡ find_key rows.now heads.now b n k }
-{
-    let p = get32(heads, key_bucket(k, b) as usize);
-    walk(
-        p,
-        n,
-        |e| get64(rows, 6 * (e as usize)) == k,
-        |e| get32(rows, 6 * (e as usize) + 2),
-    )
+impl KeyIndex<'_> {
+    ghost use Rattle.vrf_table.specs.Inner.Found.{row_found};
+
+    // The newest row with the key k.
+    pub fn find(self, k: u64) -> Option<u32>
+        ensures { entry result ≡ row_found self.entry k }
+    {
+        let rows = self.rows;
+        let p = get32(self.heads, key_bucket(k, self.buckets) as usize);
+        walk(
+            p,
+            self.count,
+            |e| get64(rows, 6 * (e as usize)) == k,
+            |e| get32(rows, 6 * (e as usize) + 2),
+        )
+    }
 }
 
 // Writes the key and the link of row e.
@@ -101,14 +159,21 @@ pub fn put_key(rows: &mut [u8], e: u32, k: u64, link: u32)
     put32(rows, row + 2, link);
 }
 
-// Writes where the text of row e is, its length, and the row's number.
-pub fn put_text(rows: &mut [u8], e: u32, at: u32, len: u32, info: u32)
+// Where a text is in the half in use, and its length.
+#[derive(Clone, Copy, Debug, PartialEq, Eq)]
+pub struct TextSpan {
+    pub at: u32,
+    pub len: u32,
+}
+
+// Writes where the text of row e is, and the row's number.
+pub fn put_text(rows: &mut [u8], e: u32, span: TextSpan, info: u32)
     requires { 24 * e + 24 ≤ length rows.old }
-    ensures { rows.new ≡ set_text rows.old e at len info }
+    ensures { rows.new ≡ set_text rows.old e span.at span.len info }
 {
     let row = 6 * (e as usize);
-    put32(rows, row + 3, at);
-    put32(rows, row + 4, len);
+    put32(rows, row + 3, span.at);
+    put32(rows, row + 4, span.len);
     put32(rows, row + 5, info);
 }
 
@@ -123,14 +188,16 @@ pub fn row_text<'a>(rows: &[u8], x: &'a [u8], e: u32) -> &'a [u8]
     &x[from..to]
 }
 
-// Byte i as a number, 0 past the end.
+// Byte i as a number, 0 past the end. (`vrf_bitio` has its own: a public one would be one more promise of an exported crate.)
 fn byte_at(t: &[u8], i: usize) -> u64
     ensures { (result ≡ slice_index t.now i) × (result < 256) }
 {
     t.get(i).map_or(0, |b| u64::from(*b))
 }
 
-// The four bytes from i on as one number. A byte past the end counts as 0.
+// The four bytes from i on as one number. A byte past the end counts as 0. (`vrf_bitio::bits_at(t, 0, 64)` is the whole word of a short
+// text, but it loops over the bytes, where this has a test for each and no loop. `from_le_bytes` takes exactly four bytes, so the missing ones
+// would have to be filled in first.)
 fn four_or_zeros(t: &[u8], i: usize) -> u64
     requires { i ≤ 4 }
     ensures { (result ≡ four t.now i) × (result < 2 ^ 32) }
@@ -141,7 +208,7 @@ fn four_or_zeros(t: &[u8], i: usize) -> u64
         + 0x100_0000 * byte_at(t, i + 3)
 }
 
-// The eight bytes from i on as one number. The compiler makes this one load.
+// The eight bytes from i on as one number. The compiler makes this one load. (docs/DECISIONS.md, decision 52: it has its own.)
 fn eight(t: &[u8], i: usize) -> u64
     requires { i + 8 ≤ length t.now }
     ensures { result ≡ eight t.now i }
@@ -184,9 +251,9 @@ fn last_turns(h: u64, t: &[u8]) -> u64
     ensures { result ≡ last_turns h t.now }
 {
     let n = t.len();
-    let first = turn(h, eight(t, left(n, 32)));
-    let second = turn(first, eight(t, left(n, 24)));
-    let third = turn(second, eight(t, left(n, 16)));
+    let first = turn(h, eight(t, n.saturating_sub(32)));
+    let second = turn(first, eight(t, n.saturating_sub(24)));
+    let third = turn(second, eight(t, n.saturating_sub(16)));
     turn(third, eight(t, n - 8))
 }
 
@@ -229,8 +296,9 @@ pub fn text_bucket(t: &[u8], b: u32) -> u32
     bucket_of(mix(text_hash(t)), b)
 }
 
-// Whether the path's key with this number is k. A core alias is 6 bytes longer or shorter than the path. Most texts have another length,
-// and then the path is not searched.
+// Whether the path's key with this number is k: 0 is the path, 1 the default alias, 2 the core alias. The number is e % 3 of an entry e, and an
+// enum of the three would be made of it here and matched at once. A core alias is 6 bytes longer or shorter than the path. Most texts have
+// another length, and then the path is not searched.
 fn key_is(path: &[u8], number: u32, k: &[u8]) -> bool
     ensures { result ≡ key_is (key_numbered path.now number) k.now }
 {
@@ -244,34 +312,48 @@ fn key_is(path: &[u8], number: u32, k: &[u8]) -> bool
     }
 }
 
-// Whether entry e is the key k. Entry e is key e % 3 of group e / 3.
-fn path_hit(rows: &[u8], x: &[u8], e: u32, k: &[u8]) -> bool
-    requires { (24 * (e / 3) + 24 ≤ length rows.now) × (at rows.now (e / 3) + len rows.now (e / 3) ≤ length x.now) }
-    ensures { result ≡ path_hit rows.now x.now k.now e }
-{
-    key_is(row_text(rows, x, e / 3), e % 3, k)
+impl<'a> GroupRows<'a> {
+    // The path of group g.
+    pub fn path(&self, g: u32) -> &'a [u8]
+        requires { g < self.now.count }
+        ensures { result.now ≡ text self.now.rows.now self.now.texts.now g }
+    {
+        row_text(self.rows, self.texts, g)
+    }
+
+    // Whether entry e is the key k. Entry e is key e % 3 of group e / 3.
+    fn path_hit(&self, e: u32, k: &[u8]) -> bool
+        requires { e < 3 * self.now.count }
+        ensures { result ≡ path_hit self.now.rows.now self.now.texts.now k.now e }
+    {
+        key_is(self.path(e / 3), e % 3, k)
+    }
+
+    // Whether the leaf of group e is the name followed by the suffix.
+    fn leaf_hit(&self, e: u32, name: &[u8], suffix: &[u8]) -> bool
+        requires { Suffixed name.now suffix.now × (e < self.now.count) }
+        ensures { result ≡ leaf_hit self.now.rows.now self.now.texts.now (name.now ++ suffix.now) e }
+    {
+        leaf_is(self.path(e), name, suffix)
+    }
 }
 
-// The newest entry that is the key k, out of the entries of n groups.
-pub fn find_path(
-    rows: &[u8],
-    x: &[u8],
-    links: &[u8],
-    heads: &[u8],
-    b: u32,
-    n: u32,
-    k: &[u8],
-) -> Option<u32>
-    requires { (24 * n ≤ length rows.now) × (12 * n ≤ length links.now) × (4 * b ≤ length heads.now) × (0 < b) × (n ≤ 100000) × RowTexts rows.now x.now n × (length k.now < 2 ^ 31) }
-    ensures { entry result ≡ find_path rows.now x.now links.now heads.now b n k.now }
-{
-    let p = get32(heads, text_bucket(k, b) as usize);
-    walk(
-        p,
-        3 * n,
-        |e| path_hit(rows, x, e, k),
-        |e| get32(links, e as usize),
-    )
+impl PathIndex<'_> {
+    ghost use Rattle.vrf_table.specs.Inner.Found.{path_found};
+
+    // The newest entry that is the key k.
+    pub fn find(&self, k: &[u8]) -> Option<u32>
+        requires { length k.now < 2 ^ 31 }
+        ensures { entry result ≡ path_found self.now k.now }
+    {
+        let p = get32(self.heads, text_bucket(k, self.buckets) as usize);
+        walk(
+            p,
+            3 * self.groups.count,
+            |e| self.groups.path_hit(e, k),
+            |e| get32(self.links, e as usize),
+        )
+    }
 }
 
 // The bucket of a leaf, out of b buckets. It is the bucket of the leaf's base, so that all the leaves tried for a name are in one chain.
@@ -312,57 +394,6 @@ fn leaf_is(path: &[u8], name: &[u8], suffix: &[u8]) -> bool
     ends_with_name(path, from, name, suffix)
 }
 
-// Whether the leaf of group e is the name followed by the suffix.
-fn leaf_hit(rows: &[u8], x: &[u8], e: u32, name: &[u8], suffix: &[u8]) -> bool
-    requires { Suffixed name.now suffix.now × (24 * e + 24 ≤ length rows.now) × (at rows.now e + len rows.now e ≤ length x.now) }
-    ensures { result ≡ leaf_hit rows.now x.now (name.now ++ suffix.now) e }
-{
-    leaf_is(row_text(rows, x, e), name, suffix)
-}
-
-// The first group with that leaf, out of n, in the chain that starts at pointer p.
-fn find_leaf(
-    rows: &[u8],
-    x: &[u8],
-    links: &[u8],
-    n: u32,
-    p: u32,
-    name: &[u8],
-    suffix: &[u8],
-) -> Option<u32>
-    requires { Suffixed name.now suffix.now × (24 * n ≤ length rows.now) × (4 * n ≤ length links.now) × RowTexts rows.now x.now n }
-    ensures { entry result ≡ walk (leaf_hit rows.now x.now (name.now ++ suffix.now)) (word links.now) n p }
-{
-    walk(
-        p,
-        n,
-        |e| leaf_hit(rows, x, e, name, suffix),
-        |e| get32(links, e as usize),
-    )
-}
-
-// The claim of that leaf among n groups, found in the chain that starts at pointer p.
-fn claim_from(
-    rows: &[u8],
-    x: &[u8],
-    links: &[u8],
-    n: u32,
-    p: u32,
-    name: &[u8],
-    suffix: &[u8],
-) -> Claim
-    requires { Suffixed name.now suffix.now × (24 * n ≤ length rows.now) × (4 * n ≤ length links.now) × (n ≤ 100000) × RowTexts rows.now x.now n }
-    ensures { claim result ≡ claim_at rows.now x.now links.now n p (name.now ++ suffix.now) }
-{
-    match find_leaf(rows, x, links, n, p, name, suffix) {
-        None => Claim::Absent,
-        Some(e) => match find_leaf(rows, x, links, e, get32(links, e as usize), name, suffix) {
-            None => Claim::Only(e),
-            Some(_) => Claim::Ambiguous,
-        },
-    }
-}
-
 // A leaf's bucket and its claim.
 #[derive(Clone, Copy)]
 pub struct Claimed {
@@ -370,48 +401,67 @@ pub struct Claimed {
     pub claim: Claim,
 }
 
-// The claim of leaf l among n groups, and the bucket in which it was looked up. The caller that adds a group needs both.
-pub fn leaf_claim(
-    rows: &[u8],
-    x: &[u8],
-    links: &[u8],
-    heads: &[u8],
-    b: u32,
-    n: u32,
-    l: &[u8],
-) -> Claimed
-    requires { Dotless l.now × (24 * n ≤ length rows.now) × (4 * n ≤ length links.now) × (4 * b ≤ length heads.now) × (0 < b) × (n ≤ 100000) × RowTexts rows.now x.now n × (length l.now < 2 ^ 31) }
-    ensures { (result.bucket ≡ leaf_bucket b l.now) × (claim result.claim ≡ claim_of rows.now x.now links.now heads.now b n l.now) }
-{
-    let bucket = leaf_bucket(l, b);
-    let p = get32(heads, bucket as usize);
-    Claimed {
-        bucket: bucket,
-        claim: claim_from(rows, x, links, n, p, l, b""),
+impl LeafChains<'_> {
+    ghost use Rattle.vrf_table.specs.Inner.Found.{leaf_found, claim_found, first_found};
+
+    // The newest group below n with that leaf, in the chain that starts at pointer p.
+    fn find(&self, n: u32, p: u32, name: &[u8], suffix: &[u8]) -> Option<u32>
+        requires { Suffixed name.now suffix.now × (n ≤ self.now.groups.count) }
+        ensures { entry result ≡ leaf_found self.now n p (name.now ++ suffix.now) }
+    {
+        let groups = self.groups;
+        let links = self.links;
+        walk(
+            p,
+            n,
+            |e| groups.leaf_hit(e, name, suffix),
+            |e| get32(links, e as usize),
+        )
+    }
+
+    // The claim of that leaf, found in the chain that starts at pointer p.
+    fn claim(&self, p: u32, name: &[u8], suffix: &[u8]) -> Claim
+        requires { Suffixed name.now suffix.now }
+        ensures { claim result ≡ claim_found self.now p (name.now ++ suffix.now) }
+    {
+        match self.find(self.groups.count, p, name, suffix) {
+            None => Claim::Absent,
+            Some(e) => match self.find(e, get32(self.links, e as usize), name, suffix) {
+                None => Claim::Only(e),
+                Some(_) => Claim::Ambiguous,
+            },
+        }
+    }
+
+    // The first claim that is not absent, for the name with three suffixes. The chain of the first leaf starts at p, that of the others at q.
+    // (Three parameters: each caller gives three constants, so a struct of them would be made only to be taken apart here.)
+    pub fn first_claim(&self, p: u32, q: u32, name: &[u8], s: &[u8], t: &[u8], u: &[u8]) -> Claim
+        requires { Suffixed name.now s.now × Suffixed name.now t.now × Suffixed name.now u.now }
+        ensures { claim result ≡ first_found self.now p q (name.now ++ s.now) (name.now ++ t.now) (name.now ++ u.now) }
+    {
+        match self.claim(p, name, s) {
+            Claim::Absent => match self.claim(q, name, t) {
+                Claim::Absent => self.claim(q, name, u),
+                second => second,
+            },
+            first => first,
+        }
     }
 }
 
-// The first claim that is not absent, for the name with three suffixes. The chain of the first leaf starts at p, that of the others at q.
-pub fn first_claim(
-    rows: &[u8],
-    x: &[u8],
-    links: &[u8],
-    n: u32,
-    p: u32,
-    q: u32,
-    name: &[u8],
-    s: &[u8],
-    t: &[u8],
-    u: &[u8],
-) -> Claim
-    requires { Suffixed name.now s.now × Suffixed name.now t.now × Suffixed name.now u.now × (24 * n ≤ length rows.now) × (4 * n ≤ length links.now) × (n ≤ 100000) × RowTexts rows.now x.now n }
-    ensures { claim result ≡ first_at rows.now x.now links.now n p q (name.now ++ s.now) (name.now ++ t.now) (name.now ++ u.now) }
-{
-    match claim_from(rows, x, links, n, p, name, s) {
-        Claim::Absent => match claim_from(rows, x, links, n, q, name, t) {
-            Claim::Absent => claim_from(rows, x, links, n, q, name, u),
-            second => second,
-        },
-        first => first,
+impl LeafIndex<'_> {
+    ghost use Rattle.vrf_table.specs.Inner.Found.{claim_in};
+
+    // The claim of leaf l, and the bucket in which it was looked up. The caller that adds a group needs both.
+    pub fn claim(&self, l: &[u8]) -> Claimed
+        requires { Dotless l.now × (length l.now < 2 ^ 31) }
+        ensures { (result.bucket ≡ leaf_bucket self.now.buckets l.now) × (claim result.claim ≡ claim_in self.now l.now) }
+    {
+        let bucket = leaf_bucket(l, self.buckets);
+        let p = get32(self.heads, bucket as usize);
+        Claimed {
+            bucket: bucket,
+            claim: self.chains.claim(p, l, b""),
+        }
     }
 }

@@ -1,10 +1,11 @@
-// Writes out texts that the book does not hold: a path's aliases, and leaves with a suffix.
+// Writes out texts that the book does not hold: a path's aliases, and leaves with a suffix. Each answers a length and no slice: the contract of a
+// slice of the buffer would also say what the buffer holds when the slice is given back.
 ghost use Rattle.std.specs.Prelude.{◌≡◌, ◌+◌, ◌≤◌, ◌++◌, length, drop};
 ghost use Rattle.vrf_path.specs.Answers.{key_bytes};
 ghost use Rattle.vrf_table.specs.Inner.Spelled.{SpelledInto};
 
 use vrf_path::Key;
-use vrf_words::{lower, put_part};
+use vrf_words::put_part;
 
 // Writes a and then b at the start of the scratch buffer. The answer is the number of bytes written.
 pub fn join(scratch: &mut [u8], a: &[u8], b: &[u8]) -> usize
@@ -20,7 +21,7 @@ pub fn join(scratch: &mut [u8], a: &[u8], b: &[u8]) -> usize
 fn following(t: &[u8], k: usize) -> &[u8]
     ensures { result.now ≡ drop k t.now }
 {
-    let from = lower(k, t.len());
+    let from = k.min(t.len());
     &t[from..]
 }
 
@@ -29,7 +30,7 @@ fn spell_cut(scratch: &mut [u8], path: &[u8], at: usize) -> usize
     requires { length (key_bytes path.now (Key.Cut at)) ≤ length scratch.old }
     ensures { SpelledInto (key_bytes path.now (Key.Cut at)) scratch.old scratch.new result }
 {
-    let n = lower(at, path.len());
+    let n = at.min(path.len());
     put_part(scratch, 0, &path[..n]);
     scratch[n] = b'/';
     let rest = following(&path[n..], 7);

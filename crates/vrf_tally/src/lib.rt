@@ -1,4 +1,5 @@
-// The tool `tally` of document 01: prints a block's seven counts, or its refusal, as lines of text.
+// The tool `tally` of document 01: prints a block's seven counts, or its refusal, as lines of text. Each function takes the buffer and a place
+// in it: with a writer that holds both, each contract would also say that it keeps the borrow of the buffer.
 #![tactic(auto)]
 
 ghost use Rattle.std.specs.Prelude.{◌≡◌, ◌+◌, ◌≤◌, length};
@@ -9,13 +10,14 @@ ghost use Rattle.vrf_tally.specs.Printed.{Printed};
 ghost use Rattle.vrf_tally.specs.Inner.Counts.{held_counts, path_counts};
 
 use vrf_bitio::{Reason, Refusal};
-use vrf_model::CheckpointTables;
+use vrf_model::{Allowances, CheckpointTables};
 use vrf_names::{decimal_len, put_decimal};
 use vrf_schema::calls::open;
 use vrf_schema::reading::read_checkpoint_tables;
 use vrf_words::put_part;
 
-// A line at place `at`. Answers the place after it. A name has at most eight bytes, so a line has at most thirty.
+// A line at place `at`. Answers the place after it. A name has at most eight bytes, so a line has at most thirty. (`write!` says which bytes
+// it writes only for a `String`, and there is no heap.)
 fn put_line(out: &mut [u8], at: usize, name: &[u8], n: u64) -> usize
     requires { (length name.now ≤ 8) × (at + 30 ≤ length out.old) }
     ensures { (result ≤ at + 30) × Printed (line name.now n) out.old at out.new result }
@@ -85,7 +87,14 @@ fn read_into(book: &mut [u8], input: &[u8]) -> Result<CheckpointTables, Refusal>
     requires { (29332 ≤ length book.old) × (length input.now ≤ 65536) }
     ensures { tables_of result ≡ answered input.now }
 {
-    open(book, 128, 32, 128, 8192, 128)?;
+    let allowed = Allowances {
+        guids: 128,
+        groups: 32,
+        fields: 128,
+        text: 8192,
+        literals: 128,
+    };
+    open(book, allowed)?;
     read_checkpoint_tables(book, input, 0, 8 * (input.len() as u64))
 }
 

@@ -2,6 +2,7 @@
 use mathlib.Core.Bool.{Bool, true, false, cond, ◌&&◌}
 use mathlib.Core.List.{List, [], ◌∷◌}
 use mathlib.Core.Path.{◌≡◌, refl, sym, ap, ◌∙◌}
+use Rattle.std.specs.Prelude.{Some, None}
 use Prim.Native.Nat.{ℕ, suc, ◌+◌, ◌/◌, ◌%◌, ◌≤◌, ◌<◌, zero-le}
 use native.Mathlib.Nat.{add-zero}
 use native.Mathlib.Omega.{arith}
@@ -89,17 +90,17 @@ module _ (w : ℕ) (l : List ℕ) (h : WordHolds w l) where
 
 -- each answer of the code, from the tests before it
 module _ (w : ℕ) where
-  pub one : w % 256 < 0x80 → Utf8Step w 4 1
+  pub one : w % 256 < 0x80 → Utf8Step w 4 (Some 1)
   unfolding utf8
-  one h = record { few = omega arith; passed = λ l k. sym (led w l k (lead-1 (record { low = zero-le; high = omega arith }))) }
+  one h = record { few = (omega arith, omega arith); passed = λ l k. sym (led w l k (lead-1 (record { low = zero-le; high = omega arith }))) }
 
-  none : lead (w % 256) ≡ bad → Utf8Step w 4 0
-  none e = record { few = omega arith; passed = λ l k. no_lead l (ap lead (byte-0 w l k) ∙ e) }
+  none : lead (w % 256) ≡ bad → Utf8Step w 4 None
+  none e = record { few = tt; passed = λ l k. no_lead l (ap lead (byte-0 w l k) ∙ e) }
 
-  pub too-low : 0x80 ≤ w % 256 → w % 256 < 0xC2 → Utf8Step w 4 0
+  pub too-low : 0x80 ≤ w % 256 → w % 256 < 0xC2 → Utf8Step w 4 None
   too-low h k = none (lead_low (w % 256) h k)
 
-  pub too-high : 0xF4 < w % 256 → Utf8Step w 4 0
+  pub too-high : 0xF4 < w % 256 → Utf8Step w 4 None
   too-high h = none (lead_high (w % 256) h)
 
   module _ (h : 0xC2 ≤ w % 256) (k : w % 256 < 0xE0) where
@@ -107,11 +108,11 @@ module _ (w : ℕ) where
     unfolding utf8
     of_two l q = second w l q 0 (omega arith) (lead-2 (record { low = h; high = omega arith }))
 
-    pub two-pass : within 0x80 0xBF (w / 256 % 256) ≡ true → Utf8Step w 4 2
-    two-pass e = record { few = omega arith; passed = λ l q. sym (of_two l q ∙ rw e) }
+    pub two-pass : within 0x80 0xBF (w / 256 % 256) ≡ true → Utf8Step w 4 (Some 2)
+    two-pass e = record { few = (omega arith, omega arith); passed = λ l q. sym (of_two l q ∙ rw e) }
 
-    pub two-fail : within 0x80 0xBF (w / 256 % 256) ≡ false → Utf8Step w 4 0
-    two-fail e = record { few = omega arith; passed = λ l q. of_two l q ∙ rw e }
+    pub two-fail : within 0x80 0xBF (w / 256 % 256) ≡ false → Utf8Step w 4 None
+    two-fail e = record { few = tt; passed = λ l q. of_two l q ∙ rw e }
 
   -- the tests of the bytes after the lead byte
   abbrev Second : ℕ → ℕ → Bool
@@ -133,30 +134,30 @@ module _ (w : ℕ) where
     of_three l q = second w l q 1 (pick_pos (eqb (w % 256) 0xE0) (omega arith) (omega arith)) (lead-3 (w % 256) h k) ∙ rw (third w l q 0)
 
     module _ {lo hi : ℕ} {r : Bool} (el : lo ≡ lo-3 (w % 256)) (eh : hi ≡ hi-3 (w % 256)) (e : r ≡ Second lo hi) where
-      pub three-pass : Third ≡ true → r ≡ true → Utf8Step w 4 3
-      three-pass f g = record { few = omega arith; passed = λ l q. sym (of_three l q ∙ rw (picked el eh e g, f)) }
+      pub three-pass : Third ≡ true → r ≡ true → Utf8Step w 4 (Some 3)
+      three-pass f g = record { few = (omega arith, omega arith); passed = λ l q. sym (of_three l q ∙ rw (picked el eh e g, f)) }
 
-      pub three-fail : r ≡ false → Utf8Step w 4 0
-      three-fail g = record { few = omega arith; passed = λ l q. of_three l q ∙ rw (picked el eh e g) }
+      pub three-fail : r ≡ false → Utf8Step w 4 None
+      three-fail g = record { few = tt; passed = λ l q. of_three l q ∙ rw (picked el eh e g) }
 
   module _ (h : 0xF0 ≤ w % 256) (k : w % 256 ≤ 0xF4) where
     of_four : (l : List ℕ) → WordHolds w l → utf8 l ≡ Second (lo-4 (w % 256)) (hi-4 (w % 256)) && (Third && (Fourth && utf8 (drop 4 l)))
     of_four l q =
         second w l q 2 (pick_pos (eqb (w % 256) 0xF0) (omega arith) (omega arith)) (lead-4 (w % 256) h k) ∙ rw (third w l q 1, fourth w l q)
 
-    pub fourth-fail : Third ≡ true → Fourth ≡ false → Utf8Step w 4 0
-    fourth-fail f g = record { few = omega arith; passed = λ l q. of_four l q ∙ rw (f, g, and-false) }
+    pub fourth-fail : Third ≡ true → Fourth ≡ false → Utf8Step w 4 None
+    fourth-fail f g = record { few = tt; passed = λ l q. of_four l q ∙ rw (f, g, and-false) }
 
     module _ {lo hi : ℕ} {r : Bool} (el : lo ≡ lo-4 (w % 256)) (eh : hi ≡ hi-4 (w % 256)) (e : r ≡ Second lo hi) where
-      pub four-pass : Third ≡ true → Fourth ≡ true → r ≡ true → Utf8Step w 4 4
-      four-pass f f' g = record { few = omega arith; passed = λ l q. sym (of_four l q ∙ rw (picked el eh e g, f, f')) }
+      pub four-pass : Third ≡ true → Fourth ≡ true → r ≡ true → Utf8Step w 4 (Some 4)
+      four-pass f f' g = record { few = (omega arith, omega arith); passed = λ l q. sym (of_four l q ∙ rw (picked el eh e g, f, f')) }
 
-      pub four-fail : r ≡ false → Utf8Step w 4 0
-      four-fail g = record { few = omega arith; passed = λ l q. of_four l q ∙ rw (picked el eh e g) }
+      pub four-fail : r ≡ false → Utf8Step w 4 None
+      four-fail g = record { few = tt; passed = λ l q. of_four l q ∙ rw (picked el eh e g) }
 
-  pub third-fail : 0xE0 ≤ w % 256 → Third ≡ false → Utf8Step w 4 0
+  pub third-fail : 0xE0 ≤ w % 256 → Third ≡ false → Utf8Step w 4 None
   third-fail h f = by_order (w % 256) 0xEF
-      (λ p. record { few = omega arith; passed = λ l q. of_three h (omega arith) l q ∙ rw (f, and-false) })
+      (λ p. record { few = tt; passed = λ l q. of_three h (omega arith) l q ∙ rw (f, and-false) })
       λ p. by_order (w % 256) 0xF4
-      (λ p'. record { few = omega arith; passed = λ l q. of_four p p' l q ∙ rw (f, and-false) })
+      (λ p'. record { few = tt; passed = λ l q. of_four p p' l q ∙ rw (f, and-false) })
       λ p'. too-high p'

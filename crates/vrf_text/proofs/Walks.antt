@@ -1,8 +1,9 @@
 -- The loops over a text in UTF-8: at place i the text is valid if and only if the rest from i on is.
 use mathlib.Core.Bool.{true, false}
 use mathlib.Core.List.{List}
-use mathlib.Core.Path.{◌≡◌, refl, sym, ap, ◌∙◌, subst}
-use Prim.Native.Nat.{ℕ, zero, suc, ◌+◌, ◌-◌, ◌≤◌}
+use mathlib.Core.Path.{◌≡◌, sym, ap, ◌∙◌, subst}
+use Rattle.std.specs.Prelude.{Option, Some, None}
+use Prim.Native.Nat.{ℕ, ◌+◌, ◌-◌, ◌≤◌}
 use native.Mathlib.Omega.{arith}
 use lib.ListN.{length, take, drop, length-drop, drop_of_length-le}
 use lib.Seq.{take_all, drop-drop}
@@ -10,17 +11,12 @@ use Rattle.vrf_text.specs.Utf8.{utf8, utf8_from}
 use Rattle.vrf_text.specs.Inner.Steps.{Passed, Clear}
 use Rattle.vrf_text.proofs.Ascii.{clear-on}
 
--- a step that is not 0 passes bytes
-advances : (l : List ℕ) (k : ℕ) → (k ≡ 0 → ⊥) → Passed l k → utf8 (drop k l) ≡ utf8 l
-advances l zero h p = absurd (h refl)
-advances l (suc k) h p = p
-
 module _ (l : List ℕ) (i : ℕ) (inv : utf8 (drop i l) ≡ utf8 l) where
-  pub bad : (k : ℕ) → k ≡ 0 → Passed (drop i l) k → false ≡ utf8 l
-  bad k e p = sym (subst (Passed (drop i l)) e p) ∙ inv
+  pub bad : Passed (drop i l) None → false ≡ utf8 l
+  bad p = sym p ∙ inv
 
-  pub on : (k : ℕ) → (k ≡ 0 → ⊥) → Passed (drop i l) k → utf8 (drop (i + k) l) ≡ utf8 l
-  on k h p = ap utf8 (sym (drop-drop k i l)) ∙ advances (drop i l) k h p ∙ inv
+  pub on : (k : ℕ) → Passed (drop i l) (Some k) → utf8 (drop (i + k) l) ≡ utf8 l
+  on k p = ap utf8 (sym (drop-drop k i l)) ∙ p ∙ inv
 
   pub end : length l ≤ i → true ≡ utf8 l
   unfolding utf8 utf8_from
@@ -30,7 +26,7 @@ module _ (l : List ℕ) (i : ℕ) (inv : utf8 (drop i l) ≡ utf8 l) where
 lent : (l : List ℕ) (i : ℕ) → take (length l - i) (drop i l) ≡ drop i l
 lent l i = take_all (length l - i) (drop i l) (omega (arith, length-drop i l))
 
-pub rest : (l : List ℕ) (i k : ℕ) → Passed (take (length l - i) (drop i l)) k → Passed (drop i l) k
+pub rest : (l : List ℕ) (i : ℕ) (k : Option ℕ) → Passed (take (length l - i) (drop i l)) k → Passed (drop i l) k
 rest l i k p = rw (lent l i) at p
 
 -- 32 more bytes whose bit b is 0

@@ -1,7 +1,7 @@
 // Text: UTF-8, UTF-16 and document 01's text on the wire.
 #![tactic(auto)]
 
-ghost use Rattle.std.specs.Prelude.{◌≡◌, true, cond, ◌||◌, List, ℕ, ◌+◌, ◌-◌, ◌*◌, ◌<◌, ◌≤◌, ◌^◌, ◌/◌, ltb, eqb, length, drop};
+ghost use Rattle.std.specs.Prelude.{◌≡◌, true, cond, ◌||◌, ◌+◌, ◌-◌, ◌*◌, ◌<◌, ◌≤◌, ◌^◌, ◌/◌, eqb, length, drop};
 ghost use Rattle.vrf_bitio.specs.Bits.{bytes_of};
 ghost use Rattle.vrf_bitio.specs.Reasons.{number};
 ghost use Rattle.vrf_bitio.specs.Pasted.{pasted};
@@ -10,7 +10,7 @@ ghost use Rattle.vrf_text.specs.Utf8.{utf8, within};
 ghost use Rattle.vrf_text.specs.Utf16.{utf8_of, units_to_utf8};
 ghost use Rattle.vrf_text.specs.Text.{text8, text16, fstring_into, caller_text};
 ghost use Rattle.vrf_text.specs.Answers.{TextAnswer, CallerAnswer};
-ghost use Rattle.vrf_text.specs.Inner.Steps.{Utf8Step, Clear, WordHolds, Passed, WordHolds16, MeasuredAnswer, FitsTarget, WroteText, LengthOf, TakesText, into, PutAnswer, RoomAnswer};
+ghost use Rattle.vrf_text.specs.Inner.Steps.{Utf8Step, Few, Clear, WordHolds, Passed, WordHolds16, MeasuredAnswer, FitsTarget, WroteText, LengthOf, TakesText, into, PutAnswer, RoomAnswer};
 
 use vrf_bitio::{BitReader, Reason, Refusal};
 
@@ -58,11 +58,10 @@ enum Length {
 // character is bad, and 0 is ASCII, so a step may pass beyond the end. They are `while` loops because a step passes 1 to 32 bytes, and
 // `str::from_utf8` does not replace them because it tests each byte of a character beyond ASCII by itself.
 
-// (`(lo..=hi).contains(&b)` is no plainer, and its contract would need a lemma to give this one.)
 fn within(b: u64, lo: u64, hi: u64) -> bool
     ensures { result ≡ within lo hi b }
 {
-    lo <= b && b <= hi
+    (lo..=hi).contains(&b)
 }
 
 fn pick(a: u64, k: u64, x: u64, y: u64) -> u64
@@ -71,55 +70,55 @@ fn pick(a: u64, k: u64, x: u64, y: u64) -> u64
     if a == k { x } else { y }
 }
 
-// The number of bytes of the character at the start of the word w, or 0 if there is none.
-fn char_len(w: u64) -> usize
+// The number of bytes of the character at the start of the word w, if there is one.
+fn char_len(w: u64) -> Option<usize>
     ensures { Utf8Step w 4 result }
 {
     let a = w % 256;
     if a < 0x80 {
-        return 1;
+        return Some(1);
     }
     if a < 0xC2 {
-        return 0;
+        return None;
     }
     let second = w / 256;
     let b = second % 256;
     if a < 0xE0 {
-        return if within(b, 0x80, 0xBF) { 2 } else { 0 };
+        return if within(b, 0x80, 0xBF) { Some(2) } else { None };
     }
     let third = second / 256;
     if !within(third % 256, 0x80, 0xBF) {
-        return 0;
+        return None;
     }
     if a < 0xF0 {
         return if within(b, pick(a, 0xE0, 0xA0, 0x80), pick(a, 0xED, 0x9F, 0xBF)) {
-            3
+            Some(3)
         } else {
-            0
+            None
         };
     }
     if 0xF4 < a {
-        return 0;
+        return None;
     }
     if !within(third / 256 % 256, 0x80, 0xBF) {
-        return 0;
+        return None;
     }
     if within(b, pick(a, 0xF0, 0x90, 0x80), pick(a, 0xF4, 0x8F, 0xBF)) {
-        4
+        Some(4)
     } else {
-        0
+        None
     }
 }
 
-// The number of bytes to pass where the word w holds the next eight: eight or four if they are ASCII, otherwise one character. 0 means bad
+// The number of bytes to pass where the word w holds the next eight: eight or four if they are ASCII, otherwise one character. None is bad
 // text.
-fn step(w: u64) -> usize
+fn step(w: u64) -> Option<usize>
     ensures { Utf8Step w 8 result }
 {
     if w & HIGH == 0 {
-        8
+        Some(8)
     } else if w & HIGH_4 == 0 {
-        4
+        Some(4)
     } else {
         char_len(w)
     }
@@ -141,8 +140,8 @@ fn clear_32(s: &[u8], b: u32) -> bool
     x | y | z | w == 0
 }
 
-// The number of bytes at the start of s, in blocks of 32, whose bit b is 0. A `for` over blocks would be no plainer: the answer is the place
-// itself, and the last block may be short.
+// The number of bytes at the start of s, in blocks of 32, whose bit b is 0. (`take_while` and `count` over `chunks_exact(32)` would be no
+// plainer: they count blocks, and what each block's closure tested would have to be said again of its place in s.)
 fn clear_run(s: &[u8], b: u32) -> usize
     requires { b < 8 }
     ensures { (result ≤ length s.now) × Clear s.now b result }
@@ -157,12 +156,12 @@ fn clear_run(s: &[u8], b: u32) -> usize
     i
 }
 
-// The number of bytes to pass at the start of s: 32, eight or four bytes of ASCII, or one character. 0 means bad text.
-fn step_in(s: &[u8]) -> usize
-    ensures { (result ≤ 32) × Passed s.now result }
+// The number of bytes to pass at the start of s: 32, eight or four bytes of ASCII, or one character. None is bad text.
+fn step_in(s: &[u8]) -> Option<usize>
+    ensures { Few 32 result × Passed s.now result }
 {
-    let k = step(vrf_bitio::bits_at(s, 0, 64));
-    if k == 8 && clear_32(s, 7) { 32 } else { k }
+    let k = step(vrf_bitio::bits_at(s, 0, 64))?;
+    Some(if k == 8 && clear_32(s, 7) { 32 } else { k })
 }
 
 // No `for`: what a step passes, 1 to 32 bytes, is known only when it has looked.
@@ -171,10 +170,9 @@ pub fn is_utf8(t: &[u8]) -> bool
 {
     let mut i = clear_run(t, 7);
     while i < t.len() {
-        let k = step_in(&t[i..]);
-        if k == 0 {
+        let Some(k) = step_in(&t[i..]) else {
             return false;
-        }
+        };
         i += k;
     }
     true
@@ -195,7 +193,8 @@ fn is_utf8_part(s: &[u8], a: usize, n: usize) -> bool
 impl Char {
     ghost use Rattle.vrf_text.specs.Inner.Spans.{Utf16Step};
 
-    // The character at the start of the word w of two units.
+    // The character at the start of the word w of two units. (`char::decode_utf16` is no plainer: it takes an iterator, which would have to
+    // be made of these two units, and its answer does not have their number.)
     fn first(w: u64) -> Option<Char>
         ensures { Utf16Step w result }
     {
@@ -216,7 +215,7 @@ impl Char {
         })
     }
 
-    // The number of its bytes as UTF-8.
+    // The number of its bytes as UTF-8. (`char::len_utf8` takes a `char`. Making one of the code tests again that it is no surrogate.)
     fn utf8_len(self) -> u32
         ensures { (result ≡ length (utf8_of self.code)) × (result ≤ 4) }
     {
@@ -232,8 +231,8 @@ impl Char {
         }
     }
 
-    // Writes it as UTF-8 to out from place at on, and answers the place after it. (The contract of `char::encode_utf8` does not say what
-    // the target then holds.)
+    // Writes it as UTF-8 to out from place at on, and answers the place after it. (`char::encode_utf8` is no plainer: it takes a `char`, which
+    // would be made of the code with a test, and writes to an array of four bytes, whose first ones would then be copied.)
     fn put(self, out: &mut [u8], at: usize) -> usize
         requires { at + length (utf8_of self.code) ≤ length out.old }
         ensures { (result ≡ at + length (utf8_of self.code)) × (out.new ≡ pasted out.old at (utf8_of self.code)) }
@@ -294,17 +293,16 @@ impl Span<'_> {
     }
 
     // `is_utf8` by words that may begin inside a byte. The free `is_utf8` is not this loop at bit 0, because it takes slices whose bit
-    // count does not fit 64 bits and reads each word by one load. Both loops use the same lemmas about a step, and neither is a `for`, because what a
-    // step passes is known only when it has looked.
+    // count does not fit 64 bits and reads each word by one load. Both loops use the same lemmas about a step, and neither is a `for`,
+    // because what a step passes is known only when it has looked.
     fn is_utf8_in_words(self) -> bool
         ensures { result ≡ utf8 (bytes_in self.entry) }
     {
         let mut i = self.ascii();
         while i < self.len {
-            let k = step(self.word(i));
-            if k == 0 {
+            let Some(k) = step(self.word(i)) else {
                 return false;
-            }
+            };
             i += k;
         }
         true
@@ -321,7 +319,8 @@ impl Span<'_> {
         is_utf8_part(self.data, a, self.len)
     }
 
-    // The word of the two units from place i on; a missing unit is 0.
+    // The word of the two units from place i on; a missing unit is 0. (Not one function with `word`: there one to seven bytes can be left, here
+    // one unit; and each contract speaks of its own list, bytes or units.)
     fn unit_word(self, i: usize) -> u64
         requires { i < self.len }
         ensures { WordHolds16 result (drop i (units_in self.entry)) }
@@ -334,7 +333,8 @@ impl Span<'_> {
         }
     }
 
-    // The length of the units as UTF-8, if they are UTF-16. No `for`: a character has one or two units.
+    // The length of the units as UTF-8, if they are UTF-16. No `for`, here and below: a character has one or two units. An iterator of
+    // characters would be no plainer: its state would be this place i, and its contract would say what the loop's invariant says.
     fn utf8_len(self) -> Option<u32>
         ensures { MeasuredAnswer (units_to_utf8 (units_in self.entry)) result }
     {
@@ -348,7 +348,7 @@ impl Span<'_> {
         Some(len)
     }
 
-    // Writes the UTF-8 of the units, which `utf8_len` has measured, into the first bytes of out. No `for`: a character has one or two units.
+    // Writes the UTF-8 of the units, which `utf8_len` has measured, into the first bytes of out.
     fn put_utf8(self, out: &mut [u8])
         requires { FitsTarget (units_to_utf8 (units_in self)) (length out.old) }
         ensures { WroteText (units_to_utf8 (units_in self.entry)) out.old out.new }
@@ -370,12 +370,12 @@ fn length_of(n: i32) -> Length
     ensures { LengthOf n result }
 {
     if n < 0 {
-        return Length::Units(vrf_bitio::magnitude(n));
+        return Length::Units(n.unsigned_abs());
     }
     if n == 0 {
         return Length::Empty;
     }
-    Length::Bytes(vrf_bitio::magnitude(n))
+    Length::Bytes(n.unsigned_abs())
 }
 
 // The refusal of the bad text at start.

@@ -33,7 +33,8 @@ pub fn get64(s: &[u8], i: usize) -> u64
     u64::from_le_bytes(s[at..at + 8].try_into().unwrap())
 }
 
-// Writes v as words i and i + 1, low word first. The compiler makes this one store.
+// Writes v as words i and i + 1, low word first. The compiler makes this one store. (One function for both widths would be given the bytes,
+// and each call would then make them from its number.)
 pub fn put64(s: &mut [u8], i: usize, v: u64)
     requires { 4 * i + 8 ≤ length s.old }
     ensures { s.new ≡ set_word (set_word s.old i (v % 2 ^ 32)) (i + 1) (v / 2 ^ 32) }
@@ -42,7 +43,7 @@ pub fn put64(s: &mut [u8], i: usize, v: u64)
     s[at..at + 8].copy_from_slice(&v.to_le_bytes());
 }
 
-// The lower of two places.
+// The lower of two places. It is one call of the library, and stays because it is public: such a function may go only into a generic one.
 pub fn lower(a: usize, b: usize) -> usize
     ensures { result ≡ min a b }
 {
@@ -70,12 +71,12 @@ pub fn put_part(m: &mut [u8], at: usize, t: &[u8])
         m[at..at + n].copy_from_slice(t);
     } else if n < 32 {
         put_piece::<8>(m, at, t, 0);
-        put_piece::<8>(m, at, t, lower(8, n - 8));
-        put_piece::<8>(m, at, t, lower(16, n - 8));
+        put_piece::<8>(m, at, t, (n - 8).min(8));
+        put_piece::<8>(m, at, t, (n - 8).min(16));
         put_piece::<8>(m, at, t, n - 8);
     } else {
         put_piece::<32>(m, at, t, 0);
-        put_piece::<32>(m, at, t, lower(32, n - 32));
+        put_piece::<32>(m, at, t, (n - 32).min(32));
         put_piece::<32>(m, at, t, n - 32);
     }
 }

@@ -9,7 +9,7 @@ ghost use Rattle.vrf_table.specs.Inner.Answers.{entry};
 ghost use Rattle.vrf_store.specs.Store.{header_of, store_of};
 ghost use Rattle.vrf_store.specs.Inner.WellFormed.{WellFormed};
 ghost use Rattle.vrf_store.specs.Inner.Stepped.{held};
-ghost use Rattle.vrf_writer.specs.Inner.Clash.{is_at, is_key_at, Keyed, Narrowed};
+ghost use Rattle.vrf_writer.specs.Inner.Clash.{is_at, is_key_at, FirstAfter, Keyed, Narrowed};
 
 use vrf_path::{Key, core_alias, default_object_alias, has_key, same};
 use vrf_store::look::{group_path, path_buckets};
@@ -18,7 +18,8 @@ use vrf_table::spell::spell;
 use vrf_table::{row_text, text_bucket};
 use vrf_words::get32;
 
-// Enough bytes for any alias of a path: the 4,096 bytes of the path, and 23 more.
+// Enough bytes for any alias of a path: the 4,096 bytes of the path, and 23 more. (The functions below ask for them in a clause and take a
+// slice, as `spell` does, which asks for the bytes of one alias.)
 const ALIAS_BYTES: usize = 4_119;
 
 // Whether k is a key of a path. An alias is 6 or 9 bytes longer or shorter than its path. If the lengths differ by any other number, no
@@ -31,7 +32,7 @@ fn is_key_of(path: &[u8], k: &[u8]) -> bool
 }
 
 // A place after h and after all groups with the path k. The walk along k's chain ends at the first entry of a group up to h. In most books
-// the chain of a key of h starts with such an entry, and then no text is compared.
+// the chain of a key of h starts with such an entry, and then no text is compared. The place is a bound, and there always is one: no Option.
 fn keyed_end(m: &[u8], k: &[u8], h: u32) -> u32
     requires { WellFormed m.now × (length k.now < 2 ^ 31) × (h < (header_of m.now).groups) }
     ensures { Keyed (store_of m.now) k.now result }
@@ -42,7 +43,8 @@ fn keyed_end(m: &[u8], k: &[u8], h: u32) -> u32
     let bucket = text_bucket(&k[..], path_buckets(m));
     let mut p = get32(path_heads(m), bucket as usize);
     let mut limit = 3 * groups(m);
-    // A `for` would be no plainer: the walk follows links, and the next one is read at its end.
+    // A `for` would be no plainer: the walk follows links, and the next one is read at its end. It is not the `walk` of vrf_table, which is
+    // private there: its test would have to be true at a key and also at an entry of a group up to h, and then be asked again which it was.
     while 3 * h + 3 < p {
         let e = p - 1;
         if limit <= e {
@@ -57,30 +59,22 @@ fn keyed_end(m: &[u8], k: &[u8], h: u32) -> u32
     h + 1
 }
 
-// The first group after h and before `to` whose path is k; `to` if there is none.
-fn first_path(m: &[u8], k: &[u8], h: u32, to: u32) -> u32
+// The first group after h and before `to` whose path is k.
+fn first_path(m: &[u8], k: &[u8], h: u32, to: u32) -> Option<u32>
     requires { WellFormed m.now × (h < (header_of m.now).groups) × (to ≤ (header_of m.now).groups) }
-    ensures { Narrowed (is_at (store_of m.now) (some k.now)) h to result }
+    ensures { FirstAfter (is_at (store_of m.now) (some k.now)) h to result }
 {
-    for j in h + 1..to {
-        if same(k, group_path(m, j)) {
-            return j;
-        }
-    }
-    to
+    (h + 1..to).find(|j| same(k, group_path(m, *j)))
 }
 
-// The first group after h and before `least` whose path is the key k; `least` if there is none.
+// The first group after h and before `least` whose path is the key k; `least` if there is none. No Option, here and in the two functions
+// below: the answer is the end of the next search, so it would be unwrapped at once.
 fn first_with_key(m: &[u8], h: u32, k: &[u8], least: u32) -> u32
     requires { WellFormed m.now × (h < (header_of m.now).groups) × (least ≤ (header_of m.now).groups) × (length k.now < 2 ^ 31) }
     ensures { Narrowed (is_at (store_of m.now) (some k.now)) h least result }
 {
     let to = keyed_end(m, k, h).min(least);
-    let r = first_path(m, k, h, to);
-    if r < to {
-        return r;
-    }
-    least
+    first_path(m, k, h, to).unwrap_or(least)
 }
 
 // The first group after h and before `least` whose path is the alias `key` of the path; `least` if there is no such group or no alias. The

@@ -22,10 +22,11 @@ pub fn put_packed(out: &mut [u8], n: u32) -> usize
 {
     let mut left = n;
     let mut at = 0;
-    // A `for` would be no plainer: how many bytes there are shows only when the number is used up.
+    // `for _ in 1..packed_len(n)` would be no plainer: four comparisons before the loop would find what the loop finds at its end, and that
+    // enough of the number is left for each turn would be one fact more to carry.
     while 128 <= left {
         out[at] = (2 * (left % 128) + 1) as u8;
-        left = left / 128;
+        left /= 128;
         at += 1;
     }
     out[at] = (2 * left) as u8;

@@ -74,6 +74,8 @@ fn group_len(m: &[u8], g: u32) -> u64
 }
 
 // The length of all groups, with one byte for each slot.
+// (This and `fields_len` are not one function over a closure: it would also have to be given a bound of each length, or a sum could pass
+// 64 bits. Here the loop's proof takes it from the rules of the book.)
 fn groups_len(m: &[u8]) -> u64
     requires { WellFormed m.now }
     ensures { result ≡ sum_below (λ g. group_bytes (group_at (store_of m.now) g)) (header_of m.now).groups }

@@ -16,6 +16,7 @@ use Rattle.vrf_model.specs.Book.{empty, filled, Group, Allowances, Content, no_i
 use Rattle.vrf_model.specs.Lookup.{index_place, slot_at}
 use Rattle.vrf_model.specs.Setting.{Step, done, dropped_step, renamed_step, with_groups, renames, set_field_at, set_field}
 use Rattle.vrf_table.specs.Table.{key, at, len, info, text}
+use Rattle.vrf_table.specs.declared.TextSpan.{TextSpan}
 use Rattle.vrf_store.specs.Store.{allowances_of, header_of, store_of, field_at, or_empty, slot_key, slot_by, group_by}
 use Rattle.vrf_store.specs.Inner.WellFormed.{WellFormed}
 use Rattle.vrf_store.specs.Inner.Stepped.{held, Stepped}
@@ -105,8 +106,8 @@ module _ {m name : List ℕ} {place slot : ℕ} (checksum : ℕ) {w : Option ℕ
     pub new-space : WellFormed m × ((header_of m).held + length name ≤ (allowances_of m).text)
     new-space = (asked.good, omega (arith, new-allows.text-fits))
 
-    module _ {m₁ : List ℕ} {a : ℕ} (p : TextWritten m name m₁ a) where
-      pub new-field : NewField (store_of m₁) place slot a (length name)
+    module _ {m₁ : List ℕ} {span : TextSpan} (p : TextWritten m name m₁ span) where
+      pub new-field : NewField (store_of m₁) place slot span.at span.len
       new-field =
           let good = p.stepped.good in
           let n = numbers good p.stepped.content (counts asked.good) in
@@ -116,12 +117,12 @@ module _ {m name : List ℕ} {place slot : ℕ} (checksum : ℕ) {w : Option ℕ
             place_in = place_in good place there;
             slot-in = slot-in good place there;
             space = omega (arith, ap (λ (x : Allowances). x.fields) top, n.fields-are, new-allows.fields_fit);
-            text_space = omega (arith, ap (λ (x : Allowances). x.text) top, n.text-is, new-allows.text-fits);
+            text_space = omega (arith, ap (λ (x : Allowances). x.text) top, n.text-is, new-allows.text-fits, p.long);
             new = no_row good place there (rw p.stepped.content asked.free);
             placed = put-placed p asked.is_text;
           }
 
-      pub new-taken : {m₂ : List ℕ} → Bytes m → Stepped m₁ m₂ (with_field (held m₁) place slot (filled checksum (part (store_of m₁).texts a (length name)))) → Taken (setting (held m) place slot checksum name) true m m₂
+      pub new-taken : {m₂ : List ℕ} → Bytes m → Stepped m₁ m₂ (with_field (held m₁) place slot (filled checksum (part (store_of m₁).texts span.at span.len))) → Taken (setting (held m) place slot checksum name) true m m₂
       new-taken b s = rw unnamed (kept added-counts added-allowed e true (renamed_step 0) z (still asked.good b (then p.stepped (rw (p.stepped.content, p.text) at s))))
 
 -- ---- a new checksum and name of a field
@@ -225,15 +226,15 @@ module _ {m name : List ℕ} {e : ℕ} (checksum : ℕ) (asked : FieldToChange m
       pub other-space : WellFormed m₁ × ((header_of m₁).held + length name ≤ (allowances_of m₁).text)
       other-space = (first.good, has-space nameless₁)
 
-      module _ {m₂ : List ℕ} {a : ℕ} (p : TextWritten m₁ name m₂ a) where
+      module _ {m₂ : List ℕ} {span : TextSpan} (p : TextWritten m₁ name m₂ span) where
         second : Stepped m m₂ (named [])
         second = same_then first p.stepped
 
         nameless₂ : Nameless m₂
         nameless₂ = numbers second.good second.content (counted [])
 
-        pub other_name : NewName (store_of m₂) e a (length name)
-        other_name = record { row = omega (arith, asked.known, nameless₂.fields-are); text_space = omega (arith, has-space nameless₂); placed = put-placed p asked.is_text }
+        pub other_name : NewName (store_of m₂) e span.at span.len
+        other_name = record { row = omega (arith, asked.known, nameless₂.fields-are); text_space = omega (arith, has-space nameless₂, p.long); placed = put-placed p asked.is_text }
 
         -- row e still has the key of its slot
         same_key : key (store_of m₂).field_rows e ≡ key (store_of m).field_rows e
@@ -243,7 +244,7 @@ module _ {m name : List ℕ} {e : ℕ} (checksum : ℕ) (asked : FieldToChange m
         unfolding renames
         renamed = rw (its-slot asked.good asked.known, differ)
 
-        pub other-taken : {m₃ m₄ : List ℕ} → Renamed m₂ m₃ e (filled checksum (part (store_of m₂).texts a (length name))) → CountersStepped m₃ m₄ (renamed_step 1) → Taken sets true m m₄
+        pub other-taken : {m₃ m₄ : List ℕ} → Renamed m₂ m₃ e (filled checksum (part (store_of m₂).texts span.at span.len)) → CountersStepped m₃ m₄ (renamed_step 1) → Taken sets true m m₄
         other-taken s k =
             let third = rw (second.content, p.text, same_key, set-again (held m) (place_of m e) (its-slot-in asked.good asked.known) (filled checksum []) (filled checksum name)) at s.stepped in
             rw renamed (kept (counted name) (named-allowed name) q true (renamed_step 1) z (counted-then (then second third) k))

@@ -15,6 +15,7 @@ use Rattle.vrf_model.specs.Lookup.{place_or, guid_place}
 use Rattle.vrf_model.specs.Setting.{Step, guid_step, with_guids, new_guid, with_path, has_path, set_guid_at, set_guid}
 use Rattle.vrf_model.proofs.Laws.Places.{place_or-at, alter-set}
 use Rattle.vrf_table.specs.Table.{key}
+use Rattle.vrf_table.specs.declared.TextSpan.{TextSpan}
 use Rattle.vrf_store.specs.Store.{allowances_of, header_of, store_of, guid_at, content_of}
 use Rattle.vrf_store.specs.Inner.WellFormed.{WellFormed}
 use Rattle.vrf_store.specs.Inner.Stepped.{held, Stepped}
@@ -62,8 +63,8 @@ module _ {m path : List ℕ} (guid outer : ℕ) {w : Option ℕ} (asked : GuidTo
     pub new-space : (header_of m).held + length path ≤ (allowances_of m).text
     new-space = new-allows.text-fits
 
-    module _ {m₁ : List ℕ} {a : ℕ} (p : TextWritten m path m₁ a) where
-      pub new-guid : NewGuid m₁ guid a (length path)
+    module _ {m₁ : List ℕ} {span : TextSpan} (p : TextWritten m path m₁ span) where
+      pub new-guid : NewGuid m₁ guid span.at span.len
       new-guid =
           let n = numbers p.stepped.good p.stepped.content (counts asked.good) in
           let guids = ap (λ (x : Allowances). x.guids) (n.allowed-are ∙ allowed m) in
@@ -73,10 +74,10 @@ module _ {m path : List ℕ} (guid outer : ℕ) {w : Option ℕ} (asked : GuidTo
             new = ap (λ (c : Content). guid_place guid c.guids) p.stepped.content ∙ asked.new;
             few = omega (arith, guids, n.guids-are, new-allows.guids-fit);
             placed = put-placed p asked.is_text;
-            space = omega (arith, text, n.text-is, new-allows.text-fits);
+            space = omega (arith, text, n.text-is, new-allows.text-fits, p.long);
           }
 
-      pub new-taken : {m₂ m₃ : List ℕ} → Stepped m₁ m₂ (with_new (held m₁) (guid_of (store_of m₁) guid a (length path) outer)) → CountersStepped m₂ m₃ guid_step → Taken (setting added) tt m m₃
+      pub new-taken : {m₂ m₃ : List ℕ} → Stepped m₁ m₂ (with_new (held m₁) (guid_of (store_of m₁) guid span.at span.len outer)) → CountersStepped m₂ m₃ guid_step → Taken (setting added) tt m m₃
       new-taken s k = kept added-counts added-allowed e (tt {0}) guid_step z (counted-then (then p.stepped (rw (p.stepped.content, p.text) at s)) k)
 
 -- ---- a new path and outer of a record
@@ -143,7 +144,7 @@ module _ {m path : List ℕ} {e : ℕ} (outer : ℕ) {w : Option ℕ} (asked : G
     pub other-space : WellFormed m₁ × ((header_of m₁).held + length path ≤ (allowances_of m₁).text)
     other-space = (first.good, has-space (numbers first.good first.content (counted [])))
 
-    module _ {m₂ : List ℕ} {a : ℕ} (p : TextWritten m₁ path m₂ a) where
+    module _ {m₂ : List ℕ} {span : TextSpan} (p : TextWritten m₁ path m₂ span) where
       second : Stepped m m₂ (other [])
       second = same_then first p.stepped
 
@@ -153,8 +154,8 @@ module _ {m path : List ℕ} {e : ℕ} (outer : ℕ) {w : Option ℕ} (asked : G
       there : e < (header_of m₂).guids
       there = omega (arith, asked.known, empty.guids-are)
 
-      pub other-guid : OldGuid m₂ e a (length path)
-      other-guid = record { good = second.good; known = there; placed = put-placed p asked.is_text; space = omega (arith, has-space empty) }
+      pub other-guid : OldGuid m₂ e span.at span.len
+      other-guid = record { good = second.good; known = there; placed = put-placed p asked.is_text; space = omega (arith, has-space empty, p.long) }
 
       same_key : key (store_of m₂).guid_rows e ≡ guid
       unfolding with_guids
@@ -168,7 +169,7 @@ module _ {m path : List ℕ} {e : ℕ} (outer : ℕ) {w : Option ℕ} (asked : G
       unfolding with_guids
       set-again r = ap (with_guids (held m)) (set-set (held m).guids e (new_guid guid [] outer) r)
 
-      pub other-taken : {m₃ m₄ : List ℕ} → Stepped m₂ m₃ (with_other (held m₂) e (guid_of (store_of m₂) (key (store_of m₂).guid_rows e) a (length path) outer)) → CountersStepped m₃ m₄ guid_step → Taken (setting (other path)) tt m m₄
+      pub other-taken : {m₃ m₄ : List ℕ} → Stepped m₂ m₃ (with_other (held m₂) e (guid_of (store_of m₂) (key (store_of m₂).guid_rows e) span.at span.len outer)) → CountersStepped m₃ m₄ guid_step → Taken (setting (other path)) tt m m₄
       other-taken s k = kept (counted path) (other-allowed path) q (tt {0}) guid_step z (counted-then (then second (rw (second.content, p.text, same_key, set-again) at s)) k)
 
 -- ---- identical, changed or new

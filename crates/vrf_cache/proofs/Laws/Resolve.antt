@@ -1,5 +1,6 @@
 -- The searches of the code, one claim or key at a time, give what the model's searches over lists give. Used by the proofs of `resolve`.
-use Rattle.std.specs.Prelude.{◌≡◌, Bool, true, false, ◌&&◌, cond, ℕ, zero, suc, ◌+◌, ◌≤◌, length, take, get_or, eqb, ltb}
+use Rattle.std.specs.Prelude.{◌≡◌, ◌≢◌, Bool, true, false, ◌&&◌, cond, ℕ, zero, suc, ◌+◌, ◌<◌, ◌≤◌, length, take, get_or, eqb, ltb, Some}
+use Rattle.std.specs.Prelude.{Option as Maybe}
 use Rattle.std.proofs.Math.Path.{refl, sym, ap}
 use Rattle.std.specs.List.{All}
 use Rattle.std.proofs.Common.{◌∙◌, ⊎_elim, arith, length-take}
@@ -7,11 +8,13 @@ use Rattle.std.proofs.lemmas.List.Elements.{All-nil, All-cons, All-append}
 use Prim.Native.Char.{code}
 use mathlib.Core.List.{List, [], ◌∷◌, ◌++◌, append_assoc, append-nil, Option-to_list}
 use Rattle.std.proofs.Math.Option.{Option, none, some}
+use Rattle.vrf_bitio.proofs.Laws.Cases.{clash}
 use Rattle.vrf_path.specs.Keys.{is_separator, has_separator, keys, default_alias, core_alias}
 use Rattle.vrf_path.specs.Toggle.{class_net_cache, toggle, with_toggles, class_net_cache_keys}
 use Rattle.vrf_path.specs.Stems.{stems, cuts_below, capital_stems, digit_stems, digits_from, is_capital, component, underscore_c, stem_leaves, name_leaves}
 use Rattle.vrf_path.specs.Base.{class_base, leaf_base}
-use Rattle.vrf_path.specs.Answers.{Front}
+use Rattle.vrf_path.specs.Answers.{Front, stems_after, stems_from}
+use Rattle.vrf_path.specs.declared.Stem.{Stem}
 use Rattle.vrf_path.proofs.Laws.Keys.{default-length, core-length}
 use Rattle.vrf_path.proofs.Laws.Leaf.{separatorless, separators-append, separators-take}
 use Rattle.vrf_path.proofs.Laws.Base.{base-component, base-underscore, base-cache, base-component-cache, base-underscore-cache}
@@ -19,11 +22,20 @@ use Rattle.vrf_model.specs.Book.{Group}
 use Rattle.vrf_model.specs.Lookup.{Claim, absent as noClaim, ambiguous, claimed, leaf_claim, claim_or_next, first_claim, stems_leaves, unique_leaf_match, resolve_cnc, found_or_next, path_place, first_path}
 use Rattle.vrf_model.specs.Lookup.{find_class_net_cache_key}
 use Rattle.vrf_table.specs.Inner.Index.{claim_or_later}
-use Rattle.vrf_table.specs.Inner.Answers.{Suffixed}
+use Rattle.vrf_table.specs.Inner.Answers.{claim, Suffixed}
+use Rattle.vrf_table.specs.declared.Claim.{Claim as Code}
+use Rattle.vrf_table.specs.declared.Claim.TheVariants.{Absent, Ambiguous, Only}
 use Rattle.vrf_store.specs.Inner.Lookups.{NameLeaves}
 use Rattle.vrf_cache.specs.Inner.Resolve.{Bare, AtMost, decides, first_of, with_toggle, by_alias}
 
 -- ---- claims
+
+-- a claim of the code decides unless it is absent
+pub decides-found : (r : Code) → (r ≡ Absent → decides (claim r) ≡ false) × (r ≢ Absent → decides (claim r) ≡ true)
+unfolding decides
+decides-found Absent = (λ e. refl, λ h. absurd (h refl))
+decides-found Ambiguous = (λ e. clash (cc), λ h. refl)
+decides-found (Only i) = (λ e. clash (cc), λ h. refl)
 
 decided : (c : Claim) (o : Option ℕ) → claim_or_next c o ≡ cond (decides c) (claim_or_next c none) o
 unfolding claim_or_next decides
@@ -83,6 +95,11 @@ module _ (groups : List Group) where
   pub no-stems : first_claim groups (stems_leaves []) ≡ none
   unfolding first_claim stems_leaves
   no-stems = refl
+
+-- a stem leaves fewer stems than it began with
+pub stems-fewer : (name : List ℕ) (s : Stem) (t : Maybe Stem) → stems_after name s.len s.phase ≡ stems_from name t
+    → length (stems_from name t) < length (stems_from name (Some s))
+stems-fewer name s t e = rw (← e) (omega arith)
 
 -- names with and without a separator
 module _ (name : List ℕ) (groups : List Group) where
@@ -199,20 +216,23 @@ module _ (groups : List Group) where
       ∙ path-append (with_toggles (path ∷ [])) (with_toggles (d ++ c))
       ∙ rw (toggles-append d c, path-append (with_toggles d) (with_toggles c))
 
+-- a wider bound
+pub at-most : {n m : ℕ} → n ≤ m → (o : Option (List ℕ)) → AtMost n o → AtMost m o
+at-most le none h = tt
+at-most le (some k) h = omega (arith, le, h)
+
 -- an alias is at most 9 bytes longer than the path
-module _ (t : List ℕ) (few : length t ≤ 4096) {o : Option (List ℕ)} where
-  alias-fits : ((k : List ℕ) → o ≡ some k → length k ≤ length t + 9) → AtMost 4105 o
-  alias-fits h = by o refl
-    where
-      by : (q : Option (List ℕ)) → o ≡ q → AtMost 4105 q
-      by none e = tt
-      by (some k) e = omega (arith, h k e, few)
+module _ (t : List ℕ) where
+  shorter : (o : Option (List ℕ)) → ((k : List ℕ) → o ≡ some k → length k ≤ length t + 9) → AtMost (length t + 9) o
+  shorter none h = tt
+  shorter (some k) h = h k refl
 
-  pub default-fits : o ≡ default_alias t → AtMost 4105 o
-  default-fits e = alias-fits (λ k h. ⊎_elim (λ a. omega arith) (λ a. omega arith) (default-length t (sym e ∙ h)))
+  module _ {o : Option (List ℕ)} where
+    pub default-fits : o ≡ default_alias t → AtMost (length t + 9) o
+    default-fits e = shorter o (λ k h. ⊎_elim (λ a. omega arith) (λ a. omega arith) (default-length t (sym e ∙ h)))
 
-  pub core-fits : o ≡ core_alias t → AtMost 4105 o
-  core-fits e = alias-fits (λ k h. ⊎_elim (λ a. omega arith) (λ a. omega arith) (core-length t (sym e ∙ h)))
+    pub core-fits : o ≡ core_alias t → AtMost (length t + 9) o
+    core-fits e = shorter o (λ k h. ⊎_elim (λ a. omega arith) (λ a. omega arith) (core-length t (sym e ∙ h)))
 
 -- ---- the leaves of a name and of a stem
 

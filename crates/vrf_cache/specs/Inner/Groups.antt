@@ -6,6 +6,7 @@ use Rattle.vrf_words.specs.Words.{part}
 use Rattle.vrf_model.specs.Book.{Group, Content}
 use Rattle.vrf_model.specs.Lookup.{place_or, index_place}
 use Rattle.vrf_model.specs.Setting.{with_groups, Step, keep, schema_step, merged_group, replaced_step}
+use Rattle.vrf_table.specs.declared.TextSpan.{TextSpan}
 use Rattle.vrf_store.specs.Store.{allowances_of, header_of, store_of}
 use Rattle.vrf_store.specs.Inner.WellFormed.{WellFormed}
 use Rattle.vrf_store.specs.Inner.Stepped.{held, Stepped}
@@ -68,11 +69,12 @@ pub record PathReleased (m m' : List ℕ) (e n : ℕ) : Type 0 where
   pub stepped : Stepped m m' (with_group (held m) e (repath old))
   pub space : (header_of m').held + n ≤ (allowances_of m').text
 
--- the path is written at position a of the texts, after group e may have released its own
-pub record PathWritten (m path m' : List ℕ) (e a : ℕ) : Type 0 where
+-- the path is in the texts, after group e may have released its own
+pub record PathWritten (m path m' : List ℕ) (e : ℕ) (span : TextSpan) : Type 0 where
   pub freed : PathReleased m m' e (length path)
-  pub within : a + length path ≤ (header_of m').used
-  pub text : part (store_of m').texts a (length path) ≡ path
+  pub within : span.at + span.len ≤ (header_of m').used
+  pub long : span.len ≡ length path
+  pub text : part (store_of m').texts span.at span.len ≡ path
 
 -- ---- merging and replacing
 

@@ -1,9 +1,9 @@
 -- Contracts of the functions of `guids`: a record is added, or takes a new path and outer.
-use Rattle.std.specs.Prelude.{◌≡◌, List, [], ◌∷◌, ◌++◌, ℕ, ◌<◌, length, set}
+use Rattle.std.specs.Prelude.{◌≡◌, List, [], ◌∷◌, ◌++◌, ℕ, ◌<◌, set}
 use Rattle.std.proofs.Math.Option.{none}
 use Rattle.vrf_text.specs.Text.{IsText}
 use Rattle.vrf_model.specs.Book.{Guid, Content}
-use Rattle.vrf_model.specs.Lookup.{place_or, guid_place}
+use Rattle.vrf_model.specs.Lookup.{guid_place}
 use Rattle.vrf_model.specs.Setting.{Step, keep, guid_step, with_guids}
 use Rattle.vrf_store.specs.Store.{header_of}
 use Rattle.vrf_store.specs.Inner.WellFormed.{WellFormed}

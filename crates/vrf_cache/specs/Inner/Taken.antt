@@ -1,6 +1,6 @@
 -- How the answer of a book call and the memory that it leaves relate to a step of the model. If the step is done, the memory holds its
 -- content and its counters go up by what the step counts. If it is refused, the memory is unchanged.
-use Rattle.std.specs.Prelude.{◌≡◌, Bool, List, ℕ, length, Result, Ok, Err}
+use Rattle.std.specs.Prelude.{◌≡◌, List, ℕ, length, Result, Ok, Err}
 use Rattle.vrf_bitio.specs.Reasons.{number}
 use Rattle.vrf_bitio.specs.declared.Refusal.{Refusal}
 use Rattle.vrf_model.specs.Book.{Content, Increments, stepped}

@@ -1,9 +1,9 @@
 -- One case for a path with this alias, and one for a path without it.
-use Rattle.std.proofs.Common.{arith}
-use Rattle.std.proofs.lemmas.Grind.{common_steps}
-use Rattle.vrf_store.specs.Check.{reach_ok}
+use Rattle.vrf_check.proofs.Laws.Steps.{alias-gone, alias-there}
 use Rattle.vrf_check.proofs.alias_ok.Goals as goal
 
-pub returns : goal.returns
-unfolding reach_ok
-returns c = grind (arith, common_steps)
+pub returns-in-Some : goal.returns-in-Some
+returns-in-Some c = alias-there _ _ _ _ c.in-Some.is c.alias_reaches.ensures
+
+pub returns-in-None : goal.returns-in-None
+returns-in-None c = alias-gone _ _ _ _ c.in-None.is

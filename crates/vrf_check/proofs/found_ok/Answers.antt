@@ -6,4 +6,4 @@ use Rattle.vrf_check.proofs.found_ok.Goals as goal
 
 pub returns : goal.returns
 unfolding found_ok
-returns c = c.eq.ensures ∙ found-place c.args.e c.find_key.result ∙ ap (is_place c.args.e) (cc)
+returns c = c.eq.ensures ∙ found-place c.args.e c.find.result ∙ ap (is_place c.args.e) (cc)

@@ -10,4 +10,4 @@ unfolding sum_below
 loop-e-init c = (refl, omega arith)
 
 pub loop-e-preserved : goal.loop-e-preserved
-loop-e-preserved c = (omega (arith, sum-next (len c.args.rows.now) c.loop-e.e), omega arith)
+loop-e-preserved c = (omega (arith, sum-next (len c.args.index.rows.now) c.loop-e.e), omega arith)

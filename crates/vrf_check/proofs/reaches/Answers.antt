@@ -6,4 +6,4 @@ use Rattle.vrf_check.proofs.reaches.Goals as goal
 
 pub returns : goal.returns
 unfolding not_before
-returns c = rw (← c.find_path.ensures) (grind (arith, common_steps))
+returns c = rw (← c.find.ensures) (grind (arith, common_steps))

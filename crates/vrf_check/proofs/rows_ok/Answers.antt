@@ -1,14 +1,13 @@
--- The tests in turn are the conjunction.
+-- The tests in turn are the conjunction, over the rows, heads and counts of the store.
 use Rattle.std.proofs.Common.{arith}
 use Rattle.std.proofs.lemmas.Grind.{common_steps}
-use Rattle.std.proofs.lemmas.Bool.Decides.{nat_tests}
-use Rattle.vrf_check.specs.Inner.Steps.{rows_ok}
+use Rattle.vrf_check.specs.Inner.Steps.{guids_ok, groups_ok, rows_ok}
 use Rattle.vrf_check.proofs.rows_ok.Goals as goal
 
-pub returns-then-groups_ok : goal.returns-then-groups_ok
-unfolding rows_ok
-returns-then-groups_ok c = grind (arith, nat_tests, common_steps)
+pub returns-then-each_row_ok-2 : goal.returns-then-each_row_ok-2
+unfolding rows_ok guids_ok groups_ok
+returns-then-each_row_ok-2 c = grind (arith, common_steps)
 
-pub returns-else-groups_ok : goal.returns-else-groups_ok
-unfolding rows_ok
-returns-else-groups_ok c = grind (arith, nat_tests, common_steps)
+pub returns-else-each_row_ok-2 : goal.returns-else-each_row_ok-2
+unfolding rows_ok guids_ok groups_ok
+returns-else-each_row_ok-2 c = grind (arith, common_steps)

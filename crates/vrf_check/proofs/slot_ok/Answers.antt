@@ -5,10 +5,10 @@ use Rattle.std.proofs.lemmas.Bool.Decides.{nat_tests}
 use Rattle.vrf_check.specs.Inner.Steps.{slot_in}
 use Rattle.vrf_check.proofs.slot_ok.Goals as goal
 
-pub returns-then-g-n : goal.returns-then-g-n
+pub returns-then-g-groups : goal.returns-then-g-groups
 unfolding slot_in
-returns-then-g-n c = grind (arith, nat_tests, common_steps)
+returns-then-g-groups c = grind (arith, nat_tests, common_steps)
 
-pub returns-else-g-n : goal.returns-else-g-n
+pub returns-else-g-groups : goal.returns-else-g-groups
 unfolding slot_in
-returns-else-g-n c = grind (arith, nat_tests, common_steps)
+returns-else-g-groups c = grind (arith, nat_tests, common_steps)

@@ -1,9 +1,13 @@
 -- The check in the steps of the code: first the sum of the lengths, which limits the work that follows, then the texts of all tables, then
 -- their rows, then the keys and leaves of the groups, whose walks read the text of any group.
-use Rattle.std.specs.Prelude.{Bool, ◌&&◌, List, ℕ, ◌+◌, ◌*◌, ◌/◌, ◌%◌, eqb, ltb, leb}
+use Rattle.std.specs.Prelude.{Bool, ◌&&◌, List, ℕ, ◌+◌, ◌*◌, ◌/◌, ◌%◌, ◌<◌, ◌≤◌, eqb, ltb, leb}
 use Rattle.vrf_path.specs.Leaf.{leaf}
-use Rattle.vrf_table.specs.Table.{key, info, text}
+use Rattle.vrf_table.specs.Table.{key, len, info, text}
 use Rattle.vrf_table.specs.TextIndex.{key_numbered, find_path, claim_of}
+use Rattle.vrf_table.specs.declared.KeyIndex.{KeyIndex}
+use Rattle.vrf_table.specs.declared.GroupRows.{GroupRows}
+use Rattle.vrf_table.specs.declared.PathIndex.{PathIndex}
+use Rattle.vrf_table.specs.declared.LeafIndex.{LeafIndex}
 use Rattle.vrf_store.specs.UpTo.{all_below}
 use Rattle.vrf_store.specs.Layout
 use Rattle.vrf_store.specs.Store.{Store, header_of, store_of}
@@ -38,6 +42,24 @@ leaf_settled r x links heads b n g = settled_ok (claim_of r x links heads b n) g
 unfoldable pub path_ok : (r x links heads : List ℕ) → ℕ → (leaf_links leaf_heads : List ℕ) → (leafB n g : ℕ) → Bool
 path_ok r x links heads b leaf_links leaf_heads leafB n g = keys_reach r x links heads b n g && leaf_settled r x leaf_links leaf_heads leafB n g
 
+-- ---- the steps, on the indexes of the code
+
+abbrev pub finds_row : KeyIndex → ℕ → Bool
+finds_row t e = found_ok t.rows.now t.heads.now t.buckets t.count e
+
+abbrev pub row_passes : KeyIndex → (most e : ℕ) → Bool
+row_passes t most e = row_ok t.rows.now t.heads.now t.buckets t.count most e
+
+-- without the test that the number has 32 bits, since a word has
+abbrev pub field_passes : (groups fields : KeyIndex) → ℕ → Bool
+field_passes g t e = slot_in g.rows.now g.count (key t.rows.now e) && finds_row t e
+
+abbrev pub keys_pass : PathIndex → ℕ → Bool
+keys_pass t g = keys_reach t.groups.rows.now t.groups.texts.now t.links.now t.heads.now t.buckets t.groups.count g
+
+abbrev pub leaf_passes : LeafIndex → ℕ → Bool
+leaf_passes t g = leaf_settled t.chains.groups.rows.now t.chains.groups.texts.now t.chains.links.now t.heads.now t.buckets t.chains.groups.count g
+
 -- ---- the steps, on a store
 
 unfoldable pub sum_ok : Store → Bool
@@ -65,7 +87,11 @@ rows_ok s = guids_ok s && (groups_ok s && fields_ok s)
 unfoldable pub paths_ok : Store → Bool
 paths_ok s = all_below (path_ok s.group_rows s.texts s.path_links s.path_heads (Layout.path_buckets s.header.allowed) s.leaf_links s.leaf_heads (Layout.leaf_buckets s.header.allowed) s.header.groups) s.header.groups
 
--- ---- what the steps require of memory
+-- ---- what the steps require of groups and of memory
+
+-- the texts have at most 4096 bytes
+abbrev pub ShortTexts : GroupRows → Type 0
+ShortTexts t = (e : ℕ) → e < t.count → len t.rows.now e ≤ 4096
 
 -- the allowances and the header are in bounds
 pub record InBounds (m : List ℕ) : Type 0 where

@@ -6,8 +6,7 @@ use Rattle.std.proofs.Common.{sym, ap, ◌∙◌, arith, length-append, length-d
 use Rattle.std.proofs.Math.Option.{Option}
 use Rattle.vrf_bitio.proofs.Laws.Cases.{clash}
 use Rattle.vrf_path.specs.Toggle.{class_net_cache}
-use Rattle.vrf_path.specs.Answers.{Front, KeyAnswer, LeafAnswer, ToggleAnswer}
-use Rattle.vrf_path.specs.Inner.Stems.{rule_at, StemAnswer}
+use Rattle.vrf_path.specs.Answers.{Front, KeyAnswer, LeafAnswer, ToggleAnswer, rule_at, StemAnswer}
 use Rattle.vrf_path.specs.declared.Key.{Key}
 use Rattle.vrf_path.specs.declared.Stem.{Stem}
 use Rattle.vrf_path.specs.declared.Toggle.{Toggle}

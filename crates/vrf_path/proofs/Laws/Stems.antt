@@ -13,7 +13,7 @@ use borrow.Author.Tests.{lt-ltb, le-ltb, le-leb, lt-leb}
 use Rattle.vrf_bitio.proofs.Laws.Cases.{by_cond, by_order, clash}
 use Rattle.vrf_path.specs.Text.{last_below}
 use Rattle.vrf_path.specs.Stems.{cuts_below, is_digit, is_capital, digits_from, capital_stems, digit_stems, stems}
-use Rattle.vrf_path.specs.Inner.Stems.{rule_at}
+use Rattle.vrf_path.specs.Answers.{rule_at}
 use Rattle.vrf_path.specs.declared.Phase.TheVariants.{Underscore, Digits, Capital}
 
 -- the stems cut at the last `_` and before it, by the place of that `_`

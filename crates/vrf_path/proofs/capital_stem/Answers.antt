@@ -1,11 +1,14 @@
 -- The stem without a capital, by its length and its last byte.
 use Rattle.std.proofs.Common.{◌-◌, sym, ◌∙◌, arith}
 use Rattle.vrf_path.specs.Stems.{is_capital}
-use Rattle.vrf_path.proofs.Laws.Stems.{capital-short, capital-at, rule-capital}
+use Rattle.vrf_path.proofs.Laws.Stems.{capital-short, capital-past, capital-at, rule-capital}
 use Rattle.vrf_path.proofs.capital_stem.Goals as goal
 
 pub returns-then-n-lt2 : goal.returns-then-n-lt2
 returns-then-n-lt2 c = record { stems = capital-short _ _ c.if-n-lt2.true; within = omega arith; rule = tt }
+
+pub returns-then-name-n : goal.returns-then-name-n
+returns-then-name-n c = record { stems = capital-past _ _ c.if-name-n.true; within = omega arith; rule = tt }
 
 pub returns-then-is_ascii_uppercase : goal.returns-then-is_ascii_uppercase
 unfolding is_capital

@@ -7,7 +7,7 @@ use Rattle.vrf_bitio.specs.declared.BitReader.{BitReader}
 use Rattle.vrf_bitio.specs.declared.Refusal.{Refusal}
 use Rattle.vrf_text.specs.Text.{fstring}
 use Rattle.vrf_model.specs.Setting.{set_guid}
-use Rattle.vrf_model.specs.Parser.{return, fail, ◌>>=◌, step}
+use Rattle.vrf_model.specs.Parser.{Parser, return, fail, ◌>>=◌, step}
 use Rattle.vrf_model.specs.Runs.{flags_of, skip_checksum, object_path, object_after, object_with_outer, object}
 use Rattle.vrf_store.specs.Inner.WellFormed.{WellFormed}
 use Rattle.vrf_store.specs.Inner.Stepped.{held}
@@ -29,6 +29,42 @@ module _ {r : BitReader} (exporting : Bool) (guid : ℕ) where
   pub flags-none : (exporting || eqb guid 1) ≡ false → RefinesReading (flags_of exporting guid) r r (Ok 0)
   unfolding flags_of
   flags-none h = record { reads = λ m good. rw h (stays good) }
+
+-- ---- head
+
+-- an object up to its flags, for every outer object
+module _ {r : BitReader} (exporting : Bool) (outer : Parser ℕ) {m : List ℕ} (good : WellFormed m) where
+  pub head-refused : (q : Refusal) → Refuses (read_here r packed) q → Refines (object_with_outer outer exporting) r r m m (Err q)
+  unfolding object_with_outer
+  head-refused q e = read-stops packed _ good q e
+
+  module _ {guid : ℕ} {d : BitReader} (g : Gave r (read_here r packed) guid d) where
+    to-guid : Simulates (object_with_outer outer exporting) r m (cond (eqb guid 0) (return 0) (object_after outer exporting guid)) d m
+    unfolding object_with_outer
+    to-guid = read-on packed _ good g
+
+    pub head-zero : guid ≡ 0 → Simulates (object_with_outer outer exporting) r m (return 0) d m
+    head-zero z = rw (eq-eqb guid 0 z) at to-guid
+
+    module _ (some : guid ≢ 0) where
+      to-flags : Simulates (object_with_outer outer exporting) r m (object_after outer exporting guid) d m
+      to-flags = rw (ne_eqb guid 0 some) at to-guid
+
+      pub head-flagless : {e : BitReader} (q : Refusal) → RefinesReading (flags_of exporting guid) d e (Err q)
+          → Refines (object_with_outer outer exporting) r r m m (Err q)
+      unfolding object_after
+      head-flagless q h = stops to-flags q (bind-stop _ q (h.reads m good))
+
+      module _ {flags : ℕ} {e : BitReader} (h : RefinesReading (flags_of exporting guid) d e (Ok flags)) where
+        to-path : Simulates (object_with_outer outer exporting) r m (cond (eqb (flags % 2) 1) (object_path outer guid flags) (return guid)) e m
+        unfolding object_after
+        to-path = then to-flags (bind _ (h.reads m good))
+
+        pub head-path : flags % 2 ≡ 1 → Simulates (object_with_outer outer exporting) r m (object_path outer guid flags) e m
+        head-path one = rw (eq-eqb (flags % 2) 1 one) at to-path
+
+        pub head-ends : flags % 2 ≢ 1 → Simulates (object_with_outer outer exporting) r m (return guid) e m
+        head-ends n = rw (ne_eqb (flags % 2) 1 n) at to-path
 
 -- ---- checksum
 
@@ -82,45 +118,27 @@ unfolding object
 over zero exporting h = absurd (h refl)
 over (suc left) exporting h = let e : suc left - 1 ≡ left = omega arith in rw e
 
-module _ {r : BitReader} (left : ℕ) (exporting : Bool) (deep : left ≢ 0) {m : List ℕ} (good : WellFormed m) where
-  pub object-refused : (q : Refusal) → Refuses (read_here r packed) q → Refines (object left exporting) r r m m (Err q)
-  unfolding object_with_outer
-  object-refused q e = rw (over left exporting deep) (read-stops packed _ good q e)
+module _ {r : BitReader} (left : ℕ) (exporting : Bool) (deep : left ≢ 0) {m : List ℕ} where
+  pub object-refused : (q : Refusal) → Refines (object_with_outer (object (left - 1) exporting) exporting) r r m m (Err q)
+      → Refines (object left exporting) r r m m (Err q)
+  object-refused q h = rw (over left exporting deep) h
 
-  module _ {guid : ℕ} {d : BitReader} (g : Gave r (read_here r packed) guid d) where
-    to-guid : Simulates (object left exporting) r m (cond (eqb guid 0) (return 0) (object_after (object (left - 1) exporting) exporting guid)) d m
-    unfolding object_with_outer
-    to-guid = rw (over left exporting deep) (read-on packed _ good g)
+  pub object-ends : (guid : ℕ) {d : BitReader} → Simulates (object_with_outer (object (left - 1) exporting) exporting) r m (return guid) d m
+      → Simulates (object left exporting) r m (return guid) d m
+  object-ends guid h = rw (over left exporting deep) h
 
-    pub object-zero : guid ≡ 0 → Simulates (object left exporting) r m (return 0) d m
-    object-zero z = rw (eq-eqb guid 0 z) at to-guid
+  module _ (guid flags : ℕ) {d : BitReader}
+      (h : Simulates (object_with_outer (object (left - 1) exporting) exporting) r m (object_path (object (left - 1) exporting) guid flags) d m) where
+    to-outer : Simulates (object left exporting) r m (object_path (object (left - 1) exporting) guid flags) d m
+    to-outer = rw (over left exporting deep) h
 
-    module _ (some : guid ≢ 0) where
-      to-flags : Simulates (object left exporting) r m (object_after (object (left - 1) exporting) exporting guid) d m
-      to-flags = rw (ne_eqb guid 0 some) at to-guid
+    pub outer-refused : {m' : List ℕ} (q : Refusal) → Refines (object (left - 1) exporting) d d m m' (Err q)
+        → Refines (object left exporting) r r m m' (Err q)
+    unfolding object_path
+    outer-refused q k = stops to-outer q (bind-stop _ q k)
 
-      pub object-flagless : {e : BitReader} (q : Refusal) → RefinesReading (flags_of exporting guid) d e (Err q) → Refines (object left exporting) r r m m (Err q)
-      unfolding object_after
-      object-flagless q h = stops to-flags q (bind-stop _ q (h.reads m good))
-
-      module _ {flags : ℕ} {e : BitReader} (h : RefinesReading (flags_of exporting guid) d e (Ok flags)) where
-        to-path : Simulates (object left exporting) r m (cond (eqb (flags % 2) 1) (object_path (object (left - 1) exporting) guid flags) (return guid)) e m
-        unfolding object_after
-        to-path = then to-flags (bind _ (h.reads m good))
-
-        pub object-pathless : flags % 2 ≢ 1 → Simulates (object left exporting) r m (return guid) e m
-        object-pathless n = rw (ne_eqb (flags % 2) 1 n) at to-path
-
-        module _ (one : flags % 2 ≡ 1) where
-          to-outer : Simulates (object left exporting) r m (object_path (object (left - 1) exporting) guid flags) e m
-          to-outer = rw (eq-eqb (flags % 2) 1 one) at to-path
-
-          pub outer-refused : {m' : List ℕ} (q : Refusal) → Refines (object (left - 1) exporting) e e m m' (Err q) → Refines (object left exporting) r r m m' (Err q)
-          unfolding object_path
-          outer-refused q k = stops to-outer q (bind-stop _ q k)
-
-          pub outer-then : {m' : List ℕ} (outer : ℕ) {e' : BitReader} → Simulates (object (left - 1) exporting) e m (return outer) e' m'
-              → (d' : BitReader) (m'' : List ℕ) (o : Result ℕ Refusal) → Refines (recorded guid flags outer) e' d' m' m'' o
-              → Refines (object left exporting) r d' m m'' o
-          unfolding object_path recorded
-          outer-then outer k = reads (then to-outer (bind (recorded guid flags) k))
+    pub outer-then : {m' : List ℕ} (outer : ℕ) {e : BitReader} → Simulates (object (left - 1) exporting) d m (return outer) e m'
+        → (d' : BitReader) (m'' : List ℕ) (o : Result ℕ Refusal) → Refines (recorded guid flags outer) e d' m' m'' o
+        → Refines (object left exporting) r d' m m'' o
+    unfolding object_path recorded
+    outer-then outer k = reads (then to-outer (bind (recorded guid flags) k))

@@ -1,7 +1,7 @@
 -- Texts and field names, read into a scratch buffer of 4,096 bytes. Used by the proofs of `names`.
 use Rattle.std.specs.Prelude.{◌≡◌, refl, List, ℕ, Result, Ok, Err, ◌^◌, ◌≤◌, ◌<◌, eqb, ℤ, length, take}
 use Rattle.std.specs.Result.{IsErrAnd}
-use Rattle.std.proofs.Common.{sym, ap, subst, ◌∙◌, arith, lt-ltb, le-ltb, eq-eqb, ne_eqb}
+use Rattle.std.proofs.Common.{sym, ap, subst, ◌∙◌, arith, length-take-le, lt-ltb, le-ltb, eq-eqb, ne_eqb}
 use Rattle.std.proofs.Math.Bool.{cond}
 use Rattle.std.proofs.Math.Seq.{take-append_seam}
 use Rattle.vrf_bitio.specs.Bits.{Bytes}
@@ -55,6 +55,9 @@ module _ {r d : BitReader} {scratch : List ℕ} {n : ℕ} where
   pub scratch-gave : {x : Read (List ℕ)} → TextRead r x scratch n d → Gave r x (take n scratch) d
   scratch-gave t = rw t.here t.gave
 
+  pub scratch-length : {x : Read (List ℕ)} → TextRead r x scratch n d → n ≡ length (take n scratch)
+  scratch-length t = sym (length-take-le n scratch t.fits)
+
   pub scratch-text : {f : Reader (List ℕ)} → ReadsBytes IsText f → TextRead r (read_here r f) scratch n d → IsText (take n scratch)
   scratch-text h t = given h (scratch-gave t)
 
@@ -94,10 +97,12 @@ into-named m text t e =
     (λ few. by_order (length text) m (λ fits. let e' = sym (into-fits m text few fits) ∙ e in (cc, few)) (λ long. clash (cc (into-short m text few long, e))))
     (λ long. clash (cc (into-long m text long, e)))
 
+-- the length of a rendered name is at most 4,096
+small-answer : (m : ℕ) (text t : List ℕ) → rendered_into m text ≡ named t → length t ≤ 4096
+small-answer m text t e = let both = into-named m text t e in omega (arith, both.1, ap (λ (x : List ℕ). length x) both.0)
+
 pub is-small : (text : List ℕ) {scratch after : List ℕ} {n : ℕ} → RenderedAnswer (rendered_into (length scratch) text) scratch after (Ok n) → n ≤ 4096
-is-small text {scratch} a =
-    let both = into-named (length scratch) text a.answer.0 a.answer.1.0 in
-    omega (arith, both.1, a.answer.1.1, ap (λ (x : List ℕ). length x) both.0)
+is-small text {scratch} a = omega (arith, small-answer (length scratch) text a.answer.0 a.answer.1.0, a.answer.1.1)
 
 -- a name is limited to 4,096 bytes
 module _ (t : List ℕ) where
@@ -123,7 +128,7 @@ module _ (r : BitReader) (scratch after text : List ℕ) (h : 4096 ≤ length sc
       (λ long. limited-long text long r.pos (rest_of r) ∙ cc (into-long (length scratch) text long, a.answer))
 
 -- the number after a base text, and the rendered name
-abbrev numbered : List ℕ → Reader (List ℕ)
+abbrev pub numbered : List ℕ → Reader (List ℕ)
 numbered base = int32 >>= λ number. limited (rendered base number)
 
 module _ {r d : BitReader} {scratch after : List ℕ} (h : 4096 ≤ length scratch) (o : Result ℕ Refusal) where
@@ -146,10 +151,14 @@ module _ {r d : BitReader} {scratch : List ℕ} {n : ℕ} (t : TextRead r (read_
   unfolding text_name
   numberless q e = refused-then r fstring numbered (scratch-gave t) (refused-first d int32 (λ number. limited (rendered (take n scratch) number)) e)
 
+  pub name-after : (e : BitReader) (after : List ℕ) (o : Result ℕ Refusal) → TextIn d e (read_here d (numbered (take n scratch))) after o
+      → TextIn r e (read_here r text_name) after o
+  unfolding text_name
+  name-after = onward fstring numbered (scratch-gave t)
+
   pub text_name_in : (e : BitReader) (after : List ℕ) {z y : ℤ} → 4096 ≤ length scratch → Gave d (read_here d int32) z e → y ≡ z → (o : Result ℕ Refusal)
       → RenderedAnswer (rendered_into (length scratch) (rendered (take n scratch) y)) scratch after o → TextIn r e (read_here r text_name) after o
-  unfolding text_name
-  text_name_in e after h g same o a = onward fstring numbered (scratch-gave t) e after o (numbered-in h o (take n scratch) g same a)
+  text_name_in e after h g same o a = name-after e after o (numbered-in h o (take n scratch) g same a)
 
 -- the kind byte, then a name of that kind
 module _ {r d : BitReader} {kind : ℕ} (g : Gave r (read_here r byte) kind d) (e : BitReader) (after : List ℕ) (o : Result ℕ Refusal) where

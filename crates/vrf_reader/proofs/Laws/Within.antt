@@ -1,5 +1,5 @@
--- A window opened in a slice is within it. At a reader of such a window `sub_reader` finds the window of the next n bytes exactly if the
--- definition has n bytes left.
+-- A window opened in a slice is within it, and so are the readers of that window. At such a reader `sub_reader` finds the window of the next
+-- n bytes exactly if the definition has n bytes left.
 use Rattle.std.specs.Prelude.{◌≡◌, refl, ◌≢◌, List, Ok, ltb, take, drop}
 use Rattle.std.proofs.Math.Path.{sym}
 use Rattle.std.proofs.Common.{ap, ◌∙◌}
@@ -32,6 +32,10 @@ opened-within first count r =
       inside = omega (arith, ap (λ (w : ℕ × ℕ). w.0) place, ap (λ (w : ℕ × ℕ). w.1) place, ltb-false (8 * length s - first) count fits);
       small = ltb-false 268435456 (length s) small;
     }
+
+-- a reader of the same window
+pub same-window : {r d : BitReader} → ReaderWithin r → SameWindow r d → ReaderWithin d
+same-window within w = record { inside = rw (w.same, w.first, w.count) within.inside; small = rw w.same within.small }
 
 -- ---- the window of the next n bytes
 

@@ -1,4 +1,4 @@
--- Contracts of the functions of `objects` that `load_object` calls.
+-- Contracts of the functions of `objects` that `load_chain` calls.
 use Rattle.std.specs.Prelude.{ℕ}
 use Rattle.vrf_text.specs.Text.{fstring}
 use Rattle.vrf_model.specs.Setting.{set_guid}

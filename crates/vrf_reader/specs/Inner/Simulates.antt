@@ -26,7 +26,8 @@ pub record Simulates {A : Type 0} (k : Parser A) (r : BitReader) (m : List ℕ) 
   pub first : d.first ≡ r.first
   pub count : d.count ≡ r.count
 
--- the code, from reader r and memory m, ends as k does, and leaves the reader d and the memory m'; after a refusal d may be any
+-- the code, from reader r and memory m, ends as k does, and leaves the reader d and the memory m'. After a refusal d may be any: private
+-- functions promise no more, and each public one has a clause `stays`, which says that d is r
 abbrev pub Refines : {A : Type 0} → Parser A → BitReader → BitReader → List ℕ → List ℕ → Result A Refusal → Type 0
 Refines k r d m m' (Ok v) = Simulates k r m (return v) d m'
 Refines k r d m m' (Err e) = Simulates k r m (fail (number e.reason) e.a e.b) r m'

@@ -12,7 +12,8 @@ pub record TextRead (r : BitReader) (x : Read (List ℕ)) (scratch : List ℕ) (
   pub here : take n scratch ≡ text
   pub fits : n ≤ length scratch
 
--- the code's answer to the reading x: the length of a text in the scratch buffer, or a refusal. After a refusal the reader d may be any
+-- the code's answer to the reading x: the length of a text in the scratch buffer, or a refusal. After a refusal the reader d may be any, as
+-- with `Refines`
 abbrev pub TextIn : BitReader → BitReader → Read (List ℕ) → List ℕ → Result ℕ Refusal → Type 0
 TextIn r d x scratch (Ok n) = TextRead r x scratch n d
 TextIn r d x scratch (Err e) = Refuses x e

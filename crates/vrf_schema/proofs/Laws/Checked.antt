@@ -13,8 +13,8 @@ use Rattle.vrf_text.specs.Answers.{CallerAnswer}
 use Rattle.vrf_text.proofs.Laws.Text.{caller_text-text}
 use Rattle.vrf_model.specs.Book.{stepped}
 use Rattle.vrf_model.specs.Setting.{Step, done, refuses, add_group}
-use Rattle.vrf_model.specs.Calls.{Lookup, Call, add_export_group, Answer, refusal-of, at_place, found, Result, if_text_accepted, look, unchanged, of_step, add_directly, run, run_book}
-use Rattle.vrf_model.specs.Answers.{refusal_of, added_of, found_of}
+use Rattle.vrf_model.specs.Calls.{Lookup, Call, add_export_group, Answer, refusal-of, acted, field_placed, at_place, found, text, Result, if_text_accepted, look, unchanged, of_step, add_directly, run, run_book}
+use Rattle.vrf_model.specs.Answers.{refusal_of, acted_of, added_of, placed_of, found_of}
 use Rattle.vrf_table.specs.Inner.Answers.{entry}
 use Rattle.vrf_store.specs.Store.{counters_of, book_of}
 use Rattle.vrf_store.specs.Check.{check}
@@ -71,6 +71,14 @@ book-accepted {m} {x} r a t = record { answer = by (check m) a.answer }
 -- a call on a book that fails the check satisfies its contract if it answers 2 and leaves the memory
 pub corrupt-book : {k : Call} {m : List ℕ} {r : Answer} → check m ≡ false → r ≡ refusal-of 2 0 0 → CallContract k m m r
 corrupt-book s a = record { corrupt = λ _. record { answer = a; kept = refl }; ran = λ t. absurd (true≢false (sym t ∙ s)) }
+
+-- a lookup of a text, on a book that fails the check and on one that passes
+pub text-refused : {l : Lookup} {m : List ℕ} (r : Refusal) → check m ≡ false → refusal_of r ≡ refusal-of 2 0 0 → LookupContract l m (refusal_of r)
+text-refused r s e = corrupt-book s e
+
+pub text-found : {l : Lookup} {m t : List ℕ} → Lent m → check m ≡ true → look l (held m) ≡ text t → LookupContract l m (text t)
+unfolding run
+text-found {m = m} {t} lent checked e = kept (text t) lent checked (ap (unchanged (held m)) e)
 
 -- a call that the checks refuse satisfies its contract, if it does where the text is refused
 refused-by : {k : Call} {m : List ℕ} {x : CallerText} (r : Refusal) → CheckedText m x (Err r)
@@ -148,6 +156,20 @@ module _ {m : List ℕ} {x : CallerText} (lent : Lent m) (a : CheckedText m x (O
     step-by answer at-ok at-err (Ok v) t = rw (at-ok v) (taken t)
     step-by answer at-ok at-err (Err q) t = rw (at-err q) (not_taken t)
 
+  -- the same for the three answers of the calls
+  module _ (k : Call) {m' : List ℕ} where
+    pub acted-by : (s : Step (Unit {0})) → run k (held m) ≡ of_step (λ u. acted) (held m) (if_text_accepted refuses x s)
+        → (r : Outcome (Unit {0}) Refusal) → StepBy s m m' r → CallContract k m m' (acted_of r)
+    acted-by s e = step-by k (λ u. acted) s e acted_of (λ v. refl) (λ q. refl)
+
+    pub added-by : (s : Step ℕ) → run k (held m) ≡ of_step at_place (held m) (if_text_accepted refuses x s)
+        → (r : Outcome ℕ Refusal) → StepBy s m m' r → CallContract k m m' (added_of r)
+    added-by s e = step-by k at_place s e added_of (λ v. refl) (λ q. refl)
+
+    pub placed_by : (s : Step Bool) → run k (held m) ≡ of_step field_placed (held m) (if_text_accepted refuses x s)
+        → (r : Outcome Bool Refusal) → StepBy s m m' r → CallContract k m m' (placed_of r)
+    placed_by s e = step-by k field_placed s e placed_of (λ v. refl) (λ q. refl)
+
 -- `add_export_group` called directly: 22 is checked before the step
 module _ {path : List ℕ} {index slots : ℕ} {m : List ℕ} (lent : Lent m) (a : CheckedText m (caller_text path) (Ok tt)) where
   pub too_many : 65536 < slots → CallContract (add_export_group path index slots) m m (refusal-of 22 slots 0)
@@ -156,4 +178,4 @@ module _ {path : List ℕ} {index slots : ℕ} {m : List ℕ} (lent : Lent m) (a
 
   pub added-directly : {m' : List ℕ} → slots ≤ 65536 → (r : Outcome ℕ Refusal) → StepBy (add_group path index slots (held m)) m m' r → CallContract (add_export_group path index slots) m m' (added_of r)
   unfolding run add_directly
-  added-directly h r t = step-by lent a (add_export_group path index slots) at_place (add_group path index slots (held m)) (rw (le-ltb 65536 slots h)) added_of (λ v. refl) (λ q. refl) r t
+  added-directly h r t = added-by lent a (add_export_group path index slots) (add_group path index slots (held m)) (rw (le-ltb 65536 slots h)) r t

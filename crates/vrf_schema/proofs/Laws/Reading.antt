@@ -15,9 +15,10 @@ use Rattle.vrf_text.specs.Text.{accepted, refusal}
 use Rattle.vrf_model.specs.Book.{no_increment}
 use Rattle.vrf_model.specs.Parser.{Parser, return, fail}
 use Rattle.vrf_model.specs.Block.{by_table, block}
-use Rattle.vrf_model.specs.Calls.{Call, Answer, block_counts, of_parsed, read_opened, run}
-use Rattle.vrf_model.specs.Answers.{refusal_of, counts_of, tables_of}
+use Rattle.vrf_model.specs.Calls.{Call, Answer, ran, block_counts, of_parsed, read_opened, run}
+use Rattle.vrf_model.specs.Answers.{refusal_of, ran_of, counts_of, tables_of}
 use Rattle.vrf_model.specs.declared.CheckpointTables.{CheckpointTables}
+use Rattle.vrf_model.specs.declared.Ran.{Ran}
 use Rattle.vrf_store.specs.Store.{counters_of}
 use Rattle.vrf_store.specs.Check.{check}
 use Rattle.vrf_store.specs.Inner.WellFormed.{WellFormed}
@@ -88,6 +89,19 @@ module _ {A : Type 0} (f : A → ℕ → Answer) (r : Parser A) (k : Call) {m : 
     unfolding read_opened of_parsed return fail
     window-read (Ok v) g = left _ (passed w a) (e ∙ ap (read_opened f r (held m)) (opened w a) ∙ ap (of_parsed f) (g.simulates no_increment)) g.good refl (g.counters (counters_of m) no_increment (unmoved (window-good w a) (λ i. (lent i).fits)).counters) g.long refl
     window-read (Err q) g = left _ (passed w a) (e ∙ ap (read_opened f r (held m)) (opened w a) ∙ ap (of_parsed f) (g.simulates no_increment)) g.good refl (g.counters (counters_of m) no_increment (unmoved (window-good w a) (λ i. (lent i).fits)).counters) g.long refl
+
+-- a call that reads a run or an object: its count or GUID, with the position after it
+abbrev pub ran_by : BitReader → Result ℕ Refusal → Result Ran Refusal
+ran_by d (Ok n) = Ok (record { count = n; pos = d.pos })
+ran_by d (Err q) = Err q
+
+ran-answer : (d : BitReader) (o : Result ℕ Refusal) → ran_of (ran_by d o) ≡ answer_by ran d o
+ran-answer d (Ok n) = refl
+ran-answer d (Err q) = refl
+
+pub run-read : (r : Parser ℕ) (k : Call) {m m' : List ℕ} {s : Bor (List ℕ)} {first count : ℕ} → run k (held m) ≡ read_opened ran r (held m) (window s.now first count) → Lent m
+    → (w d : BitReader) → CheckedWindow m s first count (Ok w) → (o : Result ℕ Refusal) → Refines r w d m m' o → CallContract k m m' (ran_of (ran_by d o))
+run-read r k e lent w d a o h = rw (ran-answer d o) (window-read ran r k e lent w d a o h)
 
 -- a call that reads a block
 pub block_read : (k : Call) {m m' : List ℕ} {s : Bor (List ℕ)} {first count : ℕ} → run k (held m) ≡ read_opened (λ n p. block_counts n) (block by_table) (held m) (window s.now first count) → Lent m

@@ -13,10 +13,20 @@ use Rattle.vrf_store.specs.Store.{Header, Store, header_of, long, counters_of, s
 use Rattle.vrf_store.specs.Inner.Valid.{Valid}
 use Rattle.vrf_store.specs.Inner.WellFormed.{WellFormed}
 use Rattle.vrf_store.specs.Inner.Stepped.{held}
-use Rattle.vrf_store.specs.Inner.Counters.{CountersStepped, replaced_alone, long_to, up}
+use Rattle.vrf_store.specs.declared.counters.Counter.{Counter}
+use Rattle.vrf_store.specs.declared.counters.Counter.TheVariants.{Schema, Guid, Dropped, Replaced, Renamed}
+use Rattle.vrf_store.specs.Inner.Counters.{CountersStepped, replaced_alone, step_of, word_of}
 use Rattle.vrf_store.proofs.Laws.Memory.Header.{parts-kept}
 use Rattle.vrf_store.proofs.Laws.Memory.Written.{header_by, counters_by, word_to}
 use Rattle.vrf_store.proofs.Laws.Memory.HeaderWords.{Has, has-now, has-header, has-counters, has_word}
+
+-- the memory with v as the 64-bit number at word i
+abbrev pub long_to : List ℕ → ℕ → ℕ → List ℕ
+long_to m i v = set_word (set_word m i (v % 2 ^ 32)) (i + 1) (v / 2 ^ 32)
+
+-- one more than the 64-bit number at word i, modulo 2 ^ 64
+abbrev pub up : List ℕ → ℕ → ℕ
+up m i = (long m i + 1) % 2 ^ 64
 
 -- ---- what a step leaves, and several steps
 
@@ -89,22 +99,11 @@ module _ (m : List ℕ) (b : Bytes m) (space : 128 ≤ length m) where
   fits i = omega arith
 
   module _ {m' : List ℕ} where
-    pub counted-schema : m' ≡ long_to m 11 (up m 11) → CountersStepped m m' schema_step
-    unfolding stepped schema_step counters_of long
-    counted-schema e = counted 11 (up m 11) (omega arith) (fits 11) e schema_step refl (cc (whole (up m 11), stays 13, stays 15, stays 17, stays 19))
-
-    pub counted-guid : m' ≡ long_to m 13 (up m 13) → CountersStepped m m' guid_step
-    unfolding stepped guid_step counters_of long
-    counted-guid e = counted 13 (up m 13) (omega arith) (fits 13) e guid_step refl (cc (whole (up m 13), stays 11, stays 15, stays 17, stays 19))
-
-    pub counted-dropped : m' ≡ long_to m 15 (up m 15) → CountersStepped m m' dropped_step
-    unfolding stepped dropped_step counters_of long
-    counted-dropped e = counted 15 (up m 15) (omega arith) (fits 15) e dropped_step refl (cc (whole (up m 15), stays 11, stays 13, stays 17, stays 19))
-
-    pub counted-replaced : m' ≡ long_to m 17 (up m 17) → CountersStepped m m' replaced_alone
-    unfolding stepped replaced_alone counters_of long
-    counted-replaced e = counted 17 (up m 17) (omega arith) (fits 17) e replaced_alone refl (cc (whole (up m 17), stays 11, stays 13, stays 15, stays 19))
-
-    pub counted-renamed : m' ≡ long_to m 19 (up m 19) → CountersStepped m m' (renamed_step 1)
-    unfolding stepped renamed_step counters_of long
-    counted-renamed e = counted 19 (up m 19) (omega arith) (fits 19) e (renamed_step 1) refl (cc (whole (up m 19), stays 11, stays 13, stays 15, stays 17))
+    -- a step of one counter leaves the other four
+    pub counted-one : (k : Counter) → m' ≡ long_to m (word_of k) (up m (word_of k)) → CountersStepped m m' (step_of k)
+    unfolding stepped schema_step guid_step dropped_step replaced_alone renamed_step counters_of long
+    counted-one Schema e = counted 11 (up m 11) (omega arith) (fits 11) e schema_step refl (cc (whole (up m 11), stays 13, stays 15, stays 17, stays 19))
+    counted-one Guid e = counted 13 (up m 13) (omega arith) (fits 13) e guid_step refl (cc (whole (up m 13), stays 11, stays 15, stays 17, stays 19))
+    counted-one Dropped e = counted 15 (up m 15) (omega arith) (fits 15) e dropped_step refl (cc (whole (up m 15), stays 11, stays 13, stays 17, stays 19))
+    counted-one Replaced e = counted 17 (up m 17) (omega arith) (fits 17) e replaced_alone refl (cc (whole (up m 17), stays 11, stays 13, stays 15, stays 19))
+    counted-one Renamed e = counted 19 (up m 19) (omega arith) (fits 19) e (renamed_step 1) refl (cc (whole (up m 19), stays 11, stays 13, stays 15, stays 17))

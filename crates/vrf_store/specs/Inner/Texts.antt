@@ -3,6 +3,7 @@ use Rattle.std.specs.Prelude.{◌≡◌, ℕ, ◌+◌, ◌-◌, ◌*◌, ◌^◌
 use Rattle.vrf_bitio.specs.Pasted.{pasted}
 use Rattle.vrf_words.specs.Words.{part, word}
 use Rattle.vrf_words.specs.Inner.Words.{set_word, Apart}
+use Rattle.vrf_table.specs.declared.TextSpan.{TextSpan}
 use Rattle.vrf_store.specs.UpTo.{sum_below}
 use Rattle.vrf_store.specs.Store.{Header, Store, allowances_of, header_of, store_of}
 use Rattle.vrf_store.specs.Inner.Stepped.{held, Stepped, KeysKept}
@@ -35,13 +36,14 @@ with_moved_texts s used half g r f x = record {
 abbrev pub with_text : Store → List ℕ → Store
 with_text s t = with_moved_texts s (s.header.used + length t) s.header.half s.guid_rows s.group_rows s.field_rows (pasted s.texts s.header.used t)
 
--- t is at place a of the texts, and only the bytes used change
-pub record Appended (m t m' : List ℕ) (a : ℕ) : Type 0 where
+-- t is after the bytes used, and only these change
+pub record Appended (m t m' : List ℕ) (span : TextSpan) : Type 0 where
   pub stepped : Stepped m m' (held m)
-  pub place : a ≡ (header_of m).used
-  pub used : (header_of m').used ≡ a + length t
+  pub place : span.at ≡ (header_of m).used
+  pub long : span.len ≡ length t
+  pub used : (header_of m').used ≡ span.at + span.len
   pub store : store_of m' ≡ with_text (store_of m) t
-  pub text : part (store_of m').texts a (length t) ≡ t
+  pub text : part (store_of m').texts span.at span.len ≡ t
 
 -- ---- rows of six words, from word i of a memory on
 

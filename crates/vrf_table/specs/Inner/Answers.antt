@@ -1,4 +1,4 @@
--- What the answers of `find_key`, `find_path`, `find_leaf` and the claim functions mean, and what these functions require of their texts.
+-- What the answers of the searches mean, and what they require of their texts.
 use Rattle.std.specs.Prelude.{◌≡◌, ℕ, ◌+◌, ◌^◌, ◌<◌, ◌≤◌, List, ◌++◌, length, Option as Answer, Some, None}
 use Rattle.std.proofs.Math.Option.{Option, none, some}
 use Rattle.vrf_path.specs.Inner.Leaf.{Dotless}

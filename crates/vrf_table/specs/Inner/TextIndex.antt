@@ -1,4 +1,4 @@
--- Names used in the contracts of `leaf_bucket`, `leaf_claim` and `first_claim`.
+-- Names used in the contracts of `leaf_bucket`, `LeafIndex::claim` and `LeafChains::first_claim`.
 use Rattle.std.specs.Prelude.{ℕ, List}
 use Rattle.vrf_path.specs.Base.{leaf_base}
 use Rattle.vrf_model.specs.Lookup.{Claim}

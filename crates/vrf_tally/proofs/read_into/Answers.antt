@@ -1,5 +1,4 @@
 -- `vrf_tally::read_into` satisfies its contract.
-use Rattle.std.proofs.lemmas.Result.{err_from_is_err_and}
 use Rattle.vrf_model.specs.Calls.{whole}
 use Rattle.vrf_tally.specs.Tally.{allowances}
 use Rattle.vrf_tally.proofs.Laws.Reading.{never-refused, answered-by}

@@ -1,7 +1,6 @@
 -- `vrf_tally::tally` satisfies its contract.
 use native.Mathlib.Omega.{arith}
 use lib.ListN.{length}
-use borrow.Author.Rules.{rules}
 use borrow.Author.Tests.{lt-ltb, le-ltb}
 use Rattle.vrf_tally.specs.Tally.{tally}
 use Rattle.vrf_tally.proofs.tally.Goals as goal

@@ -25,14 +25,19 @@ byte_of w (suc j) = byte_of (w / 256) j
 abbrev pub WordHolds : ℕ → List ℕ → Type 0
 WordHolds w l = (j : ℕ) → j < 8 → get_or l j 0 ≡ byte_of w j
 
--- k bytes of l may be passed: l is valid if and only if the rest is. k = 0 means that l is not valid.
-abbrev pub Passed : List ℕ → ℕ → Type 0
-Passed l zero = utf8 l ≡ false
-Passed l (suc k) = utf8 (drop (suc k) l) ≡ utf8 l
+-- a step of 1 to m bytes, or none
+abbrev pub Few : ℕ → Option ℕ → Type 0
+Few m (Some k) = (0 < k) × (k ≤ m)
+Few m None = Unit {0}
 
--- r bytes, at most m, may be passed in each text whose first eight bytes are in the word w
-pub record Utf8Step (w m r : ℕ) : Type 0 where
-  pub few : r ≤ m
+-- the bytes of l that may be passed: l is valid if and only if the rest is. None means that l is not valid.
+abbrev pub Passed : List ℕ → Option ℕ → Type 0
+Passed l (Some k) = utf8 (drop k l) ≡ utf8 l
+Passed l None = utf8 l ≡ false
+
+-- the step r, of at most m bytes, may be made in each text whose first eight bytes are in the word w
+pub record Utf8Step (w m : ℕ) (r : Option ℕ) : Type 0 where
+  pub few : Few m r
   pub passed : (l : List ℕ) → WordHolds w l → Passed l r
 
 -- bit b is 0 in each of the first n bytes of l

@@ -10,12 +10,12 @@ returns-then-n-gt96 c = put_mid-pasted _ _ _ _ c.copy_from_slice.ensures.after (
 pub returns-then-n-lt32 : goal.returns-then-n-lt32
 returns-then-n-lt32 c =
     let one = copy_step (copy_start _ _ c.args.at) 0 8 c.put_piece.ensures (omega arith) (omega arith) (omega arith) (omega arith) in
-    let two = copy_step one c.lower.result 8 c.put_piece-then-n-lt32.ensures (omega arith) (omega arith) (omega arith) (omega arith) in
-    let three = copy_step two c.lower-then-n-lt32.result 8 c.put_piece-then-n-lt32-2.ensures (omega arith) (omega arith) (omega arith) (omega arith) in
+    let two = copy_step one c.min.result 8 c.put_piece-then-n-lt32.ensures (omega arith) (omega arith) (omega arith) (omega arith) in
+    let three = copy_step two c.min-then-n-lt32.result 8 c.put_piece-then-n-lt32-2.ensures (omega arith) (omega arith) (omega arith) (omega arith) in
     copy-end (copy_step three _ 8 c.put_piece-then-n-lt32-3.ensures (omega arith) (omega arith) (omega arith) (omega arith)) (omega arith)
 
 pub returns-else-n-lt32 : goal.returns-else-n-lt32
 returns-else-n-lt32 c =
     let one = copy_step (copy_start _ _ c.args.at) 0 32 c.put_piece-else-n-lt32.ensures (omega arith) (omega arith) (omega arith) (omega arith) in
-    let two = copy_step one c.lower-else-n-lt32.result 32 c.put_piece-else-n-lt32-2.ensures (omega arith) (omega arith) (omega arith) (omega arith) in
+    let two = copy_step one c.min-else-n-lt32.result 32 c.put_piece-else-n-lt32-2.ensures (omega arith) (omega arith) (omega arith) (omega arith) in
     copy-end (copy_step two _ 32 c.put_piece-else-n-lt32-3.ensures (omega arith) (omega arith) (omega arith) (omega arith)) (omega arith)

@@ -10,9 +10,10 @@ use Rattle.vrf_model.specs.Book.{Content}
 use Rattle.vrf_model.specs.Writer.{encode_guid, encode_group, encode_all, encode_tables, encode_book}
 use Rattle.vrf_store.specs.Store.{Store, guid_at, content_of}
 use Rattle.vrf_store.proofs.Laws.Memory.UpTo.{length-up_to}
+use Rattle.vrf_store.proofs.Laws.Check.Steps.{rest_part}
 use Rattle.vrf_writer.specs.Inner.Prefix.{WritesPrefix}
 use Rattle.vrf_writer.specs.Inner.Groups.{group_at}
-use Rattle.vrf_writer.proofs.Laws.Prefix.{lent, back, pasted-last, under-start, under-pasted, lent_from, back_from, PartlyWritten}
+use Rattle.vrf_writer.proofs.Laws.Prefix.{back, pasted-last, under-start, under-pasted, lent_from, back_from, PartlyWritten}
 use Rattle.vrf_writer.proofs.Laws.Numbers.{word-length}
 
 -- what follows the GUID records, and what follows the GUID count
@@ -64,7 +65,7 @@ module _ (c : Content) where
   -- the first word is written last, when the tables after it are written
   module _ (l : List ℕ) (fits : length (encode_book c) ≤ length l) where
     pub tables-lent : length (encode_tables c) ≤ length (lent_from l 4)
-    tables-lent = rw (lent l 4, length-drop 4 l) (omega (arith, fits, block-four))
+    tables-lent = rw (rest_part l 4, length-drop 4 l) (omega (arith, fits, block-four))
 
     module _ {ys : List ℕ} {n : ℕ} (p : WritesPrefix (encode_tables c) (lent_from l 4) ys n) where
       pub tables-long : length (back_from l 4 ys) ≡ length l

@@ -1,10 +1,13 @@
 -- What the loops of the search for the first clash maintain, and what follows when they end. The proofs of `src/clash.rt` use these laws.
-use Rattle.std.specs.Prelude.{◌≡◌, ℕ, zero, suc, ◌+◌, ◌-◌, ◌*◌, ◌/◌, ◌%◌, ◌<◌, ◌≤◌, Bool, true, false, ◌||◌, ◌≢◌, ◌⊎◌, List, [], length, refl}
+use Rattle.std.specs.Prelude.{◌≡◌, ℕ, zero, suc, ◌+◌, ◌-◌, ◌*◌, ◌/◌, ◌%◌, ◌<◌, ◌≤◌, Bool, true, false, ◌||◌, ◌≢◌, ◌⊎◌, List, [], length, refl, Some, None, MatchOption}
+use Rattle.std.specs.Prelude.{Option as Found}
 use Rattle.std.proofs.Math.Path.{sym, ap}
 use Rattle.std.proofs.Common.{◌∙◌, inl, inr, ⊎_elim, arith}
 use Rattle.std.proofs.Math.Bool.{or-true}
+use Rattle.std.proofs.lemmas.Bool.{false_from_ne_true, or_parts}
 use Rattle.std.proofs.Math.Option.{Option, some, none}
 use Rattle.std.proofs.Math.Nat.{add-zero}
+use Prim.Native.Nat.{min}
 use Rattle.vrf_bitio.proofs.Laws.Cases.{by_order, by-test, clash}
 use Rattle.vrf_path.specs.Text.{same}
 use Rattle.vrf_path.specs.Keys.{has_key, key_is, default_alias, core_alias}
@@ -13,6 +16,7 @@ use Rattle.vrf_path.proofs.Laws.Keys.{default-length, core-length, has-by-parts,
 use Rattle.vrf_words.specs.Words.{word}
 use Rattle.vrf_model.specs.Book.{Group}
 use Rattle.vrf_model.specs.Lookup
+use Rattle.vrf_model.specs.Lookup.{place_or}
 use Rattle.vrf_model.specs.Writer.{first_clash}
 use Rattle.vrf_model.specs.Clash.{Clash}
 use Rattle.vrf_model.proofs.Laws.Places.{place_or-at}
@@ -28,7 +32,8 @@ use Rattle.vrf_store.specs.Inner.Valid.{Valid}
 use Rattle.vrf_store.proofs.Laws.Memory.UpTo.{length-up_to, get_d-up_to}
 use Rattle.vrf_store.proofs.Laws.Lookups.{path-entry}
 use Rattle.vrf_writer.specs.Inner.Groups.{group_at}
-use Rattle.vrf_writer.specs.Inner.Clash.{path_at, is_at, is_key_at, Keyed, Narrowed}
+use Rattle.vrf_writer.specs.Inner.Clash.{path_at, is_at, is_key_at, Keyed, Narrowed, FirstAfter, NoneAfter}
+use Rattle.vrf_writer.proofs.Laws.Groups.{path-is}
 
 -- the rest of k's chain, from the pointer p on, still has the last entry for k
 pub record Walking (s : Store) (k : List ℕ) (limit p : ℕ) : Type 0 where
@@ -82,10 +87,6 @@ module _ (f : ℕ → Group) (n : ℕ) where
 
 -- ---- narrowing down
 
-by-false : (b : Bool) → (b ≢ true) → b ≡ false
-by-false true h = absurd (h refl)
-by-false false h = refl
-
 module _ {p q : ℕ → Bool} where
   pub narrowed-as : {h least r : ℕ} → ((j : ℕ) → p j ≡ q j) → Narrowed p h least r → Narrowed q h least r
   narrowed-as e n = record {
@@ -106,8 +107,12 @@ module _ {p q : ℕ → Bool} where
         (λ g. let it = m.hit g in (it.0, rw it.1 (or-true (p b))));
   }
 
-pub narrowed_none : {p : ℕ → Bool} (h least : ℕ) → ((j : ℕ) → h < j → j < least → p j ≡ false) → Narrowed p h least least
+pub narrowed_none : {p : ℕ → Bool} (h least : ℕ) → NoneAfter p h least → Narrowed p h least least
 narrowed_none h least f = record { within = omega arith; clear = f; hit = λ l. absurd (omega (arith, l)) }
+
+-- narrowed down by testing one number after another
+pub scanned-start : (test : ℕ → Bool) (h : ℕ) → Scanned test h (h + 1)
+scanned-start test h = record { following = omega arith; clear = λ i a b. absurd (omega (arith, a, b)) }
 
 module _ {test : ℕ → Bool} {h j : ℕ} (n : Scanned test h j) where
   pub scanned-step : test j ≡ false → Scanned test h (j + 1)
@@ -116,9 +121,27 @@ module _ {test : ℕ → Bool} {h j : ℕ} (n : Scanned test h j) where
   pub scanned-hit : {to : ℕ} → j < to → test j ≡ true → Narrowed test h to j
   scanned-hit l e = record { within = omega (arith, l); clear = n.clear; hit = λ _. (n.following, e) }
 
+  pub scanned-end : {to : ℕ} → to ≤ j → Narrowed test h to to
+  scanned-end {to} l = narrowed_none h to (λ i a b. n.clear i a (omega (arith, b, l)))
+
 pub path-test : (s : Store) (k : List ℕ) (j : ℕ) {t : List ℕ} {b : Bool} → b ≡ same k t → t ≡ path_at s j → is_at s (some k) j ≡ b
 unfolding key_is
 path-test s k j e d = ap (same k) (sym d) ∙ sym e
+
+-- a search for the path k among the answers about the groups' paths
+module _ (s : Store) (k : List ℕ) where
+  abbrev pub path_looked : ℕ → Bool
+  path_looked j = same k (place_or (λ (g : Group). g.path) [] (content_of s).groups j)
+
+  is-looked : (j : ℕ) → j < s.header.groups → is_at s (some k) j ≡ path_looked j
+  is-looked j h = path-test s k j refl (path-is s j h refl)
+
+  pub first-looked : (h to : ℕ) (r : Found ℕ) → to ≤ s.header.groups
+      → MatchOption r ((j : ℕ) → h + 1 ≤ j → j < to → path_looked j ≡ false) (λ j. (h + 1 ≤ j) × (j < to) × (path_looked j ≡ true) × ((i : ℕ) → h + 1 ≤ i → i < j → path_looked i ≡ false))
+      → FirstAfter (is_at s (some k)) h to r
+  first-looked h to None few f = λ j a b. is-looked j (omega (arith, b, few)) ∙ f j (omega (arith, a)) b
+  first-looked h to (Some j) few f =
+      (omega (arith, f.0), f.1, is-looked j (omega (arith, f.1, few)) ∙ f.2, λ i a b. is-looked i (omega (arith, b, f.1, few)) ∙ f.3 i (omega (arith, a)) b)
 
 -- an alias that is absent, and one that is there
 module _ (s : Store) {o : Option (List ℕ)} {h least : ℕ} where
@@ -128,6 +151,16 @@ module _ (s : Store) {o : Option (List ℕ)} {h least : ℕ} where
 
   pub alias-some : {k : List ℕ} {r : ℕ} → o ≡ some k → Narrowed (is_at s (some k)) h least r → Narrowed (is_at s o) h least r
   alias-some e = narrowed-as (λ j. ap (λ (x : Option (List ℕ)). is_at s x j) (sym e))
+
+-- it is enough to search up to the last group with the path k
+module _ {s : Store} {k : List ℕ} {end h least to r : ℕ} (d : Keyed s k end) (e : to ≡ min end least) (n : Narrowed (is_at s (some k)) h to r) where
+  pub narrowed-less : r < to → Narrowed (is_at s (some k)) h least r
+  narrowed-less l = record { within = omega (arith, n.within, e); clear = n.clear; hit = λ _. n.hit l }
+
+  pub narrowed-not : least ≤ s.header.groups → to ≤ r → Narrowed (is_at s (some k)) h least least
+  narrowed-not few l = narrowed_none h least (λ j a b. by_order end j
+      (λ past. d.past j past (omega (arith, b, few)))
+      (λ before. n.clear j a (omega (arith, b, before, l, e))))
 
 -- ---- the chain of a key
 
@@ -142,16 +175,18 @@ key-lengths t k {d} e = by-test (has_key t k)
     (has-cases t k h)))
     (λ h. inl h)
 
--- a path that does not have the key k has no entry for k
-none_of : (a b c : Bool) → (a || (b || c)) ≡ false → (a ≡ false) × (b ≡ false) × (c ≡ false)
-none_of true b c e = clash cc
-none_of false true c e = clash cc
-none_of false false true e = clash cc
-none_of false false false e = (refl, refl, refl)
+-- a length difference other than these three
+pub far-key : (t k : List ℕ) {d : ℕ} → d ≡ (length t - length k) + (length k - length t) → d ≢ 0 → d ≢ 6 → d ≢ 9 → has_key t k ≡ false
+far-key t k e zero-not six-not nine-not =
+    ⊎_elim (λ h. h) (λ z. absurd (⊎_elim zero-not (λ z. ⊎_elim six-not nine-not z) z)) (key-lengths t k e)
 
+-- a path that does not have the key k has no entry for k
 number-none : (t k : List ℕ) (i : ℕ) → has_key t k ≡ false → key_is (key_numbered t i) k ≡ false
 unfolding key_numbered key_is
-number-none t k i e = go i (none_of (same t k) (key_is (default_alias t) k) (key_is (core_alias t) k) (sym (has-by-parts t k) ∙ e))
+number-none t k i e =
+    let parts = or_parts (same t k) (key_is (default_alias t) k || key_is (core_alias t) k) (sym (has-by-parts t k) ∙ e) in
+    let aliases = or_parts (key_is (default_alias t) k) (key_is (core_alias t) k) parts.1 in
+    go i (parts.0, aliases.0, aliases.1)
   where
     go : (i : ℕ) → (same t k ≡ false) × (key_is (default_alias t) k ≡ false) × (key_is (core_alias t) k ≡ false) → key_is (key_numbered t i) k ≡ false
     go zero n = n.0
@@ -203,7 +238,7 @@ module _ (s : Store) (k : List ℕ) where
     pub keyed-from : (r : ℕ) → r ≤ s.header.groups → (p ≤ 3 * r) ⊎ (limit < p) → Keyed s k r
     keyed-from r few ends = record {
       few = few;
-      past = λ j a b. by-false (is_at s (some k) j) (λ t.
+      past = λ j a b. false_from_ne_true (is_at s (some k) j) (λ t.
           let it = entry-before (3 * j) (omega (arith, b)) (own-entry j t) in
           ⊎_elim (λ g. omega (arith, it.0, g, a)) (λ g. omega (arith, it.1, g)) ends);
     }
@@ -217,6 +252,20 @@ narrowed-keys s h {t} et ed ec n m o = narrowed-as
     (narrowed-both n (narrowed-both m o))
 
 -- ---- the search
+
+-- before the first group is taken, nothing is excluded and nothing found
+pub sought-start : (test : ℕ → ℕ → Bool) (n : ℕ) → Sought test n 0 n
+sought-start test n = record { within = omega arith; clear = λ i j a. absurd (omega (arith, a)); hit = λ l. absurd (omega (arith, l)) }
+
+-- one more group narrows it down
+pub sought-step : {test : ℕ → ℕ → Bool} {n h least r : ℕ} → Sought test n h least → Narrowed (test h) h least r → Sought test n (h + 1) r
+sought-step {test} {n} {h} {least} {r} s k = record {
+  within = omega (arith, s.within, k.within);
+  clear = λ i j a b l. by_equal i h (λ q. rw q (k.clear j (omega (arith, b, q)) l)) (λ q. s.clear i j (omega (arith, a, q)) b (omega (arith, l, k.within)));
+  hit = λ l. by_order least r
+      (λ g. let same_place : r ≡ least = omega (arith, g, k.within) in rw same_place (s.hit (omega (arith, l, same_place))))
+      (λ g. record { earlier = h; before = (k.hit g).0; key = (k.hit g).1 });
+}
 
 module _ (s : Store) {n h least : ℕ} (e : n ≡ s.header.groups) (found : Sought (is_key_at s) n h least) (over : least ≤ h) where
   all-clear : (i j : ℕ) → i < j → j < least → is_key_at s i j ≡ false

@@ -87,10 +87,24 @@ slots-code f (suc n) =
     all-next (λ (q : ℕ). encode_slot q (f q)) (λ (q : ℕ). q) n
     ∙ rw (slots-code f n) (sym (slots-last (up_to f n) (f n) 0 ∙ rw place))
 
+-- what the answers about the group at a place say of it
 module _ (s : Store) (place : ℕ) (h : place < s.header.groups) where
+  pub path-is : {t : List ℕ} → t ≡ place_or (λ (g : Group). g.path) [] (content_of s).groups place → t ≡ (group_at s place).path
+  path-is e = e ∙ group-at s [] place (λ (g : Group). g.path) h
+
+  pub path-short : Valid s → {t : List ℕ} → t ≡ place_or (λ (g : Group). g.path) [] (content_of s).groups place → length t ≤ 4096
+  unfolding group_by
+  path-short v e = rw (path-is e) (v.group_table.texts place h).is_text.short
+
+  pub index-is : {n : ℕ} → n ≡ place_or (λ (g : Group). g.index) 0 (content_of s).groups place → n ≡ (group_at s place).index
+  index-is e = e ∙ group-at s 0 place (λ (g : Group). g.index) h
+
+  pub slots-are : {n : ℕ} → n ≡ place_or (λ (g : Group). length g.slots) 0 (content_of s).groups place → n ≡ length (group_at s place).slots
+  slots-are e = e ∙ group-at s 0 place (λ (g : Group). length g.slots) h
+
   slots-count : {n : ℕ} → n ≡ place_or (λ (g : Group). length g.slots) 0 (content_of s).groups place → n ≡ info s.group_rows place
   unfolding group_by
-  slots-count e = e ∙ group-at s 0 place (λ (g : Group). length g.slots) h ∙ length-up_to (slot_at s place) (info s.group_rows place)
+  slots-count e = slots-are e ∙ length-up_to (slot_at s place) (info s.group_rows place)
 
   pub group-slots-code : {n : ℕ} → n ≡ place_or (λ (g : Group). length g.slots) 0 (content_of s).groups place → encode_all (λ (q : ℕ). encode_slot q (slot_at s place q)) (up_to (λ (q : ℕ). q) n) ≡ encode_slots 0 (group_at s place).slots
   unfolding group_by

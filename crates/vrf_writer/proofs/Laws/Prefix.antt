@@ -24,16 +24,12 @@ pub record PartlyWritten (code before after : List ℕ) (at : ℕ) (rest : List 
 
 -- ---- a part of a slice, from a place on, lent to a writer
 
--- all bytes from place a on are lent
-pub lent : (xs : List ℕ) (a : ℕ) → lent_from xs a ≡ drop a xs
-lent xs a = rest_part xs a
-
--- and what the writer left is there afterwards
+-- what the writer left is there afterwards
 pub back : (xs v : List ℕ) (a : ℕ) {ys : List ℕ} → ys ≡ pasted (lent_from xs a) 0 v → back_from xs a ys ≡ pasted xs a v
 unfolding pasted
 back xs v a {ys} e =
     let none : drop (length xs - a) (drop a xs) ≡ [] = drop_of_length-le (drop a xs) {i = length xs - a} (omega (arith, length-drop a xs)) in
-    let written : ys ≡ v ++ drop (a + length v) xs = e ∙ rw (lent xs a, pasted-front (drop a xs) v, drop-drop (length v) a xs) in
+    let written : ys ≡ v ++ drop (a + length v) xs = e ∙ rw (rest_part xs a, pasted-front (drop a xs) v, drop-drop (length v) a xs) in
     rw (none, append-nil ys, written)
 
 -- a code at the front that is written later than the code that follows it
@@ -86,7 +82,7 @@ module _ {code l xs : List ℕ} {at : ℕ} (v rest : List ℕ) (u : PartlyWritte
 
   -- the part is written by a function that is lent the free part of the slice, which has space for it
   pub under-lent : {w : List ℕ} → w ≡ v → length w ≤ length (lent_from xs at)
-  under-lent e = rw (e, lent xs at, length-drop at xs) (omega (arith, part-space))
+  under-lent e = rw (e, rest_part xs at, length-drop at xs) (omega (arith, part-space))
 
   pub under_next : {w ys : List ℕ} {n : ℕ} → w ≡ v → WritesPrefix w (lent_from xs at) ys n → PartlyWritten code l (back_from xs at ys) (at + n) rest
   under_next e p = rw (p.count, e) (under-pasted (back xs v at (rw e at p.bytes)))

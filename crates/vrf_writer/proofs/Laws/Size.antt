@@ -23,6 +23,7 @@ use Rattle.vrf_writer.specs.Inner.Groups.{group_at}
 use Rattle.vrf_writer.specs.Inner.Size.{beyond, group_bytes, field_bytes}
 use Rattle.vrf_writer.proofs.Laws.Numbers.{word-length}
 use Rattle.vrf_writer.proofs.Laws.Each.{all-next}
+use Rattle.vrf_writer.proofs.Laws.Rows.{guid-good}
 use Rattle.vrf_writer.proofs.Laws.Guids.{outer_on, path_on}
 use Rattle.vrf_writer.proofs.Laws.Groups.{slot_at, slots-code}
 use Rattle.vrf_writer.proofs.Laws.Block.{block-length}
@@ -158,6 +159,10 @@ module _ {f : ℕ → ℕ} {n sum i : ℕ} (s : Summed f n sum i) where
   pub summed-short : (most : ℕ) → ((e : ℕ) → e < n → f e ≤ most) → sum ≤ most * i
   summed-short most h = omega (arith, s.total, sum-short f most i (λ e k. h e (omega (arith, k, s.within))))
 
+  -- with the next number too
+  pub summed-next : (most : ℕ) → ((e : ℕ) → e < n → f e ≤ most) → i < n → sum + f i ≤ most * (i + 1)
+  summed-next most h l = omega (arith, s.total, sum-next f i, sum-short f most (i + 1) (λ e k. h e (omega (arith, k, l))))
+
 module _ (r : Guid) where
   pub guid-length : length (encode_guid r) ≡ length (encode_packed r.guid) + length (encode_packed r.outer) + 2 + length (encode_text r.path)
   unfolding encode_guid
@@ -175,6 +180,10 @@ pub guid-short : {r x : List ℕ} {i : ℕ} → GuidRow r x i → length (encode
 guid-short {r} {x} {i} g = omega (arith, guid-within (guid_in r x i), g.texts.short)
 
 module _ {s : Store} (v : Valid s) where
+  -- the records that a loop has added up
+  pub guids-short : {r x : List ℕ} {n sum i : ℕ} → r ≡ s.guid_rows → x ≡ s.texts → n ≡ s.header.guids → Summed (λ (e : ℕ). length (encode_guid (guid_in r x e))) n sum i → sum ≤ 4113 * i
+  guids-short er ex en q = summed-short q 4113 (λ e k. guid-short (guid-good v ex er (omega (arith, k, en))))
+
   pub group-short : (g : ℕ) → g < s.header.groups → group_bytes (group_at s g) ≤ 69647
   unfolding group_bytes group_by
   group-short g h =

@@ -1,6 +1,7 @@
 -- Contracts of the search for the first clash: the first group whose path is a key of an earlier group (refusal 44). The search takes one
 -- group after another. The keys of each group narrow down where the first clash can be.
-use Rattle.std.specs.Prelude.{◌≡◌, ℕ, ◌<◌, ◌≤◌, Bool, true, false, List}
+use Rattle.std.specs.Prelude.{◌≡◌, ℕ, ◌<◌, ◌≤◌, Bool, true, false, List, MatchOption}
+use Rattle.std.specs.Prelude.{Option as Found}
 use Rattle.std.proofs.Math.Option.{Option, some}
 use Rattle.vrf_path.specs.Keys.{has_key, key_is}
 use Rattle.vrf_store.specs.Store.{Store}
@@ -22,8 +23,16 @@ pub record Keyed (s : Store) (k : List ℕ) (r : ℕ) : Type 0 where
   pub few : r ≤ s.header.groups
   pub past : (j : ℕ) → r ≤ j → j < s.header.groups → is_at s (some k) j ≡ false
 
+-- no number after h and below j passes the test
+abbrev pub NoneAfter : (ℕ → Bool) → ℕ → ℕ → Type 0
+NoneAfter test h j = (i : ℕ) → h < i → i < j → test i ≡ false
+
 -- r is the first number after h and below `least` that passes the test, or `least` if none does
 pub record Narrowed (test : ℕ → Bool) (h least r : ℕ) : Type 0 where
   pub within : r ≤ least
-  pub clear : (j : ℕ) → h < j → j < r → test j ≡ false
+  pub clear : NoneAfter test h r
   pub hit : r < least → (h < r) × (test r ≡ true)
+
+-- the first number after h and below `to` that passes the test, if one does
+abbrev pub FirstAfter : (ℕ → Bool) → ℕ → ℕ → Found ℕ → Type 0
+FirstAfter test h to r = MatchOption r (NoneAfter test h to) (λ j. (h < j) × (j < to) × (test j ≡ true) × NoneAfter test h j)

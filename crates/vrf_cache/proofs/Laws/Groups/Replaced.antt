@@ -12,6 +12,7 @@ use Rattle.vrf_model.specs.Book.{Slot, empty, filled, Group, Allowances, Content
 use Rattle.vrf_model.specs.Lookup.{place_or, index_place, slot_name, slot_at}
 use Rattle.vrf_model.specs.Setting.{schema_step, replaced_step, with_groups, new_group}
 use Rattle.vrf_model.proofs.Laws.Held.{sum-none}
+use Rattle.vrf_table.specs.declared.TextSpan.{TextSpan}
 use Rattle.vrf_store.specs.UpTo.{sum_below}
 use Rattle.vrf_store.specs.Store.{allowances_of, header_of, store_of}
 use Rattle.vrf_store.specs.Inner.WellFormed.{WellFormed}
@@ -167,7 +168,7 @@ module _ {m path : List ℕ} {e index slots : ℕ} {w : Option ℕ} (asked : Gro
       space = omega (arith, n.text-is, path-bytes d.good known-now, ap (λ (g : Group). length g.path) own-now, (allows replaced-counts replaced-allowed outcome z).text-fits, ap (λ (a : Allowances). a.text) (n.allowed-are ∙ changed-allowed asked.good asked.known emptied));
     }
 
-    module _ {m₂ : List ℕ} {a : ℕ} (g : PathWritten m₁ path m₂ e a) where
+    module _ {m₂ : List ℕ} {span : TextSpan} (g : PathWritten m₁ path m₂ e span) where
       abbrev s : Stepped m₁ m₂ (with_group (held m₁) e (repath g.freed.old))
       s = g.freed.stepped
 
@@ -180,10 +181,10 @@ module _ {m path : List ℕ} {e index slots : ℕ} {w : Option ℕ} (asked : Gro
           ∙ ap (λ (x : Group). get_or x.slots p empty) own-now
           ∙ none-there (length own.slots) p
 
-      pub replace-old : OldGroup m₂ e index a (length path) slots × Emptied (held m₂) e
+      pub replace-old : OldGroup m₂ e index span.at span.len slots × Emptied (held m₂) e
       replace-old = (old-group asked-now g, bare)
 
-      pub replace-taken : {m₃ m₄ m₅ : List ℕ} → Stepped m₂ m₃ (with_groups (held m₂) (set (held m₂).groups e (new_group (part (store_of m₂).texts a (length path)) index slots))) → CountersStepped m₃ m₄ schema_step → CountersStepped m₄ m₅ replaced_alone → Taken (replacing (held m) e new) e m m₅
+      pub replace-taken : {m₃ m₄ m₅ : List ℕ} → Stepped m₂ m₃ (with_groups (held m₂) (set (held m₂).groups e (new_group (part (store_of m₂).texts span.at span.len) index slots))) → CountersStepped m₃ m₄ schema_step → CountersStepped m₄ m₅ replaced_alone → Taken (replacing (held m) e new) e m m₅
       replace-taken t k l =
           let over = set-over (held m₁) e (listed d.good known-now) (repath g.freed.old) new ∙ ap (λ (x : Content). with_groups x (set x.groups e new)) d.content ∙ set-over (held m) e there emptied new in
           kept replaced-counts replaced-allowed outcome e replaced_step z (counted-then (then d (then s (stepped-as (rw (s.content, g.text) at t) over))) (counted-replacing k l))

@@ -18,6 +18,7 @@ use Rattle.vrf_model.proofs.Laws.Held.{sum-append, sum-none}
 use Rattle.vrf_table.specs.Chain.{last_below}
 use Rattle.vrf_table.specs.Table.{key, key_hit, find_key}
 use Rattle.vrf_table.proofs.Laws.Chain.{Passes, last_below-passes}
+use Rattle.vrf_table.specs.declared.TextSpan.{TextSpan}
 use Rattle.vrf_store.specs.Store.{allowances_of, header_of, store_of, group_by}
 use Rattle.vrf_store.specs.Inner.Stepped.{held, Stepped}
 use Rattle.vrf_store.specs.Inner.Fields.{with_group}
@@ -74,8 +75,8 @@ module _ {m path : List ℕ} {index slots : ℕ} {w : Option ℕ} (asked : Group
     pub new-space : (header_of m).held + length path ≤ (allowances_of m).text
     new-space = new-allows.text-fits
 
-    module _ {m₁ : List ℕ} {a : ℕ} (p : TextWritten m path m₁ a) where
-      pub new-group : NewGroup m₁ index a (length path) slots
+    module _ {m₁ : List ℕ} {span : TextSpan} (p : TextWritten m path m₁ span) where
+      pub new-group : NewGroup m₁ index span.at span.len slots
       new-group =
           let n = numbers p.stepped.good p.stepped.content (counts asked.good) in
           let groups = ap (λ (x : Allowances). x.groups) (n.allowed-are ∙ allowed m) in
@@ -86,10 +87,10 @@ module _ {m path : List ℕ} {index slots : ℕ} {w : Option ℕ} (asked : Group
             few = omega (arith, groups, n.groups-are, new-allows.groups-fit);
             placed = put-placed p asked.is_text;
             handles = asked.handles;
-            space = omega (arith, text, n.text-is, new-allows.text-fits);
+            space = omega (arith, text, n.text-is, new-allows.text-fits, p.long);
           }
 
-      pub new-taken : {m₂ m₃ : List ℕ} {n : ℕ} → n ≡ (header_of m).groups → Stepped m₁ m₂ (with_new (held m₁) (new_group (part (store_of m₁).texts a (length path)) index slots)) → CountersStepped m₂ m₃ schema_step → Taken (appending (held m) new) n m m₃
+      pub new-taken : {m₂ m₃ : List ℕ} {n : ℕ} → n ≡ (header_of m).groups → Stepped m₁ m₂ (with_new (held m₁) (new_group (part (store_of m₁).texts span.at span.len) index slots)) → CountersStepped m₂ m₃ schema_step → Taken (appending (held m) new) n m m₃
       new-taken at s k =
           rw (at ∙ sym (counts asked.good).groups-are)
           (kept added-counts added-allowed e (length (held m).groups) schema_step z (counted-then (then p.stepped (rw (p.stepped.content, p.text) at s)) k))
@@ -146,31 +147,32 @@ module _ {m : List ℕ} {e n : ℕ} (x : PathFits m e n) where
         let k = numbers t.good t.content (changed-counts x.good x.known (repath []) {fields = (header_of m).fields} {text = (header_of m).held - path_bytes (held m) e} refl (omega (arith, own, texts-held x.good x.known))) in
         record { old = []; stepped = t; space = omega (arith, k.text-is, x.space, ap (λ (a : Allowances). a.text) (k.allowed-are ∙ changed-allowed x.good x.known (repath []))) }
 
-pub given : {m path m₁ m₂ : List ℕ} {e a : ℕ} → PathReleased m m₁ e (length path) → TextWritten m₁ path m₂ a → PathWritten m path m₂ e a
+pub given : {m path m₁ m₂ : List ℕ} {e : ℕ} {span : TextSpan} → PathReleased m m₁ e (length path) → TextWritten m₁ path m₂ span → PathWritten m path m₂ e span
 given {m₁ = m₁} f p =
     let k = numbers p.stepped.good p.stepped.content (counts f.stepped.good) in
     record {
       freed = record { old = f.old; stepped = same_then f.stepped p.stepped; space = omega (arith, f.space, k.text-is, ap (λ (x : Allowances). x.text) (k.allowed-are ∙ allowed m₁)) };
       within = p.within;
+      long = p.long;
       text = p.text;
     }
 
 -- the new path is written, and the group takes it
-module _ {m path m' : List ℕ} {e index slots a : ℕ} (asked : GroupRequest m path e index slots) (g : PathWritten m path m' e a) where
+module _ {m path m' : List ℕ} {e index slots : ℕ} {span : TextSpan} (asked : GroupRequest m path e index slots) (g : PathWritten m path m' e span) where
   abbrev s : Stepped m m' (with_group (held m) e (repath g.freed.old))
   s = g.freed.stepped
 
   abbrev low : e < length (held m).groups
   low = listed asked.good asked.known
 
-  pub old-group : OldGroup m' e index a (length path) slots
+  pub old-group : OldGroup m' e index span.at span.len slots
   old-group = record {
     good = s.good;
     known = omega (arith, (counts s.good).groups-are, ap (λ (c : Content). length c.groups) s.content, length-with (held m) e low (repath g.freed.old), low);
     free = rw (ap (λ (c : Content). index_place index c.groups) s.content ∙ index_kept (held m) e low (repath g.freed.old) index refl) asked.free;
     placed = record { within = g.within; is_text = rw g.text asked.is_text };
     handles = asked.handles;
-    space = omega (arith, g.freed.space);
+    space = omega (arith, g.freed.space, g.long);
   }
 
 -- ---- a group that is merged
@@ -219,7 +221,7 @@ module _ {m path : List ℕ} {e index slots : ℕ} {w : Option ℕ} (asked : Gro
     merged : {m₁ m₂ : List ℕ} → Stepped m m₁ (with_group (held m) e by) → CountersStepped m₁ m₂ schema_step → Taken (merging (held m) e path index slots) e m m₂
     merged s k = kept merged-counts merged-allowed q e schema_step z (counted-then s k)
 
-    pub merge-taken : {m₁ m₂ m₃ : List ℕ} {a : ℕ} → PathWritten m path m₁ e a → Stepped m₁ m₂ (with_group (held m₁) e (merged_group (part (store_of m₁).texts a (length path)) index slots)) → CountersStepped m₂ m₃ schema_step → Taken (merging (held m) e path index slots) e m m₃
+    pub merge-taken : {m₁ m₂ m₃ : List ℕ} {span : TextSpan} → PathWritten m path m₁ e span → Stepped m₁ m₂ (with_group (held m₁) e (merged_group (part (store_of m₁).texts span.at span.len) index slots)) → CountersStepped m₂ m₃ schema_step → Taken (merging (held m) e path index slots) e m m₃
     unfolding merged_group
     merge-taken g s k =
         let first = g.freed.stepped in

@@ -1,5 +1,5 @@
 -- The laws about one more field.
-use Rattle.std.proofs.Common.{refl}
+use Rattle.std.proofs.Common.{refl, rules}
 use Rattle.std.proofs.lemmas.Result.{err_from_is_err_and}
 use Rattle.vrf_cache.proofs.Laws.Fields.{new-full, new-space, new-field, new-taken}
 use Rattle.vrf_cache.proofs.fields.add_field.Goals as goal
@@ -9,11 +9,11 @@ returns-in_err-fits c =
     let p = err_from_is_err_and c.from_residual.result c.from_residual.ensures.1 in
     rw (p.1, p.2) (new-full c.args.checksum c.requires refl c.in_err-fits.ensures refl)
 
-pub keep_text-at-requires : goal.keep_text-at-requires
-keep_text-at-requires c = new-space c.args.checksum c.requires refl c.in_ok-fits.ensures
+pub keep_text-span-requires : goal.keep_text-span-requires
+keep_text-span-requires c = new-space c.args.checksum c.requires refl c.in_ok-fits.ensures
 
 pub push_field-requires : goal.push_field-requires
-push_field-requires c = (c.keep_text-at.ensures.stepped.good, new-field c.args.checksum c.requires refl c.in_ok-fits.ensures c.keep_text-at.ensures)
+push_field-requires c = (c.keep_text-span.ensures.stepped.good, new-field c.args.checksum c.requires refl c.in_ok-fits.ensures c.keep_text-span.ensures)
 
 pub returns : goal.returns
-returns c = new-taken c.args.checksum c.requires refl c.in_ok-fits.ensures c.keep_text-at.ensures (λ i. (c.slice_known-1.given i).fits) c.push_field.ensures
+returns c = new-taken c.args.checksum c.requires refl c.in_ok-fits.ensures c.keep_text-span.ensures (λ i. search rules) c.push_field.ensures

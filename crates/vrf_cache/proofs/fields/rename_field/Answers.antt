@@ -17,13 +17,13 @@ returns-in_err-fits c =
 pub set_field_row-requires : goal.set_field_row-requires
 set_field_row-requires c = let p = c.requires.0 in (p.good, release-path p.good p.known)
 
-pub keep_text-at-requires : goal.keep_text-at-requires
-keep_text-at-requires c = other-space c.args.checksum c.requires.0 c.requires.1 c.row_name.ensures refl c.in_ok-fits.ensures c.set_field_row.ensures
+pub keep_text-span-requires : goal.keep_text-span-requires
+keep_text-span-requires c = other-space c.args.checksum c.requires.0 c.requires.1 c.row_name.ensures refl c.in_ok-fits.ensures c.set_field_row.ensures
 
 pub set_field_row-requires-2 : goal.set_field_row-requires-2
 set_field_row-requires-2 c =
-    (c.keep_text-at.ensures.stepped.good, other_name c.args.checksum c.requires.0 c.requires.1 c.row_name.ensures refl c.in_ok-fits.ensures c.set_field_row.ensures c.keep_text-at.ensures)
+    (c.keep_text-span.ensures.stepped.good, other_name c.args.checksum c.requires.0 c.requires.1 c.row_name.ensures refl c.in_ok-fits.ensures c.set_field_row.ensures c.keep_text-span.ensures)
 
 pub returns : goal.returns
 returns c =
-    other-taken c.args.checksum c.requires.0 c.requires.1 c.row_name.ensures refl c.in_ok-fits.ensures c.set_field_row.ensures c.keep_text-at.ensures c.set_field_row-2.ensures c.step_renamed.ensures
+    other-taken c.args.checksum c.requires.0 c.requires.1 c.row_name.ensures refl c.in_ok-fits.ensures c.set_field_row.ensures c.keep_text-span.ensures c.set_field_row-2.ensures c.step.ensures

@@ -9,11 +9,11 @@ returns-in_err-fits c =
     let p = err_from_is_err_and c.from_residual.result c.from_residual.ensures.1 in
     rw (p.1, p.2) (new-full c.requires refl c.in_err-fits.ensures refl)
 
-pub keep_text-at-requires : goal.keep_text-at-requires
-keep_text-at-requires c = (c.requires.good, new-space c.requires refl c.in_ok-fits.ensures)
+pub keep_text-span-requires : goal.keep_text-span-requires
+keep_text-span-requires c = (c.requires.good, new-space c.requires refl c.in_ok-fits.ensures)
 
 pub push_group-requires : goal.push_group-requires
-push_group-requires c = new-group c.requires refl c.in_ok-fits.ensures c.keep_text-at.ensures
+push_group-requires c = new-group c.requires refl c.in_ok-fits.ensures c.keep_text-span.ensures
 
 pub returns : goal.returns
-returns c = new-taken c.requires refl c.in_ok-fits.ensures c.keep_text-at.ensures c.groups-n.ensures c.push_group.ensures c.step_schema.ensures
+returns c = new-taken c.requires refl c.in_ok-fits.ensures c.keep_text-span.ensures c.groups-n.ensures c.push_group.ensures c.step.ensures

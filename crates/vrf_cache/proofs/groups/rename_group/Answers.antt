@@ -16,12 +16,12 @@ returns-in_err-fits c =
     let p = err_from_is_err_and c.from_residual.result c.from_residual.ensures.1 in
     rw (p.1, p.2) (merge-full c.requires (ap (λ (n : ℕ). passes_by c.args.m.now 0 0 0 n (length c.args.path.now)) (ap length c.group_path.ensures)) c.in_err-fits.ensures refl)
 
-pub put_path-at-requires : goal.put_path-at-requires
-put_path-at-requires c = merge-fits c.requires (ap (λ (n : ℕ). passes_by c.args.m.now 0 0 0 n (length c.args.path.now)) (ap length c.group_path.ensures)) c.in_ok-fits.ensures
+pub put_path-span-requires : goal.put_path-span-requires
+put_path-span-requires c = merge-fits c.requires (ap (λ (n : ℕ). passes_by c.args.m.now 0 0 0 n (length c.args.path.now)) (ap length c.group_path.ensures)) c.in_ok-fits.ensures
 
 pub set_group-requires : goal.set_group-requires
-set_group-requires c = old-group c.requires c.put_path-at.ensures
+set_group-requires c = old-group c.requires c.put_path-span.ensures
 
 pub returns : goal.returns
 returns c =
-    merge-taken c.requires (ap (λ (n : ℕ). passes_by c.args.m.now 0 0 0 n (length c.args.path.now)) (ap length c.group_path.ensures)) c.in_ok-fits.ensures c.put_path-at.ensures c.set_group.ensures c.step_schema.ensures
+    merge-taken c.requires (ap (λ (n : ℕ). passes_by c.args.m.now 0 0 0 n (length c.args.path.now)) (ap length c.group_path.ensures)) c.in_ok-fits.ensures c.put_path-span.ensures c.set_group.ensures c.step.ensures

@@ -16,13 +16,13 @@ returns-in_err-fits c =
     let p = err_from_is_err_and c.from_residual.result c.from_residual.ensures.1 in
     rw (p.1, p.2) (replace-full c.requires (ap (λ (n : ℕ). passes_by c.args.m.now 0 0 0 n (length c.args.path.now)) c.group_text-gone.ensures) c.in_err-fits.ensures refl)
 
-pub put_path-at-requires : goal.put_path-at-requires
-put_path-at-requires c = replace-fits c.requires (ap (λ (n : ℕ). passes_by c.args.m.now 0 0 0 n (length c.args.path.now)) c.group_text-gone.ensures) c.in_ok-fits.ensures c.drop_fields.ensures
+pub put_path-span-requires : goal.put_path-span-requires
+put_path-span-requires c = replace-fits c.requires (ap (λ (n : ℕ). passes_by c.args.m.now 0 0 0 n (length c.args.path.now)) c.group_text-gone.ensures) c.in_ok-fits.ensures c.drop_fields.ensures
 
 pub replace_group-requires : goal.replace_group-requires
 replace_group-requires c =
-    replace-old c.requires (ap (λ (n : ℕ). passes_by c.args.m.now 0 0 0 n (length c.args.path.now)) c.group_text-gone.ensures) c.in_ok-fits.ensures c.drop_fields.ensures c.put_path-at.ensures
+    replace-old c.requires (ap (λ (n : ℕ). passes_by c.args.m.now 0 0 0 n (length c.args.path.now)) c.group_text-gone.ensures) c.in_ok-fits.ensures c.drop_fields.ensures c.put_path-span.ensures
 
 pub returns : goal.returns
 returns c =
-    replace-taken c.requires (ap (λ (n : ℕ). passes_by c.args.m.now 0 0 0 n (length c.args.path.now)) c.group_text-gone.ensures) c.in_ok-fits.ensures c.drop_fields.ensures c.put_path-at.ensures c.replace_group.ensures c.step_schema.ensures c.step_replaced.ensures
+    replace-taken c.requires (ap (λ (n : ℕ). passes_by c.args.m.now 0 0 0 n (length c.args.path.now)) c.group_text-gone.ensures) c.in_ok-fits.ensures c.drop_fields.ensures c.put_path-span.ensures c.replace_group.ensures c.step.ensures c.step-2.ensures

@@ -18,13 +18,13 @@ returns-in_err-fits c =
 pub set_guid-requires : goal.set_guid-requires
 set_guid-requires c = release-path c.requires
 
-pub keep_text-at-requires : goal.keep_text-at-requires
-keep_text-at-requires c = other-space c.args.outer c.requires (ap (λ (n : ℕ). passes_by c.args.m.now 0 0 0 n (length c.args.path.now)) (ap length c.guid_path.ensures)) c.in_ok-fits.ensures c.set_guid.ensures
+pub keep_text-span-requires : goal.keep_text-span-requires
+keep_text-span-requires c = other-space c.args.outer c.requires (ap (λ (n : ℕ). passes_by c.args.m.now 0 0 0 n (length c.args.path.now)) (ap length c.guid_path.ensures)) c.in_ok-fits.ensures c.set_guid.ensures
 
 pub set_guid-requires-2 : goal.set_guid-requires-2
 set_guid-requires-2 c =
-    other-guid c.args.outer c.requires (ap (λ (n : ℕ). passes_by c.args.m.now 0 0 0 n (length c.args.path.now)) (ap length c.guid_path.ensures)) c.in_ok-fits.ensures c.set_guid.ensures c.keep_text-at.ensures
+    other-guid c.args.outer c.requires (ap (λ (n : ℕ). passes_by c.args.m.now 0 0 0 n (length c.args.path.now)) (ap length c.guid_path.ensures)) c.in_ok-fits.ensures c.set_guid.ensures c.keep_text-span.ensures
 
 pub returns : goal.returns
 returns c =
-    other-taken c.args.outer c.requires (ap (λ (n : ℕ). passes_by c.args.m.now 0 0 0 n (length c.args.path.now)) (ap length c.guid_path.ensures)) c.in_ok-fits.ensures c.set_guid.ensures c.keep_text-at.ensures c.set_guid-2.ensures c.step_guid.ensures
+    other-taken c.args.outer c.requires (ap (λ (n : ℕ). passes_by c.args.m.now 0 0 0 n (length c.args.path.now)) (ap length c.guid_path.ensures)) c.in_ok-fits.ensures c.set_guid.ensures c.keep_text-span.ensures c.set_guid-2.ensures c.step.ensures

@@ -1,5 +1,5 @@
 -- The cases of `set_guid`.
-use Rattle.std.proofs.Common.{sym, ap, ◌∙◌}
+use Rattle.std.proofs.Common.{sym, ap, ◌∙◌, rules}
 use Rattle.vrf_table.specs.Inner.Answers.{entry}
 use Rattle.vrf_cache.proofs.Laws.Guids.{set_new, found, set_same, set_other}
 use Rattle.vrf_cache.proofs.guids.set_net_guid_path.Goals as goal
@@ -9,13 +9,10 @@ is_set-requires c = found c.args.m.now c.args.guid c.args.path.now c.args.outer 
 
 pub returns-then-is_set : goal.returns-then-is_set
 returns-then-is_set c =
-    set_same c.args.m.now c.args.guid c.args.path.now c.args.outer c.requires.0 (sym c.find_guid.ensures ∙ ap entry c.in-Some.is) (λ i. (c.slice_known-1.given i).fits) (sym c.if-is_set.true ∙ c.is_set.ensures)
+    set_same c.args.m.now c.args.guid c.args.path.now c.args.outer c.requires.0 (sym c.find_guid.ensures ∙ ap entry c.in-Some.is) (λ i. search rules) (sym c.if-is_set.true ∙ c.is_set.ensures)
 
 pub change_guid-requires : goal.change_guid-requires
 change_guid-requires c = found c.args.m.now c.args.guid c.args.path.now c.args.outer c.requires.0 (sym c.find_guid.ensures ∙ ap entry c.in-Some.is) c.requires.1
-
-pub add_guid-requires : goal.add_guid-requires
-add_guid-requires c = record { good = c.requires.0; is_text = c.requires.1; new = sym c.find_guid.ensures ∙ ap entry c.in-None.is }
 
 pub returns-else-is_set : goal.returns-else-is_set
 returns-else-is_set c =

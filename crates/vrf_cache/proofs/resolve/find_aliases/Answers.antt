@@ -3,11 +3,11 @@ use Rattle.std.proofs.Common.{sym, arith}
 use Rattle.std.proofs.lemmas.Grind.{common_steps}
 use Rattle.vrf_model.specs.Lookup.{found_or_next}
 use Rattle.vrf_store.specs.Inner.Stepped.{held}
-use Rattle.vrf_cache.proofs.Laws.Resolve.{alias-turn, default-fits}
+use Rattle.vrf_cache.proofs.Laws.Resolve.{alias-turn, at-most, default-fits}
 use Rattle.vrf_cache.proofs.resolve.find_aliases.Goals as goal
 
 pub find_alias-requires : goal.find_alias-requires
-find_alias-requires c = (c.requires.0, default-fits c.args.path.now c.requires.1 c.default_object_alias.ensures.text)
+find_alias-requires c = (c.requires.0, at-most (omega (arith, c.requires.1)) _ (default-fits c.args.path.now c.default_object_alias.ensures.text))
 
 pub returns : goal.returns
 unfolding found_or_next

@@ -5,6 +5,6 @@ use Rattle.vrf_checkpoint.proofs.groups.read_groups.Given as goal
 
 abbrev pub invariant-loop : goal.invariant-loop
 invariant-loop l = record {
-  sum : SumLeft (λ _. block_group) l.n l.fn.reader l.fn.m l.counter l.reader l.m l.fields;
+  sum : SumLeft (λ _. block_group) l.n l.fn.reader l.fn.m l.counter l.at l.m l.fields;
   few : l.fields ≤ 65536 * l.counter;
 }

@@ -10,8 +10,8 @@ loop-entry-init c = let h = c.default-t.ensures in entries_none _ _ _ c.requires
 pub read_guid-requires : goal.read_guid-requires
 read_guid-requires c = entries-counting c.loop-entry.invariant (omega (arith, c.requires.1)) c.requires.2 c.loop-entry-test.true
 
-pub returns-in_err-t : goal.returns-in_err-t
-returns-in_err-t c =
+pub returns-in_err-t-clause-reads : goal.returns-in_err-t-clause-reads
+returns-in_err-t-clause-reads c =
     let i = c.loop-entry.invariant in
     rw (err-passed _ _ c.from_residual.ensures.1) (entries-refused i c.loop-entry-test.true _ (c.in_err-t.ensures i.table i.represents))
 
@@ -20,5 +20,5 @@ loop-entry-preserved c =
     let i = c.loop-entry.invariant in
     entries-more i c.loop-entry-test.true (c.in_ok-t.ensures i.table i.represents)
 
-pub returns : goal.returns
-returns c = entries-all c.loop-entry.invariant c.loop-entry-test.false
+pub returns-clause-reads : goal.returns-clause-reads
+returns-clause-reads c = entries-all c.loop-entry.invariant c.loop-entry-test.false

@@ -11,4 +11,4 @@ returns-in_err-handle c =
 
 pub returns : goal.returns
 unfolding exported_field
-returns c = reads (read-on packed _ c.requires.0 c.in_ok-handle.ensures) _ _ c.named_field.result c.named_field.ensures
+returns c = reads (read-on packed _ c.requires.0 c.in_ok-handle.ensures) _ _ c.named_field.result c.named_field.ensures.reads

@@ -2,6 +2,6 @@
 use Rattle.vrf_model.specs.Runs.{fields_run}
 use Rattle.vrf_reader.proofs.fields.read_net_field_exports.Goals as goal
 
-pub returns : goal.returns
+pub returns-clause-reads : goal.returns-clause-reads
 unfolding fields_run
-returns c = c.read_run.ensures
+returns-clause-reads c = c.read_run.ensures.reads

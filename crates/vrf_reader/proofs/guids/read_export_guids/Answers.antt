@@ -2,6 +2,6 @@
 use Rattle.vrf_model.specs.Runs.{guid_run}
 use Rattle.vrf_reader.proofs.guids.read_export_guids.Goals as goal
 
-pub returns : goal.returns
+pub returns-clause-reads : goal.returns-clause-reads
 unfolding guid_run
-returns c = c.read_run.ensures
+returns-clause-reads c = c.read_run.ensures.reads

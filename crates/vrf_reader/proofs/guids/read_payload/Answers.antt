@@ -12,14 +12,14 @@ returns-in_err-payload c =
 pub returns-in_err-guid : goal.returns-in_err-guid
 unfolding object_at
 returns-in_err-guid c =
-    passed-on _ _ _ c.from_residual-in_err-guid.ensures.1 (payload-refused _ _ (sub-inside c.args.size c.requires.1.1 c.in_ok-payload.ensures) _ c.in_err-guid.ensures)
+    passed-on _ _ _ c.from_residual-in_err-guid.ensures.1 (payload-refused _ _ (sub-inside c.args.size c.requires.1.1 c.in_ok-payload.ensures) _ c.in_err-guid.ensures.reads)
 
 pub returns-then-left-ne0 : goal.returns-then-left-ne0
 unfolding object_at
 returns-then-left-ne0 c =
-    payload-trailing _ _ (sub-inside c.args.size c.requires.1.1 c.in_ok-payload.ensures) _ c.in_ok-guid.ensures (rw c.bits_remaining-left.ensures) c.if-left-ne0.true
+    payload-trailing _ _ (sub-inside c.args.size c.requires.1.1 c.in_ok-payload.ensures) _ c.in_ok-guid.ensures.reads (rw c.bits_remaining-left.ensures) c.if-left-ne0.true
 
 pub returns : goal.returns
 unfolding object_at
 returns c =
-    payload-whole _ _ (sub-inside c.args.size c.requires.1.1 c.in_ok-payload.ensures) _ c.in_ok-guid.ensures (rw c.bits_remaining-left.ensures) c.if-left-ne0.false
+    payload-whole _ _ (sub-inside c.args.size c.requires.1.1 c.in_ok-payload.ensures) _ c.in_ok-guid.ensures.reads (rw c.bits_remaining-left.ensures) c.if-left-ne0.false

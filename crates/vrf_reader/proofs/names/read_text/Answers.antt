@@ -2,5 +2,5 @@
 use Rattle.vrf_reader.proofs.Laws.Texts.{text_in}
 use Rattle.vrf_reader.proofs.names.read_text.Goals as goal
 
-pub returns : goal.returns
-returns c = text_in _ _ c.args.scratch.now _ c.requires c.read_fstring.result c.read_fstring.ensures
+pub returns-clause-reads : goal.returns-clause-reads
+returns-clause-reads c = text_in _ _ c.args.scratch.now _ c.requires c.read_fstring.result c.read_fstring.ensures

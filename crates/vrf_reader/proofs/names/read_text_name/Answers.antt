@@ -12,19 +12,19 @@ use Rattle.vrf_reader.proofs.names.read_text_name.Goals as goal
 pub returns-in_err-n : goal.returns-in_err-n
 unfolding text_name
 returns-in_err-n c =
-    text-passed-on _ _ _ _ _ c.from_residual.ensures.1 (refused-first c.args.reader.now fstring _ c.in_err-n.ensures)
+    text-passed-on _ _ _ _ _ c.from_residual.ensures.1 (refused-first c.args.reader.now fstring _ c.in_err-n.ensures.reads)
 
 pub returns-in_err-number : goal.returns-in_err-number
 returns-in_err-number c =
-    text-passed-on _ _ _ _ _ c.from_residual-in_err-number.ensures.1 (numberless c.in_ok-n.ensures _ c.in_err-number.ensures.0)
+    text-passed-on _ _ _ _ _ c.from_residual-in_err-number.ensures.1 (numberless c.in_ok-n.ensures.reads _ c.in_err-number.ensures.0)
 
 pub returns-in_err-render_fname : goal.returns-in_err-render_fname
 returns-in_err-render_fname c =
-    text-passed-on _ _ _ _ _ c.from_residual-in_err-render_fname.ensures.1 (text_name_in c.in_ok-n.ensures _ _ (omega arith) c.in_ok-number.ensures (to_z-of_z {w = w32} (search rules)) (Err c.in_err-render_fname.field-0.0) c.in_err-render_fname.ensures)
+    text-passed-on _ _ _ _ _ c.from_residual-in_err-render_fname.ensures.1 (text_name_in c.in_ok-n.ensures.reads _ _ (omega arith) c.in_ok-number.ensures (to_z-of_z {w = w32} (search rules)) (Err c.in_err-render_fname.field-0.0) c.in_err-render_fname.ensures)
 
 pub overflow_cast-result : goal.overflow_cast-result
 overflow_cast-result c = record { fits = omega (arith, is-small _ c.in_ok-render_fname.ensures) }
 
 pub returns : goal.returns
 returns c =
-    text_name_in c.in_ok-n.ensures _ _ (omega arith) c.in_ok-number.ensures (to_z-of_z {w = w32} (search rules)) (Ok c.in_ok-render_fname.field-0) c.in_ok-render_fname.ensures
+    text_name_in c.in_ok-n.ensures.reads _ _ (omega arith) c.in_ok-number.ensures (to_z-of_z {w = w32} (search rules)) (Ok c.in_ok-render_fname.field-0) c.in_ok-render_fname.ensures

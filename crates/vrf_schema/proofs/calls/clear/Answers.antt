@@ -1,9 +1,8 @@
 -- `vrf_schema::calls::clear` satisfies its contract.
 use Rattle.std.proofs.Common.{refl}
 use Rattle.std.proofs.lemmas.Result.{err_from_is_err_and}
-use Rattle.vrf_model.specs.Calls.{acted, if_text_accepted, run}
-use Rattle.vrf_model.specs.Answers.{acted_of}
-use Rattle.vrf_schema.proofs.Laws.Checked.{call-refused, admitted-good, step-by}
+use Rattle.vrf_model.specs.Calls.{if_text_accepted, run}
+use Rattle.vrf_schema.proofs.Laws.Checked.{call-refused, admitted-good, acted-by}
 use Rattle.vrf_schema.proofs.calls.clear.Goals as goal
 
 pub returns-in_err-check_book : goal.returns-in_err-check_book
@@ -14,4 +13,4 @@ clear-requires c = admitted-good c.in_ok-check_book.ensures
 
 pub returns : goal.returns
 unfolding run if_text_accepted
-returns c = step-by c.slice_known-1.given c.in_ok-check_book.ensures _ (λ u. acted) _ refl acted_of (λ v. refl) (λ q. refl) c.clear.result c.clear.ensures
+returns c = acted-by c.slice_known-1.given c.in_ok-check_book.ensures _ _ refl c.clear.result c.clear.ensures

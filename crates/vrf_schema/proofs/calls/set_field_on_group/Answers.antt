@@ -2,8 +2,7 @@
 use Rattle.std.proofs.Common.{refl}
 use Rattle.std.proofs.lemmas.Result.{err_from_is_err_and}
 use Rattle.vrf_model.specs.Calls.{field_placed, if_text_accepted, run}
-use Rattle.vrf_model.specs.Answers.{placed_of}
-use Rattle.vrf_schema.proofs.Laws.Checked.{step-refused, admitted-good, admitted-text, step-by}
+use Rattle.vrf_schema.proofs.Laws.Checked.{step-refused, admitted-good, admitted-text, placed_by}
 use Rattle.vrf_schema.proofs.calls.set_field_on_group.Goals as goal
 
 pub returns-in_err-check_book_text : goal.returns-in_err-check_book_text
@@ -17,4 +16,4 @@ set_field_on_group-requires c = (admitted-good c.in_ok-check_book_text.ensures, 
 
 pub returns : goal.returns
 unfolding run if_text_accepted
-returns c = step-by c.slice_known-1.given c.in_ok-check_book_text.ensures _ field_placed _ refl placed_of (λ v. refl) (λ q. refl) c.set_field_on_group.result c.set_field_on_group.ensures
+returns c = placed_by c.slice_known-1.given c.in_ok-check_book_text.ensures _ _ refl c.set_field_on_group.result c.set_field_on_group.ensures

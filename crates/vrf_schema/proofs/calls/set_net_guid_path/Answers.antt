@@ -2,8 +2,7 @@
 use Rattle.std.proofs.Common.{refl}
 use Rattle.std.proofs.lemmas.Result.{err_from_is_err_and}
 use Rattle.vrf_model.specs.Calls.{acted, if_text_accepted, run}
-use Rattle.vrf_model.specs.Answers.{acted_of}
-use Rattle.vrf_schema.proofs.Laws.Checked.{step-refused, admitted-good, admitted-text, step-by}
+use Rattle.vrf_schema.proofs.Laws.Checked.{step-refused, admitted-good, admitted-text, acted-by}
 use Rattle.vrf_schema.proofs.calls.set_net_guid_path.Goals as goal
 
 pub returns-in_err-check_book_text : goal.returns-in_err-check_book_text
@@ -17,4 +16,4 @@ set_net_guid_path-requires c = (admitted-good c.in_ok-check_book_text.ensures, a
 
 pub returns : goal.returns
 unfolding run if_text_accepted
-returns c = step-by c.slice_known-1.given c.in_ok-check_book_text.ensures _ (λ u. acted) _ refl acted_of (λ v. refl) (λ q. refl) c.set_net_guid_path.result c.set_net_guid_path.ensures
+returns c = acted-by c.slice_known-1.given c.in_ok-check_book_text.ensures _ _ refl c.set_net_guid_path.result c.set_net_guid_path.ensures

@@ -1,7 +1,6 @@
 -- `vrf_schema::checked::check_book` satisfies its contract.
 use mathlib.Core.Bool.{not}
 use mathlib.Core.Path.{ap}
-use borrow.Author.Rules.{rules}
 use Rattle.vrf_store.proofs.Laws.Check.Steps.{fails, holds}
 use Rattle.vrf_schema.proofs.checked.check_book.Goals as goal
 

@@ -17,4 +17,4 @@ read_checkpoint_tables-requires c = (window-good _ c.in_ok-reader.ensures, omega
 
 pub returns : goal.returns
 unfolding run read_window
-returns c = block_read _ refl c.slice_known-1.given c.in_ok-reader.reader c.read_checkpoint_tables.new.reader c.in_ok-reader.ensures c.read_checkpoint_tables.result c.read_checkpoint_tables.ensures
+returns c = block_read _ refl c.slice_known-1.given c.in_ok-reader.reader c.read_checkpoint_tables.new.reader c.in_ok-reader.ensures c.read_checkpoint_tables.result c.read_checkpoint_tables.ensures.reads

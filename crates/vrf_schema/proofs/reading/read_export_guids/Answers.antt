@@ -4,7 +4,7 @@ use Rattle.std.proofs.Common.{arith, refl}
 use Rattle.std.proofs.lemmas.Result.{err_from_is_err_and}
 use Rattle.vrf_model.specs.Runs.{guid_run}
 use Rattle.vrf_model.specs.Calls.{ran, read_window, run}
-use Rattle.vrf_schema.proofs.Laws.Reading.{window-good, window-within, window-refused, window-read}
+use Rattle.vrf_schema.proofs.Laws.Reading.{window-good, window-within, window-refused, run-read}
 use Rattle.vrf_schema.proofs.reading.read_export_guids.Goals as goal
 
 pub returns-in_err-reader : goal.returns-in_err-reader
@@ -20,8 +20,8 @@ pub returns-in_err-count : goal.returns-in_err-count
 unfolding run read_window
 returns-in_err-count c =
     let p = err_from_is_err_and c.from_residual-in_err-count.result c.from_residual-in_err-count.ensures.1 in
-    rw (p.1, p.2) (window-read ran guid_run _ refl c.slice_known-1.given c.in_ok-reader.reader c.read_export_guids.new.reader c.in_ok-reader.ensures (Err _) c.in_err-count.ensures)
+    rw (p.1, p.2) (run-read guid_run _ refl c.slice_known-1.given c.in_ok-reader.reader c.read_export_guids.new.reader c.in_ok-reader.ensures (Err _) c.in_err-count.ensures.reads)
 
 pub returns : goal.returns
 unfolding run read_window
-returns c = window-read ran guid_run _ refl c.slice_known-1.given c.in_ok-reader.reader c.read_export_guids.new.reader c.in_ok-reader.ensures (Ok _) c.in_ok-count.ensures
+returns c = run-read guid_run _ refl c.slice_known-1.given c.in_ok-reader.reader c.read_export_guids.new.reader c.in_ok-reader.ensures (Ok _) c.in_ok-count.ensures.reads

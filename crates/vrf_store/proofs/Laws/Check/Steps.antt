@@ -6,9 +6,8 @@ use Rattle.std.proofs.lemmas.Bool.{not-true, not-false}
 use Rattle.vrf_path.specs.Leaf.{leaf}
 use Rattle.vrf_path.specs.Inner.Leaf.{Dotless}
 use Rattle.vrf_path.proofs.Laws.Leaf.{leaf-is}
-use Rattle.vrf_table.specs.Table.{text}
+use Rattle.vrf_table.specs.Table.{at, len, text}
 use Rattle.vrf_store.specs.UpTo.{sum_below}
-use Rattle.vrf_store.specs.Inner.Check.{Walked}
 use Rattle.vrf_store.proofs.Laws.Check.Check.{row-length}
 
 -- r is the answer of a test, and the code branches on `!r`
@@ -25,12 +24,11 @@ sum-next f i = rw add-one
 
 -- ---- keys and leaves of group g, where path is its text
 
-module _ {r x l h : List ℕ} {per b n : ℕ} (w : Walked r x l h per b n) {g : ℕ} (k : g < n) {path : List ℕ} (e : path ≡ text r x g) where
-  pub path-short : length path ≤ 4096
-  path-short = rw e (omega (arith, row-length (length x) x r (omega arith) g (w.texts g k), w.short g k))
+pub path-short : (r x : List ℕ) (g : ℕ) {path : List ℕ} → path ≡ text r x g → at r g + len r g ≤ length x → len r g ≤ 4096 → length path ≤ 4096
+path-short r x g e within short = rw e (omega (arith, row-length (length x) x r (omega arith) g within, short))
 
-  pub leaf-short : (i : ℕ) → length (take (length path - i) (drop i path)) < 2 ^ 31
-  leaf-short i = omega (arith, path-short, length-take (length path - i) (drop i path), length-drop i path)
+pub leaf-short : (path : List ℕ) → length path < 2 ^ 31 → (i : ℕ) → length (take (length path - i) (drop i path)) < 2 ^ 31
+leaf-short path h i = omega (arith, h, length-take (length path - i) (drop i path), length-drop i path)
 
 -- `&t[i..]` is the text without its first i bytes
 pub rest_part : (t : List ℕ) (i : ℕ) → take (length t - i) (drop i t) ≡ drop i t

@@ -17,11 +17,11 @@ not-shared Ambiguous h ne = absurd (ne refl)
 not-shared (Only e) h ne = refl
 
 -- a path's leaf, if it has one, is `&path[i..]`
-module _ (find : List ℕ → Claims) (β : List ℕ → ℕ) {path t : List ℕ} (e : path ≡ t) where
-  pub leaf-joins : (i : ℕ) {o : Option ℕ} → leaf path ≡ some (drop i path) → o ≡ unless_shared (find (take (length path - i) (drop i path))) (β (take (length path - i) (drop i path))) → o ≡ joined_by find β (leaf t)
+module _ (find : List ℕ → Claims) (β : List ℕ → ℕ) (path : List ℕ) where
+  pub leaf-joins : (i : ℕ) {o : Option ℕ} → leaf path ≡ some (drop i path) → o ≡ unless_shared (find (take (length path - i) (drop i path))) (β (take (length path - i) (drop i path))) → o ≡ joined_by find β (leaf path)
   unfolding joined_by
-  leaf-joins i el eo = rw (← e, el) (rw (rest_part path i) at eo)
+  leaf-joins i el eo = rw el (rw (rest_part path i) at eo)
 
-  pub no-leaf-joins : leaf path ≡ none → none ≡ joined_by find β (leaf t)
+  pub no-leaf-joins : leaf path ≡ none → none ≡ joined_by find β (leaf path)
   unfolding joined_by
-  no-leaf-joins el = rw (← e, el)
+  no-leaf-joins el = rw el

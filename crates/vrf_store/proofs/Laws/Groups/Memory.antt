@@ -12,7 +12,7 @@ use Rattle.vrf_store.specs.Layout
 use Rattle.vrf_store.specs.Store.{Store, Header, allowances_of, header_of, words, store_by, store_of}
 use Rattle.vrf_store.specs.Inner.Valid.{Shaped}
 use Rattle.vrf_store.specs.Inner.WellFormed.{Enough}
-use Rattle.vrf_store.specs.Inner.Check.{Walked}
+use Rattle.vrf_store.specs.Inner.Indexes.{Readable}
 use Rattle.vrf_store.specs.Inner.Memory.{WrittenStore}
 use Rattle.vrf_store.specs.Inner.Groups.{linked, headed, BucketBelow, push_key, push_path, push_leaf, Indexed, Relinked, Indexable, Pushable, MoreIndexed, BucketsOf}
 use Rattle.vrf_table.specs.Inner.Answers.{entry}
@@ -75,20 +75,14 @@ module _ {m : List ℕ} {g : ℕ} (i : Indexable m g) where
   pub path-short : length (text (store_of m).group_rows (store_of m).texts g) ≤ 4096
   path-short = omega (arith, text-long (store_of m).group_rows (store_of m).texts g path_inside, i.short g (omega arith))
 
--- so are the rows and paths of the groups before it, so their leaves can be looked up
-module _ {m : List ℕ} {g : ℕ} (i : Indexable m g) {r x l h : List ℕ} {b : ℕ} (er : r ≡ (store_of m).group_rows) (ex : x ≡ (store_of m).texts) (el : l ≡ (store_of m).leaf_links) (eh : h ≡ (store_of m).leaf_heads) (eb : b ≡ Layout.leaf_buckets (allowances_of m)) where
-  pub leaves-walked : Walked r x l h 4 b (g + 1)
-  leaves-walked =
-      let shaped = need-shaped (header_of m) m i.enough in
-      record {
-        rows = omega (arith, ap length er, shaped.group_rows, i.low);
-        links = omega (arith, ap length el, shaped.leaf_links, i.low);
-        heads = omega (arith, ap length eh, eb, shaped.leaf_heads);
-        buckets = omega (arith, eb);
-        few = omega (arith, i.low, i.few);
-        texts = λ e k. rw er (omega (arith, ap length ex, shaped.texts, i.within e (omega (arith, k))));
-        short = λ e k. rw er (i.short e (omega (arith, k)));
-      }
+  -- so are the paths of the groups before it, and their leaves can be looked up
+  pub readable-before : Readable m g
+  readable-before = record {
+    enough = i.enough;
+    few = i.few;
+    low = omega (arith, i.low);
+    texts = λ e k. omega (arith, (need-shaped (header_of m) m i.enough).texts, i.within e (omega (arith, k)));
+  }
 
 -- two sequences of writes, one after the other
 pub then : {m m' m'' : List ℕ} {s : Store} (f : Store → Store) → WrittenStore m m' s → WrittenStore m' m'' (f (store_of m')) → WrittenStore m m'' (f s)

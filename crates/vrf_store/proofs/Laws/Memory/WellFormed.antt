@@ -1,12 +1,13 @@
 -- Laws for reading a well-formed memory: its parts and numbers satisfy what the searches and the row functions require.
 use Rattle.std.specs.Prelude.{◌≡◌, ℕ, ◌+◌, ◌*◌, ◌^◌, ◌<◌, ◌≤◌, List, length}
-use Rattle.std.proofs.Common.{ap, arith}
+use Rattle.std.proofs.Common.{refl, ap, arith}
 use Rattle.vrf_table.specs.Table.{at, len}
-use Rattle.vrf_table.specs.Inner.Answers.{Suffixed, RowTexts}
+use Rattle.vrf_table.specs.Inner.Answers.{RowTexts}
 use Rattle.vrf_store.specs.Layout
-use Rattle.vrf_store.specs.Store.{Store}
+use Rattle.vrf_store.specs.Store.{Store, header_of}
 use Rattle.vrf_store.specs.Inner.Valid.{ValidTable, Valid}
-use Rattle.vrf_store.specs.Inner.Lookups.{NameLeaves}
+use Rattle.vrf_store.specs.Inner.WellFormed.{WellFormed}
+use Rattle.vrf_store.specs.Inner.Indexes.{Readable}
 use Rattle.vrf_store.proofs.Laws.Check.Valid.{valid-fits}
 
 module _ {s : Store} (v : Valid s) where
@@ -42,5 +43,5 @@ module _ {s : Store} (v : Valid s) where
     pub path-walk : {b : ℕ} → b ≡ Layout.path_buckets s.header.allowed → {links heads : List ℕ} {k : ℕ} → links ≡ s.path_links → heads ≡ s.path_heads → k < 2 ^ 31 → (24 * n ≤ length r) × (12 * n ≤ length links) × (4 * b ≤ length heads) × (0 < b) × (n ≤ 100000) × RowTexts r x n × (k < 2 ^ 31)
     path-walk eb el eh h = let lr = ap length er in let ll = ap length el in let lh = ap length eh in (omega arith, omega arith, omega arith, omega arith, omega arith, group-texts, h)
 
-    pub leaf-walk : {name : List ℕ} {k : ℕ} {a b c : List ℕ} → NameLeaves name k a b c → {links : List ℕ} → links ≡ s.leaf_links → Suffixed name a × Suffixed name b × Suffixed name c × (24 * n ≤ length r) × (4 * n ≤ length links) × (n ≤ 100000) × RowTexts r x n
-    leaf-walk l el = let lr = ap length er in let ll = ap length el in (l.first, l.second, l.third, omega arith, omega arith, omega arith, group-texts)
+pub readable : {m : List ℕ} → WellFormed m → Readable m (header_of m).groups
+readable w = record { enough = w.enough; few = omega (arith, w.valid.header); low = w.valid.header.groups; texts = group-texts w.valid refl refl refl }

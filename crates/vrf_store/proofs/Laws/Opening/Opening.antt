@@ -2,12 +2,12 @@
 use Rattle.std.specs.Prelude.{◌≡◌, ℕ, ◌+◌, ◌*◌, ◌^◌, ◌<◌, ◌≤◌, List, length, replicate, nat_lt, Option as Answer, Some, None}
 use Rattle.std.proofs.Math.Path.{refl, ap}
 use Rattle.std.proofs.Common.{sym, ◌∙◌, arith}
-use Rattle.std.proofs.Math.Option.{Option, none, some}
+use Rattle.std.proofs.Math.Option.{Option, none, some, get_or}
 use Rattle.std.proofs.lemmas.List.{length-replicate}
 use borrow.Author.Tests.{ltb-false, lt-ltb, le-ltb}
 use Rattle.vrf_bitio.specs.Pasted.{pasted}
 use Rattle.vrf_bitio.proofs.Laws.Pasted.{pasted_length}
-use Rattle.vrf_bitio.proofs.Laws.Cases.{by_cond, clash}
+use Rattle.vrf_bitio.proofs.Laws.Cases.{by_cond}
 use Rattle.vrf_words.specs.Words.{word}
 use Rattle.vrf_words.specs.Inner.Words.{set_word}
 use Rattle.vrf_model.specs.Book.{Allowances, zero_counters, fresh, fresh_book}
@@ -26,16 +26,33 @@ use Rattle.vrf_store.proofs.Laws.Opening.Empty.{empty-good, empty-held}
 
 -- ---- allowances above their tops
 
+-- a number above 0 is the number of an allowance
+above : (o : Option ℕ) → 0 < get_or o 0 → o ≡ some (get_or o 0)
+above none h = absurd (omega (arith, h))
+above (some which) h = refl
+
 module _ (a : Allowances) where
-  within : above_top a ≡ none → Allowed a
+  -- every allowance is within its top
+  record Topped (o : Option ℕ) : Type 0 where
+    tops : Allowed a
+    is-none : o ≡ none
+
+  within : get_or (above_top a) 0 ≡ 0 → Topped (above_top a)
   unfolding above_top
   within =
-      by_cond (λ (o : Option ℕ). o ≡ none → Allowed a) (nat_lt 1000000 a.guids) (λ e z. clash (cc)) (λ g.
-      by_cond (λ (o : Option ℕ). o ≡ none → Allowed a) (nat_lt 100000 a.groups) (λ e z. clash (cc)) (λ r.
-      by_cond (λ (o : Option ℕ). o ≡ none → Allowed a) (nat_lt 1000000 a.fields) (λ e z. clash (cc)) (λ f.
-      by_cond (λ (o : Option ℕ). o ≡ none → Allowed a) (nat_lt 67108864 a.text) (λ e z. clash (cc)) (λ t.
-      by_cond (λ (o : Option ℕ). o ≡ none → Allowed a) (nat_lt 1000000 a.literals) (λ e z. clash (cc)) (λ l z.
-      record { guids = ltb-false 1000000 a.guids g; groups = ltb-false 100000 a.groups r; fields = ltb-false 1000000 a.fields f; text = ltb-false 67108864 a.text t; literals = ltb-false 1000000 a.literals l })))))
+      by_cond (λ (o : Option ℕ). get_or o 0 ≡ 0 → Topped o) (nat_lt 1000000 a.guids) (λ e z. absurd (omega (arith, z))) (λ g.
+      by_cond (λ (o : Option ℕ). get_or o 0 ≡ 0 → Topped o) (nat_lt 100000 a.groups) (λ e z. absurd (omega (arith, z))) (λ r.
+      by_cond (λ (o : Option ℕ). get_or o 0 ≡ 0 → Topped o) (nat_lt 1000000 a.fields) (λ e z. absurd (omega (arith, z))) (λ f.
+      by_cond (λ (o : Option ℕ). get_or o 0 ≡ 0 → Topped o) (nat_lt 67108864 a.text) (λ e z. absurd (omega (arith, z))) (λ t.
+      by_cond (λ (o : Option ℕ). get_or o 0 ≡ 0 → Topped o) (nat_lt 1000000 a.literals) (λ e z. absurd (omega (arith, z))) (λ l z.
+      record {
+        tops = record { guids = ltb-false 1000000 a.guids g; groups = ltb-false 100000 a.groups r; fields = ltb-false 1000000 a.fields f; text = ltb-false 67108864 a.text t; literals = ltb-false 1000000 a.literals l };
+        is-none = refl;
+      })))))
+
+  -- the same, where 0 stands for no allowance
+  zero : {which : ℕ} → which ≡ get_or (above_top a) 0 → which ≤ 0 → get_or (above_top a) 0 ≡ 0
+  zero e h = omega (arith, e, h)
 
   -- r is the number of the allowance that is above its top, if one is
   module _ {r : Answer ℕ} (e : entry r ≡ above_top a) where
@@ -56,7 +73,7 @@ module _ (a : Allowances) where
       none-there = sym e ∙ ap entry h
 
       pub within-tops : Allowed a
-      within-tops = within none-there
+      within-tops = (within (ap (λ (o : Option ℕ). get_or o 0) none-there)).tops
 
       pub needed-within : memory_needed a ≡ Layout.need a
       unfolding memory_needed zero_above

@@ -37,17 +37,18 @@ module _ (m t : List ℕ) (good : WellFormed m) (fits : (header_of m).used + len
   texts-long = omega (arith, fits, good.valid.shaped.texts)
 
   -- each table keeps its texts
-  appended : Appended m t m' (header_of m).used
+  appended : Appended m t m' (record { at = (header_of m).used; len = length t })
   appended = record {
     stepped = moved-texts-stepped good ((header_of m).used + length t) (header_of m).half
         (same-grown t texts-long good.valid.guid_table) (same-grown t texts-long good.valid.group_table) (same-grown t texts-long good.valid.field_table)
         fits good.valid.header.half written;
     place = refl;
+    long = refl;
     used = ap (λ (s : Store). s.header.used) written.store;
     store = written.store;
     text = ap (λ (s : Store). part s.texts (header_of m).used (length t)) written.store ∙ part-pasted-same (store_of m).texts t (header_of m).used texts-long;
   }
 
 -- the memory after both writes
-pub append-written : (m t m₁ m₂ : List ℕ) (a half : ℕ) → WellFormed m × ((header_of m).used + length t ≤ (allowances_of m).text) → a ≡ (header_of m).used → half ≡ half_at (allowances_of m) (header_of m).half → m₁ ≡ pasted m (half + a) t → m₂ ≡ set_word m₁ 9 (a + length t) → Appended m t m₂ a
+pub append-written : (m t m₁ m₂ : List ℕ) (a half : ℕ) → WellFormed m × ((header_of m).used + length t ≤ (allowances_of m).text) → a ≡ (header_of m).used → half ≡ half_at (allowances_of m) (header_of m).half → m₁ ≡ pasted m (half + a) t → m₂ ≡ set_word m₁ 9 (a + length t) → Appended m t m₂ (record { at = a; len = length t })
 append-written m t m₁ m₂ a half pre p q e₁ e₂ = rw (e₂, e₁, p, q) (appended m t pre.0 pre.1)

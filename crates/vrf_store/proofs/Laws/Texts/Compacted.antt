@@ -257,6 +257,12 @@ pub record CompactionStart (m : List ℕ) (from to guids groups fields groups_at
   pub group-rows : groups_at ≡ Layout.group_rows_at (allowances_of m)
   pub field-rows : fields_at ≡ Layout.field_rows_at (allowances_of m)
 
+-- the places of the rows follow from the allowances
+pub compaction-start : {m : List ℕ} {from to guids groups fields g r : ℕ} → from ≡ half_at (allowances_of m) (header_of m).half → to ≡ half_at (allowances_of m) (1 - (header_of m).half)
+    → guids ≡ (header_of m).guids → groups ≡ (header_of m).groups → fields ≡ (header_of m).fields → g ≡ (allowances_of m).guids → r ≡ (allowances_of m).groups
+    → CompactionStart m from to guids groups fields (33 + 10 * g) (33 + 10 * g + 3 + 16 * r)
+compaction-start old new n k f g r = record { old-half = old; new-half = new; guid-count = n; group-count = k; field-count = f; group-rows = omega (arith, g); field-rows = omega (arith, g, r) }
+
 module _ {m : List ℕ} (good : WellFormed m) {from to guids groups fields groups_at fields_at : ℕ} (found : CompactionStart m from to guids groups fields groups_at fields_at) where
   pub first-movable : Movable m 32 guids from to 0 (allowances_of m).text
   first-movable = rw (found.guid-count, found.old-half, found.new-half) (guids-movable m good)

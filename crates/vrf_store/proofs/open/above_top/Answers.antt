@@ -3,31 +3,32 @@ use Rattle.std.proofs.Common.{le-ltb, lt-ltb}
 use Rattle.vrf_store.specs.Opening.{above_top}
 use Rattle.vrf_store.proofs.open.above_top.Goals as goal
 
-pub returns-then-guids-gt1000000 : goal.returns-then-guids-gt1000000
+pub returns-then-allowed-gt1000000 : goal.returns-then-allowed-gt1000000
 unfolding above_top
-returns-then-guids-gt1000000 c = rw (lt-ltb 1000000 c.args.guids c.if-guids-gt1000000.true)
+returns-then-allowed-gt1000000 c =
+    rw (lt-ltb 1000000 c.args.allowed.guids c.if-allowed-gt1000000.true)
 
-pub returns-then-groups-gt100000 : goal.returns-then-groups-gt100000
+pub returns-then-allowed-gt100000 : goal.returns-then-allowed-gt100000
 unfolding above_top
-returns-then-groups-gt100000 c =
-    rw (le-ltb 1000000 c.args.guids c.if-guids-gt1000000.false, lt-ltb 100000 c.args.groups c.if-groups-gt100000.true)
+returns-then-allowed-gt100000 c =
+    rw (le-ltb 1000000 c.args.allowed.guids c.if-allowed-gt1000000.false, lt-ltb 100000 c.args.allowed.groups c.if-allowed-gt100000.true)
 
-pub returns-then-fields-gt1000000 : goal.returns-then-fields-gt1000000
+pub returns-then-allowed-gt1000000-2 : goal.returns-then-allowed-gt1000000-2
 unfolding above_top
-returns-then-fields-gt1000000 c =
-    rw (le-ltb 1000000 c.args.guids c.if-guids-gt1000000.false, le-ltb 100000 c.args.groups c.if-groups-gt100000.false, lt-ltb 1000000 c.args.fields c.if-fields-gt1000000.true)
+returns-then-allowed-gt1000000-2 c =
+    rw (le-ltb 1000000 c.args.allowed.guids c.if-allowed-gt1000000.false, le-ltb 100000 c.args.allowed.groups c.if-allowed-gt100000.false, lt-ltb 1000000 c.args.allowed.fields c.if-allowed-gt1000000-2.true)
 
-pub returns-then-text-gt67108864 : goal.returns-then-text-gt67108864
+pub returns-then-allowed-gt67108864 : goal.returns-then-allowed-gt67108864
 unfolding above_top
-returns-then-text-gt67108864 c =
-    rw (le-ltb 1000000 c.args.guids c.if-guids-gt1000000.false, le-ltb 100000 c.args.groups c.if-groups-gt100000.false, le-ltb 1000000 c.args.fields c.if-fields-gt1000000.false, lt-ltb 67108864 c.args.text c.if-text-gt67108864.true)
+returns-then-allowed-gt67108864 c =
+    rw (le-ltb 1000000 c.args.allowed.guids c.if-allowed-gt1000000.false, le-ltb 100000 c.args.allowed.groups c.if-allowed-gt100000.false, le-ltb 1000000 c.args.allowed.fields c.if-allowed-gt1000000-2.false, lt-ltb 67108864 c.args.allowed.text c.if-allowed-gt67108864.true)
 
-pub returns-then-literals-gt1000000 : goal.returns-then-literals-gt1000000
+pub returns-then-allowed-gt1000000-3 : goal.returns-then-allowed-gt1000000-3
 unfolding above_top
-returns-then-literals-gt1000000 c =
-    rw (le-ltb 1000000 c.args.guids c.if-guids-gt1000000.false, le-ltb 100000 c.args.groups c.if-groups-gt100000.false, le-ltb 1000000 c.args.fields c.if-fields-gt1000000.false, le-ltb 67108864 c.args.text c.if-text-gt67108864.false, lt-ltb 1000000 c.args.literals c.if-literals-gt1000000.true)
+returns-then-allowed-gt1000000-3 c =
+    rw (le-ltb 1000000 c.args.allowed.guids c.if-allowed-gt1000000.false, le-ltb 100000 c.args.allowed.groups c.if-allowed-gt100000.false, le-ltb 1000000 c.args.allowed.fields c.if-allowed-gt1000000-2.false, le-ltb 67108864 c.args.allowed.text c.if-allowed-gt67108864.false, lt-ltb 1000000 c.args.allowed.literals c.if-allowed-gt1000000-3.true)
 
 pub returns : goal.returns
 unfolding above_top
 returns c =
-    rw (le-ltb 1000000 c.args.guids c.if-guids-gt1000000.false, le-ltb 100000 c.args.groups c.if-groups-gt100000.false, le-ltb 1000000 c.args.fields c.if-fields-gt1000000.false, le-ltb 67108864 c.args.text c.if-text-gt67108864.false, le-ltb 1000000 c.args.literals c.if-literals-gt1000000.false)
+    rw (le-ltb 1000000 c.args.allowed.guids c.if-allowed-gt1000000.false, le-ltb 100000 c.args.allowed.groups c.if-allowed-gt100000.false, le-ltb 1000000 c.args.allowed.fields c.if-allowed-gt1000000-2.false, le-ltb 67108864 c.args.allowed.text c.if-allowed-gt67108864.false, le-ltb 1000000 c.args.allowed.literals c.if-allowed-gt1000000-3.false)

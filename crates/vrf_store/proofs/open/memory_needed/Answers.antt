@@ -4,10 +4,10 @@ use Rattle.vrf_store.proofs.Laws.Opening.Opening.{within-tops, needed-above, nee
 use Rattle.vrf_store.proofs.open.memory_needed.Goals as goal
 
 pub returns-in-Some : goal.returns-in-Some
-returns-in-Some c = sym (needed-above (record { guids = c.args.guids; groups = c.args.groups; fields = c.args.fields; text = c.args.text; literals = c.args.literals }) c.above_top.ensures c.in-Some.is)
+returns-in-Some c = sym (needed-above _ c.above_top.ensures c.in-Some.is)
 
 pub needed-requires : goal.needed-requires
-needed-requires c = within-tops (record { guids = c.args.guids; groups = c.args.groups; fields = c.args.fields; text = c.args.text; literals = c.args.literals }) c.above_top.ensures c.in-None.is
+needed-requires c = within-tops _ c.above_top.ensures c.in-None.is
 
 pub returns-in-None : goal.returns-in-None
-returns-in-None c = c.needed.ensures ∙ sym (needed-within (record { guids = c.args.guids; groups = c.args.groups; fields = c.args.fields; text = c.args.text; literals = c.args.literals }) c.above_top.ensures c.in-None.is)
+returns-in-None c = c.needed.ensures ∙ sym (needed-within _ c.above_top.ensures c.in-None.is)

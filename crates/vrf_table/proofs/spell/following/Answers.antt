@@ -4,4 +4,4 @@ use Rattle.vrf_table.proofs.spell.following.Goals as goal
 
 pub returns : goal.returns
 returns c =
-    part-following c.args.t.now c.args.k c.lower-from.result c.lower-from.ensures
+    part-following c.args.t.now c.args.k c.min-from.result c.min-from.ensures

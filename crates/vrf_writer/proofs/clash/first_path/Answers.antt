@@ -1,18 +1,13 @@
--- None of the groups so far has that path.
-use Rattle.std.proofs.Common.{[], ◌∙◌, arith}
+-- The search compares k with the path of each group in turn.
+use Rattle.std.proofs.Common.{◌≡◌, true, false, rules, tests}
+use Rattle.std.proofs.lemmas.Iterator.{first_from_Range}
 use Rattle.vrf_store.specs.Store.{store_of}
-use Rattle.vrf_store.proofs.Laws.Lookups.{group-at}
-use Rattle.vrf_writer.proofs.Laws.Clash.{path-test, scanned-step, scanned-hit}
+use Rattle.vrf_writer.proofs.Laws.Clash.{path_looked, first-looked}
 use Rattle.vrf_writer.proofs.clash.first_path.Goals as goal
 
-pub returns-then-same : goal.returns-then-same
-returns-then-same c =
+pub returns : goal.returns
+returns c =
     let s = store_of c.args.m.now in
-    let path = c.group_path.ensures ∙ group-at s [] c.loop-j.j (λ g. g.path) (omega arith) in
-    scanned-hit c.loop-j.invariant (omega arith) (path-test s c.args.k.now c.loop-j.j c.same.ensures path ∙ c.if-same.true)
-
-pub loop-j-preserved : goal.loop-j-preserved
-loop-j-preserved c =
-    let s = store_of c.args.m.now in
-    let path = c.group_path.ensures ∙ group-at s [] c.loop-j.j (λ g. g.path) (omega arith) in
-    scanned-step c.loop-j.invariant (path-test s c.args.k.now c.loop-j.j c.same.ensures path ∙ c.if-same.false)
+    let k = c.args.k.now in
+    let found = first_from_Range _ _ _ c.find.result (λ j. path_looked s k j ≡ true) (λ j. path_looked s k j ≡ false) c.find.ensures.ran (λ j q e. search (rules, tests)) (λ j q e. search (rules, tests)) in
+    first-looked s k c.args.h c.args.to c.find.result c.requires.2 found

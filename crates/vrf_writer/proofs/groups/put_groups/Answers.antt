@@ -2,7 +2,7 @@
 use Rattle.std.proofs.Common.{refl, arith}
 use Rattle.vrf_store.specs.Store.{store_of}
 use Rattle.vrf_writer.proofs.Laws.Prefix.{writes_as, fits-as, under-space, last-lent}
-use Rattle.vrf_writer.proofs.Laws.Each.{sent-start, sent-under, sent-step, sent-end, sent-space, sent-long}
+use Rattle.vrf_writer.proofs.Laws.Each.{sent-start, sent-under, sent-step, sent-end, sent-space}
 use Rattle.vrf_writer.proofs.Laws.Groups.{groups-code}
 use Rattle.vrf_writer.proofs.groups.put_groups.Goals as goal
 
@@ -23,9 +23,6 @@ overflow_add-at c = omega (arith, c, sent-space (sent-step c.loop-g.invariant (o
 
 pub loop-g-preserved : goal.loop-g-preserved
 loop-g-preserved c = sent-step c.loop-g.invariant (omega arith) c.put_group-at.ensures
-
-pub shape_of-out : goal.shape_of-out
-shape_of-out c = sent-long c.loop-g.invariant
 
 pub returns : goal.returns
 returns c = writes_as (groups-code (store_of c.args.m.now) refl) (sent-end c.loop-g.invariant (omega arith))

@@ -2,7 +2,7 @@
 use Rattle.std.proofs.Common.{refl, arith}
 use Rattle.vrf_store.specs.Store.{store_of}
 use Rattle.vrf_writer.proofs.Laws.Prefix.{fits-as, writes_as, under-space, last-lent}
-use Rattle.vrf_writer.proofs.Laws.Each.{sent-space, sent-long, sent-start, sent-under, sent-step, sent-end}
+use Rattle.vrf_writer.proofs.Laws.Each.{sent-space, sent-start, sent-under, sent-step, sent-end}
 use Rattle.vrf_writer.proofs.Laws.Rows.{guid-good}
 use Rattle.vrf_writer.proofs.Laws.Guids.{guids-code}
 use Rattle.vrf_writer.proofs.guids.put_guids.Goals as goal
@@ -25,9 +25,6 @@ overflow_add-at c = omega (arith, c, sent-space (sent-step c.loop-i.invariant (o
 
 pub loop-i-preserved : goal.loop-i-preserved
 loop-i-preserved c = sent-step c.loop-i.invariant (omega arith) c.put_guid-at.ensures
-
-pub shape_of-out : goal.shape_of-out
-shape_of-out c = sent-long c.loop-i.invariant
 
 pub returns : goal.returns
 returns c = writes_as (guids-code (store_of c.args.m.now) c.guid_rows-rows.ensures c.texts-x.ensures refl) (sent-end c.loop-i.invariant (omega arith))

@@ -1,6 +1,6 @@
 -- The sum is the length of the fields so far.
-use Rattle.std.proofs.Common.{ℕ, ◌+◌, ◌*◌, ◌≤◌, refl, ap, arith}
-use Rattle.vrf_writer.proofs.Laws.Size.{summed-start, summed-step, summed-end, summed-short, field-short}
+use Rattle.std.proofs.Common.{ℕ, ◌+◌, ap, arith}
+use Rattle.vrf_writer.proofs.Laws.Size.{summed-start, summed-step, summed-next, field-short}
 use Rattle.vrf_writer.proofs.size.fields_len.Goals as goal
 
 pub loop-e-init : goal.loop-e-init
@@ -8,12 +8,7 @@ loop-e-init c = summed-start
 
 -- each of them has at most 4115 bytes
 pub overflow_add-sum : goal.overflow_add-sum
-overflow_add-sum c =
-    let few : c.loop-e.sum ≤ 4115 * c.loop-e.e = summed-short c.loop-e.invariant 4115 (λ e k. field-short c.requires.valid e k) in
-    omega (arith, few, field-short c.requires.valid c.loop-e.e (omega arith), c.field_len-sum.ensures)
+overflow_add-sum c = omega (arith, summed-next c.loop-e.invariant 4115 (field-short c.requires.valid) (omega arith), c.field_len-sum.ensures)
 
 pub loop-e-preserved : goal.loop-e-preserved
 loop-e-preserved c = summed-step c.loop-e.invariant (omega arith) (ap (λ (k : ℕ). c.loop-e.sum + k) c.field_len-sum.ensures)
-
-pub returns : goal.returns
-returns c = summed-end c.loop-e.invariant (omega arith) refl

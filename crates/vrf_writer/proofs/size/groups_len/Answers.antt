@@ -1,6 +1,6 @@
 -- The sum is the length of the groups so far.
-use Rattle.std.proofs.Common.{ℕ, ◌+◌, ◌*◌, ◌≤◌, refl, ap, arith}
-use Rattle.vrf_writer.proofs.Laws.Size.{summed-start, summed-step, summed-end, summed-short, group-short}
+use Rattle.std.proofs.Common.{ℕ, ◌+◌, ap, arith}
+use Rattle.vrf_writer.proofs.Laws.Size.{summed-start, summed-step, summed-next, group-short}
 use Rattle.vrf_writer.proofs.size.groups_len.Goals as goal
 
 pub loop-g-init : goal.loop-g-init
@@ -8,12 +8,7 @@ loop-g-init c = summed-start
 
 -- each of them has at most 69647 bytes
 pub overflow_add-sum : goal.overflow_add-sum
-overflow_add-sum c =
-    let few : c.loop-g.sum ≤ 69647 * c.loop-g.g = summed-short c.loop-g.invariant 69647 (λ e k. group-short c.requires.valid e k) in
-    omega (arith, few, group-short c.requires.valid c.loop-g.g (omega arith), c.group_len-sum.ensures)
+overflow_add-sum c = omega (arith, summed-next c.loop-g.invariant 69647 (group-short c.requires.valid) (omega arith), c.group_len-sum.ensures)
 
 pub loop-g-preserved : goal.loop-g-preserved
 loop-g-preserved c = summed-step c.loop-g.invariant (omega arith) (ap (λ (k : ℕ). c.loop-g.sum + k) c.group_len-sum.ensures)
-
-pub returns : goal.returns
-returns c = summed-end c.loop-g.invariant (omega arith) refl

@@ -5,8 +5,5 @@ use Rattle.vrf_store.specs.Inner.Stepped.{held}
 use Rattle.vrf_writer.proofs.Laws.Writes.{writes-clash}
 use Rattle.vrf_writer.proofs.write.write_checkpoint_tables.Goals as goal
 
-pub write_clear-requires : goal.write_clear-requires
-write_clear-requires c = (c.requires, sym c.first_clash.ensures ∙ ap entry c.in-None.is)
-
 pub returns-in-Some : goal.returns-in-Some
 returns-in-Some c = writes-clash (held c.args.m.now) (sym (ap entry c.in-Some.is) ∙ c.first_clash.ensures) refl

@@ -10,15 +10,6 @@ pub returns-then-space-n : goal.returns-then-space-n
 returns-then-space-n c =
     writes-long (held c.args.m.now) c.requires.1 c.block_len-n.ensures c.too_long.ensures (omega (arith, c.min-space.ensures, c.if-space-n.true)) refl
 
-pub put_block-requires : goal.put_block-requires
-put_block-requires c =
-    let below : length (encode_book (held c.args.m.now)) ≤ c.min-space.result =
-    elim c.if-space-most_len.branch [
-      | then-space-most_len+else-space-n w ↦ omega (arith, w.block_len-n.ensures, w.if-space-n.false)
-      | else-space-most_len w ↦ omega (arith, c.most_len.ensures, w.if-space-most_len.false)
-    ] in
-    (c.requires.0, omega (arith, c.min-space.ensures), omega (arith, c.min-space.ensures))
-
 pub returns : goal.returns
 returns c =
     let p = c.put_block.ensures in

@@ -1,0 +1,12 @@
+-- `vrf_store::look::groups_by_leaf` satisfies its contract.
+use Rattle.std.proofs.Common.{length, ap, arith}
+use Rattle.vrf_store.specs.Store.{header_of}
+use Rattle.vrf_store.proofs.Laws.Check.Valid.{need-shaped}
+use Rattle.vrf_store.proofs.look.groups_by_leaf.Goals as goal
+
+pub invariant_of-result : goal.invariant_of-result
+invariant_of-result c =
+    record {
+      heads_in = omega (arith, ap length c.leaf_heads.ensures, need-shaped (header_of c.args.m.now) c.args.m.now c.requires.enough);
+      some = omega arith;
+    }

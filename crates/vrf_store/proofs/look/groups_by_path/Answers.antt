@@ -1,0 +1,14 @@
+-- `vrf_store::look::groups_by_path` satisfies its contract.
+use Rattle.std.proofs.Common.{length, ap, arith}
+use Rattle.vrf_store.specs.Store.{header_of}
+use Rattle.vrf_store.proofs.Laws.Check.Valid.{need-shaped}
+use Rattle.vrf_store.proofs.look.groups_by_path.Goals as goal
+
+pub invariant_of-result : goal.invariant_of-result
+invariant_of-result c =
+    let s = need-shaped (header_of c.args.m.now) c.args.m.now c.requires.enough in
+    record {
+      links_in = omega (arith, ap length c.path_links.ensures, s);
+      heads_in = omega (arith, ap length c.path_heads.ensures, s);
+      some = omega arith;
+    }

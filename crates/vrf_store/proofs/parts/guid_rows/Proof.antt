@@ -1,7 +1,0 @@
--- `vrf_store::parts::guid_rows` satisfies its contract: it reads the words that the layout gives.
-use Rattle.std.proofs.Common.{rules}
-use Rattle.vrf_store.proofs.parts.guid_rows.Statement.{statement}
-use Rattle.vrf_store.proofs.parts.guid_rows.Tie as tie
-
-pub guid_rows_spec : {M : Type 1} → statement M
-guid_rows_spec = tie.close (tie.spec (λ c κs. search rules) (λ c. search rules) (λ c κs. search rules) (λ c. cc))
