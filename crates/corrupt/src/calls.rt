@@ -3,8 +3,8 @@ use vrf_bitio::{Reason, Refusal};
 use vrf_model::Allowances;
 use vrf_schema::{calls, lookups};
 
-// The number of calls: `OPENING`, then the calls that change a book, and from `FIRST_LOOKUP` on the lookups. Calls stay numbers, because the
-// report names a call by its number.
+// The number of calls: `OPENING`, then the calls that change a book, and from `FIRST_LOOKUP` on the lookups. Calls stay numbers:
+// an enum would list all 34 three times, in itself, in the list to go through and in the matches below, and the report prints the number.
 pub const CALLS: u32 = 34;
 
 pub const OPENING: u32 = 0;

@@ -31,9 +31,7 @@ fn each_book(
     t: &mut Totals,
 ) -> Result<(), Broken> {
     for which in BOOKS {
-        if make(book, which).is_err() {
-            return Err(Broken::Book);
-        }
+        make(book, which).map_err(|_| Broken::Book)?;
         corrupt(book, s, work, how, t)?;
     }
     Ok(())

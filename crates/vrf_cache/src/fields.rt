@@ -1,4 +1,5 @@
-// `set_field_on_group`: a slot of a group takes a checksum and a name, which are parameters one by one, as in the Rust.
+// `set_field_on_group`: a slot of a group takes a checksum and a name. They are parameters one by one: a struct of them would be made by each
+// caller for one call, and its checksum stored and its name compared and copied one by one.
 ghost use Rattle.std.specs.Prelude.{◌≡◌, false, ◌<◌};
 ghost use Rattle.std.proofs.Math.Option.{some};
 ghost use Rattle.vrf_text.specs.Text.{IsText};

@@ -31,7 +31,8 @@ fn passed(m: &[u8], guids: u64, groups: u64, fields: u64, text: u64) -> Option<u
 }
 
 // Whether a step stays within the allowances; otherwise refusal 42 with the lowest allowance that it would pass. The step adds g GUID
-// records, r groups and f fields, and holds n text bytes in place of `gone` bytes that are held.
+// records, r groups and f fields, and holds n text bytes in place of `gone` bytes that are held. (Five numbers: a struct would be made at each call
+// only to be added up here.)
 pub fn fits(m: &[u8], g: u64, r: u64, f: u64, gone: u64, n: u64) -> Result<(), Refusal>
     requires { WellFormed m.now × (g ≤ 1) × (r ≤ 1) × (f ≤ 1) × (gone ≤ (header_of m.now).held) × (n ≤ 4096) }
     ensures { FitsBy (passes_by m.now g r f gone n) result }

@@ -1,5 +1,6 @@
 // `add_export_group`: a group is appended, merged or replaced. Path, index and slots are three parameters, as in the Rust: a struct of them would
-// be made by each caller for one call, and its path looked up, its index compared and its slots stored one by one.
+// be made by each caller for one call, and its path looked up, its index compared and its slots stored one by one. For the same reason it is a
+// clause, and no type, that a path is a text and that the slots are at most 65,536.
 ghost use Rattle.std.specs.Prelude.{◌≡◌, ◌&&◌, [], ◌+◌, ◌<◌, ◌≤◌, eqb, length};
 ghost use Rattle.std.proofs.Math.Option.{none, some};
 ghost use Rattle.vrf_text.specs.Text.{IsText};

@@ -1,4 +1,4 @@
-// `set_net_guid_path`: a GUID takes a path and an outer.
+// `set_net_guid_path`: a GUID takes a path and an outer, as parameters one by one, like those of a field.
 ghost use Rattle.std.specs.Prelude.{◌≡◌, false};
 ghost use Rattle.vrf_text.specs.Text.{IsText};
 ghost use Rattle.vrf_model.specs.Lookup.{place_or};

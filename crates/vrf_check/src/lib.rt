@@ -179,7 +179,7 @@ fn alias_reaches(index: PathIndex<'_>, e: u32, path: &[u8], key: Key) -> bool
 }
 
 // Whether an alias finds entry e or a later one, if the path has this alias. (`is_none_or` was tried, with the closure's contract inferred and
-// with its clauses written. The proof does not close: the answer of this closure, which captures the index, is unknown where it is called.)
+// with its clauses written; the proof did not close. So it was in `leaf_ok`.)
 fn alias_ok(index: PathIndex<'_>, e: u32, path: &[u8], key: Option<Key>) -> bool
     requires { length path.now ≤ 4096 }
     ensures { result ≡ reach_ok (path_found index.entry) e (spelled path.now key) }

@@ -85,7 +85,7 @@ fn add_first(m: &mut [u8], path: &[u8], index: u32, slots: u32) -> Result<u32, R
     append_group(m, path, index, slots)
 }
 
-// One group: path, index and slot count. Then the group is added and its slots are read.
+// One group: path, index and slot count. Then the group is added and its slots are read. (3, the slots, is the detail of refusal 31.)
 fn read_group(reader: &mut BitReader<'_>, m: &mut [u8], scratch: &mut [u8]) -> Result<u64, Refusal>
     requires { WellFormed m.old × (4096 ≤ length scratch.old) }
     ensures reads { Refines block_group reader.old reader.new m.old m.new result }

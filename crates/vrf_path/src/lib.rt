@@ -405,8 +405,8 @@ pub fn has_key(path: &[u8], text: &[u8]) -> bool
     false
 }
 
-// The place where a path's leaf starts: the non-empty text after its last dot. (A place and no slice, as `leaf_base` and `class_base` answer one,
-// which callers pass on as a number.)
+// The place where a path's leaf starts: the non-empty text after its last dot. (A place and no slice: the function is public, and its contract
+// promises the place.)
 pub fn leaf_at(path: &[u8]) -> Option<usize>
     ensures { LeafAnswer path.now result }
 {

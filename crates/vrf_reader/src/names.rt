@@ -1,5 +1,5 @@
-// Texts and field names, read into the front of a scratch buffer of 4,096 bytes. The answer is a length and no slice, since the caller lends
-// the buffer again for the next text.
+// Texts and field names, read into the front of a scratch buffer of 4,096 bytes. The answer is a length and no slice: `render_fname` writes on
+// behind the text in the same buffer, and the contract of a slice would also say what the buffer holds when it is given back.
 ghost use Rattle.std.specs.Prelude.{◌≡◌, ◌≤◌, length, IfErr};
 ghost use Rattle.vrf_bitio.specs.Answers.{read_here};
 ghost use Rattle.vrf_text.specs.Text.{fstring};

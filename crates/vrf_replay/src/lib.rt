@@ -18,7 +18,9 @@ use vrf_script_calls::{blocks, books, calls};
 // The first four bytes of a script, `VJS1`, as one number.
 const HEAD: u32 = 0x3153_4A56;
 
-// What a call leaves for the next one: the books, and the length of the last written block, which is at the front of the scratch buffer.
+// What a call leaves for the next one: the books, and the length of the last written block, which is at the front of the scratch buffer. (That the
+// books fit into the memory, and the block into the buffer, are clauses: a struct of all four would hold two `&mut`, and each contract would say
+// that it keeps the borrows.)
 #[derive(Clone, Copy, Debug, PartialEq, Eq)]
 struct Played {
     books: Books,

@@ -34,7 +34,7 @@ pub fn clear(book: &mut [u8]) -> Result<(), Refusal>
     clear::clear(book)
 }
 
-// Sets the path and the outer of a GUID. Outer 0 means none.
+// Sets the path and the outer of a GUID. Outer 0 means none, as in document 01 and on the wire.
 pub fn set_net_guid_path(book: &mut [u8], guid: u32, path: &[u8], outer: u32) -> Result<(), Refusal>
     ensures { CallContract (set_net_guid_path guid path.now outer) book.old book.new (acted_of result) }
 {

@@ -1,5 +1,6 @@
 // The lookups of document 01. None of them changes the book. Each is a call of its own, named as in the Rust: one function over a lookup
-// passed to it would be no plainer, since what they share is the check, one line.
+// passed to it would be no plainer, since what they share is the check, one line. Those of a place answer 0 or the empty text past the end and no
+// Option: document 01 has it so.
 ghost use Rattle.vrf_model.specs.Calls.{get_group_by_index, get_group_by_path, get_gameplay_tag_name, get_field, unique-leaf-match, resolve_cnc_for_instance_name, find-class-net-cache-key};
 ghost use Rattle.vrf_model.specs.Calls.{group_path, group_index, group_slots, field_name, get_path_by_guid, get_outer_guid, get_outer_path, guid_path, of_groups, of_guids};
 ghost use Rattle.vrf_model.specs.Answers.{found_of, number_of};

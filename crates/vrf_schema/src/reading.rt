@@ -1,5 +1,5 @@
 // The calls that read a window into a book: both export readers, `load_object` and the block reader. A window is three parameters, as
-// `BitReader::window` takes it: each call opens it first.
+// `BitReader::window` takes it: a struct would be made by each caller and taken apart by the first line of each call.
 ghost use Rattle.std.specs.Prelude.{◌≡◌, ◌-◌};
 ghost use Rattle.vrf_model.specs.Calls.{read_net_field_exports, read_export_guids, load_object, read_checkpoint_tables};
 ghost use Rattle.vrf_model.specs.Answers.{ran_of, tables_of};

@@ -45,9 +45,9 @@ impl<'a> Answers<'a> {
     }
 
     pub fn bytes(&mut self, text: &[u8]) {
-        for b in text {
-            self.byte(*b);
-        }
+        let n = text.len().min(self.out.len() - self.to);
+        self.out[self.to..self.to + n].copy_from_slice(&text[..n]);
+        self.to += n;
     }
 
     // Text of any kind. The result is let go: `write_str` below never errs, because what does not fit is left out.

@@ -87,19 +87,17 @@ impl<'a> Around<'a> {
     }
 }
 
-// Reads a field name, or a text that is no field name. A refused one moves nothing. (The reading is a parameter and no closure: a closure
-// would need a contract, that its length is at most that of the scratch buffer.)
+// Reads a field name, or a text that is no field name. (The reading is a parameter and no closure: a closure would need a contract, that its
+// length is at most that of the scratch buffer.)
 fn text(reading: Reading, reader: &mut BitReader<'_>, answers: &mut Answers<'_>) {
     let mut scratch = [0u8; 4096];
-    let mut after = *reader;
     let read = match reading {
-        Reading::Name => read_fname(&mut after, &mut scratch),
-        _ => read_text(&mut after, &mut scratch),
+        Reading::Name => read_fname(reader, &mut scratch),
+        _ => read_text(reader, &mut scratch),
     };
     match read {
         Err(r) => answers.put(r),
         Ok(n) => {
-            *reader = after;
             answers.put("text ");
             answers.quoted(&scratch[..n as usize]);
         }

@@ -137,7 +137,8 @@ impl<'a> Lookup<'a> {
 }
 
 impl<'a> BookCall<'a> {
-    // The call's text or the bytes of its window; none for a call without a blob.
+    // The call's text or the bytes of its window; none for a call without a blob. (An empty blob and no Option: every call is played with bytes, and
+    // one without a blob does not look at them.)
     pub fn blob(self) -> Blob<'a> {
         match self {
             BookCall::AddExportGroup { path, .. } => path,

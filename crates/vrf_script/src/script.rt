@@ -83,20 +83,22 @@ impl<'a> Script<'a> {
         Ok(head)
     }
 
+    fn take_array<const N: usize>(&mut self) -> Result<[u8; N], Stop> {
+        let (head, rest) = self.rest.split_first_chunk::<N>().ok_or(Stop::NoScript)?;
+        self.rest = rest;
+        Ok(*head)
+    }
+
     pub fn take_u8(&mut self) -> Result<u8, Stop> {
         self.next_byte().ok_or(Stop::NoScript)
     }
 
     pub fn take_u32(&mut self) -> Result<u32, Stop> {
-        let (head, rest) = self.rest.split_first_chunk::<4>().ok_or(Stop::NoScript)?;
-        self.rest = rest;
-        Ok(u32::from_le_bytes(*head))
+        Ok(u32::from_le_bytes(self.take_array::<4>()?))
     }
 
     pub fn take_u64(&mut self) -> Result<u64, Stop> {
-        let (head, rest) = self.rest.split_first_chunk::<8>().ok_or(Stop::NoScript)?;
-        self.rest = rest;
-        Ok(u64::from_le_bytes(*head))
+        Ok(u64::from_le_bytes(self.take_array::<8>()?))
     }
 
     pub fn take_blob(&mut self) -> Result<Blob<'a>, Stop> {

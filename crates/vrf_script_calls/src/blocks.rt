@@ -1,5 +1,6 @@
 // The call `write`. The last written block is at the front of the scratch buffer. The writer is lent bytes after it, so a refused writing
-// leaves that block. A new block is then moved to the front and replaces it.
+// leaves that block. A new block is then moved to the front and replaces it. (A struct of the buffer and the length of its block would hold the
+// `&mut`, and each contract would say that it keeps the borrow.)
 ghost use Rattle.std.specs.Prelude.{length, IfOk};
 ghost use Rattle.vrf_script_calls.specs.Inner.Blocks.{KeptIn};
 

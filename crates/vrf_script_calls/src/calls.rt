@@ -10,18 +10,11 @@ use vrf_script::call::{BookCall, Window};
 use vrf_script::script::Stop;
 
 fn done(answer: Result<(), Refusal>, what: &str, answers: &mut Answers<'_>) {
-    match answer {
-        Ok(()) => answers.put(what),
-        Err(r) => answers.put(r),
-    }
+    answers.value("", answer.map(|()| what));
 }
 
 fn placed(answer: Result<bool, Refusal>, answers: &mut Answers<'_>) {
-    match answer {
-        Ok(true) => answers.put("placed"),
-        Ok(false) => answers.put("not placed"),
-        Err(r) => answers.put(r),
-    }
+    answers.value("", answer.map(|p| if p { "placed" } else { "not placed" }));
 }
 
 // The count of a run or the GUID of an object, and the position after what was read.
@@ -32,7 +25,7 @@ fn ran(answer: Result<Ran, Refusal>, what: &str, answers: &mut Answers<'_>) {
     }
 }
 
-// The seven counts of a block.
+// The seven counts of a block. (No `Display`: the type is of a crate below, which does not print.)
 fn counts(n: CheckpointTables, answers: &mut Answers<'_>) {
     let (guids, groups) = (n.guid_count, n.group_count);
     let (fields, frame) = (n.exported_fields, n.frame_offset);

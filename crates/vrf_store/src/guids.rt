@@ -12,7 +12,7 @@ use vrf_table::{TextSpan, put_text};
 use vrf_words::put32;
 
 // Adds a GUID record. Its path is a text in the half in use. (This and `set_guid` are not one function each with `push_field` and
-// `set_field_row`: the words of the counts differ, and each contract is about its own part of the book. Each makes its own range from..to,
+// `set_field_row`: what they share is `push_row` and `put_text`, and each contract is about its own part of the book. Each makes its own range,
 // because a function that lends a part of m would have to say what m is when the part is given back.)
 pub fn push_guid(m: &mut [u8], guid: u32, span: TextSpan, outer: u32)
     requires { NewGuid m.old guid span.at span.len }

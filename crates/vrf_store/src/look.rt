@@ -223,7 +223,8 @@ pub fn find_field(m: &[u8], place: u32, slot: u32) -> Option<u32>
     fields_by_key(m).find(k)
 }
 
-// These five read a field of a record or of a group. They stay apart: what they share is one `if`, and a function that is given the table,
+// These five read a field of a record or of a group. Past the end they answer 0 or the empty text and no Option, because document 01's lookups do,
+// and a function that cannot fail must stay one. They stay apart: what they share is one `if`, and a function that is given the table,
 // the field and the answer past the end would be no plainer.
 
 // The path of the GUID record at place i; empty past the records.

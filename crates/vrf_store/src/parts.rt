@@ -79,6 +79,7 @@ pub fn used(m: &[u8]) -> u32
     get32(m, 9)
 }
 
+// Which half of the texts is in use stays the header's word, 0 or 1: an enum would be made of it and matched at once.
 pub fn half(m: &[u8]) -> u32
     requires { 128 ≤ length m.now }
     ensures { result ≡ (header_of m.now).half }

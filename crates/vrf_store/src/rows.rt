@@ -1,5 +1,6 @@
 // Rows of the tables: where a text is, and adding a row. That row e is inside is a clause of each function: a struct of all rows, such as
-// `KeyIndex`, would ask for all of them where one is enough. A table that is written to comes as its memory and its numbers, for the same reason.
+// `KeyIndex`, would ask for all of them where one is enough. A table that is written to comes as its memory and its numbers: a struct around
+// its `&mut [u8]` would have to say in each contract that it keeps its borrow.
 ghost use Rattle.std.specs.Prelude.{◌≡◌, ◌+◌, ◌*◌, ◌<◌, ◌≤◌, length};
 ghost use Rattle.vrf_table.specs.Table.{at, len};
 ghost use Rattle.vrf_store.specs.Inner.Memory.{pushed};

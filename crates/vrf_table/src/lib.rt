@@ -1,4 +1,5 @@
-// Finds a row of a table by its key, and a group by a key of its path or by its leaf.
+// Finds a row of a table by its key, and a group by a key of its path or by its leaf. That a text has fewer than 2^31 or 2^32 bytes is a clause: as
+// a type it would be made of a part of a path, or of a buffer, for one call.
 #![tactic(auto)]
 
 pub mod spell;
@@ -149,7 +150,7 @@ impl KeyIndex<'_> {
     }
 }
 
-// Writes the key and the link of row e.
+// Writes the key and the link of row e. (That row e is inside is a clause here and below, as `rows` of `vrf_store` says.)
 pub fn put_key(rows: &mut [u8], e: u32, k: u64, link: u32)
     requires { 24 * e + 24 ≤ length rows.old }
     ensures { rows.new ≡ set_key rows.old e k link }
@@ -434,7 +435,7 @@ impl LeafChains<'_> {
     }
 
     // The first claim that is not absent, for the name with three suffixes. The chain of the first leaf starts at p, that of the others at q.
-    // (Three parameters: each caller gives three constants, so a struct of them would be made only to be taken apart here.)
+    // (Three parameters: `vrf_cache` gives three constants at each of two calls, so a struct of them would be made only to be taken apart here.)
     pub fn first_claim(&self, p: u32, q: u32, name: &[u8], s: &[u8], t: &[u8], u: &[u8]) -> Claim
         requires { Suffixed name.now s.now × Suffixed name.now t.now × Suffixed name.now u.now }
         ensures { claim result ≡ first_found self.now p q (name.now ++ s.now) (name.now ++ t.now) (name.now ++ u.now) }

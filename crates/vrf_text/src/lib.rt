@@ -55,8 +55,9 @@ enum Length {
 }
 
 // ---- UTF-8. The loops read words of eight bytes; past the end of the text a word has 0. This is safe: 0 is not a tail byte, so a cut
-// character is bad, and 0 is ASCII, so a step may pass beyond the end. They are `while` loops because a step passes 1 to 32 bytes, and
-// `str::from_utf8` does not replace them because it tests each byte of a character beyond ASCII by itself.
+// character is bad, and 0 is ASCII, so a step may pass beyond the end. They are `while` loops because a step passes 1 to 32 bytes.
+// `str::from_utf8` would replace only `is_utf8`: the steps stay for a text that begins inside a byte, and its contract has a definition of
+// UTF-8 of its own.
 
 fn within(b: u64, lo: u64, hi: u64) -> bool
     ensures { result ≡ within lo hi b }

@@ -33,7 +33,7 @@ pub fn get64(s: &[u8], i: usize) -> u64
     u64::from_le_bytes(s[at..at + 8].try_into().unwrap())
 }
 
-// Writes v as words i and i + 1, low word first. The compiler makes this one store. (One function for both widths would be given the bytes,
+// Writes v as words i and i + 1, low word first. The compiler makes this one store. (One function for both widths would be given, or answer, the bytes,
 // and each call would then make them from its number.)
 pub fn put64(s: &mut [u8], i: usize, v: u64)
     requires { 4 * i + 8 ≤ length s.old }

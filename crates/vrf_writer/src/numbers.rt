@@ -1,4 +1,5 @@
-// Writes numbers and texts. Each function writes at the front of the slice that it is lent, and answers how many bytes it wrote.
+// Writes numbers and texts. Each function writes at the front of the slice that it is lent, and answers how many bytes it wrote. (No writer that
+// holds the buffer and the place: each contract would also say that it keeps the borrow of the buffer.)
 ghost use Rattle.std.specs.Prelude.{◌+◌, ◌≤◌, length};
 ghost use Rattle.vrf_bitio.specs.Number.{encode_packed, encode_word32};
 ghost use Rattle.vrf_text.specs.Text.{encode_text};
