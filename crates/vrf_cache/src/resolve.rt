@@ -142,7 +142,7 @@ fn find_alias(m: &[u8], path: &[u8], key: Option<Key>) -> Option<u32>
     ensures { entry result ≡ with_toggle (held m.now).groups (spelled path.now key) }
 {
     let key = key?;
-    if key_len(path, key) <= 128 {
+    if key_len(path, Some(key)) <= 128 {
         return find_spelled::<128>(m, path, key);
     }
     find_spelled::<4105>(m, path, key)

@@ -8,7 +8,7 @@ use Rattle.vrf_path.specs.Text.{starts_with, first_from}
 use Rattle.vrf_path.specs.Keys.{default_prefix, core_segment, characters_root, characters_core, has_separator}
 use Rattle.vrf_path.specs.Leaf.{leaf}
 use Rattle.vrf_path.specs.Toggle.{class_net_cache, toggle}
-use Rattle.vrf_path.specs.Stems.{cuts_below, is_digit, is_capital, digits_from, digit_stems, capital_stems}
+use Rattle.vrf_path.specs.Stems.{cuts_below, is_digit, is_capital, digits_from, digit_stems, capital_stems, stems}
 use Rattle.vrf_path.specs.declared.Key.{Key}
 use Rattle.vrf_path.specs.declared.Key.TheVariants.{Itself, Stripped, Prefixed, Cut, Inserted}
 use Rattle.vrf_path.specs.declared.Phase.{Phase}
@@ -33,6 +33,11 @@ key_bytes t Inserted = characters_core ++ drop 17 t
 abbrev pub spelled : List ℕ → Maybe Key → Option (List ℕ)
 spelled t (Some k) = some (key_bytes t k)
 spelled t None = none
+
+-- the bytes of the key, none if the path has no such key
+abbrev pub bytes_if_any : List ℕ → Maybe Key → List ℕ
+bytes_if_any t (Some k) = key_bytes t k
+bytes_if_any t None = []
 
 -- the recipe of the default alias and of the core alias of the path t, by the cases of `default_alias` and `core_alias`
 unfoldable pub default_key : List ℕ → Maybe Key
@@ -72,6 +77,11 @@ stems_after name n Capital = []
 abbrev pub stems_from : List ℕ → Maybe Stem → List (List ℕ)
 stems_from name (Some s) = take s.len name ∷ stems_after name s.len s.phase
 stems_from name None = []
+
+-- the stems after the one that was given last, or all of them before the first
+abbrev pub stems_since : List ℕ → Maybe Stem → List (List ℕ)
+stems_since name (Some s) = stems_after name s.len s.phase
+stems_since name None = stems name
 
 -- the number of bytes of a stem
 abbrev pub stem_length : Maybe Stem → ℕ

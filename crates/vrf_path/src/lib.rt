@@ -1,13 +1,13 @@
 // Path keys, leaves and stems of document 01. The function names are those of path.rs and resolve.rs.
 #![tactic(auto)]
 
-ghost use Rattle.std.specs.Prelude.{◌≡◌, true, ◌||◌, ◌+◌, ◌-◌, ◌<◌, ◌≤◌, length, get_or, drop};
+ghost use Rattle.std.specs.Prelude.{◌≡◌, true, ◌||◌, ◌+◌, ◌-◌, ◌<◌, ◌≤◌, length, get_or, drop, Some, None};
 ghost use Rattle.std.specs.Iterator.{YieldsFirstRef, item_count};
 ghost use Rattle.vrf_path.specs.Text.{same, eight, starts_with, ends_with, first_from, last_below};
 ghost use Rattle.vrf_path.specs.Keys.{is_separator, has_separator, default_alias, core_alias, has_key, key_is};
 ghost use Rattle.vrf_path.specs.Stems.{digits_from, digit_stems, capital_stems, stems};
 ghost use Rattle.vrf_path.specs.Base.{cut_at, class_base, leaf_base};
-ghost use Rattle.vrf_path.specs.Answers.{Front, spelled, default_key, core_key, KeyAnswer, key_bytes, LeafAnswer, ToggleAnswer, stem_length, stems_after, stems_from, StemAnswer};
+ghost use Rattle.vrf_path.specs.Answers.{Front, spelled, default_key, core_key, KeyAnswer, key_bytes, bytes_if_any, LeafAnswer, ToggleAnswer, stem_length, stems_after, stems_since, StemAnswer};
 ghost use Rattle.vrf_path.specs.Inner.Text.{place, Differ};
 
 // One of a path's keys, as the recipe that makes it from the bytes of the path. So a key is compared and hashed without being built.
@@ -47,12 +47,13 @@ pub struct Stem {
     pub phase: Phase,
 }
 
-// The stems of a name, in order.
+// The stems of a name, in order: `first_stem`, and then `next_stem` of the stem before. A stem is looked for only when it is asked for.
 #[derive(Drop)]
 pub struct Stems<'a> {
     name: &'a [u8],
-    stem: Option<Stem>,
-    ghost within: { stem_length stem ≤ length name.now },
+    // The stem that was given last. None before the first.
+    last: Option<Stem>,
+    ghost within: { stem_length last ≤ length name.now },
 }
 
 // The eight bytes from i on as one number, low byte first. This compiles to one load. (`vrf_bitio` has the same one, for itself: a public
@@ -303,7 +304,7 @@ fn byte_after(text: &[u8], i: usize, skip: usize) -> u8
 }
 
 // The number of bytes of a path's key.
-pub fn key_len(path: &[u8], key: Key) -> usize
+fn bytes_len(path: &[u8], key: Key) -> usize
     ensures { result ≡ length (key_bytes path.now key) }
 {
     let n = path.len();
@@ -318,6 +319,16 @@ pub fn key_len(path: &[u8], key: Key) -> usize
             i + 1 + n.saturating_sub(i + 7)
         }
         Key::Inserted => 23 + n.saturating_sub(17),
+    }
+}
+
+// The number of bytes of a path's key, 0 if the path has no such key.
+pub fn key_len(path: &[u8], key: Option<Key>) -> usize
+    ensures { result ≡ length (bytes_if_any path.now key) }
+{
+    match key {
+        Some(key) => bytes_len(path, key),
+        None => 0,
     }
 }
 
@@ -339,7 +350,7 @@ fn cut_byte(path: &[u8], at: usize, i: usize) -> u8
 }
 
 // Byte i of a path's key, 0 past its end.
-pub fn key_byte(path: &[u8], key: Key, i: usize) -> u8
+fn byte_of(path: &[u8], key: Key, i: usize) -> u8
     ensures { result ≡ get_or (key_bytes path.now key) i 0 }
 {
     match key {
@@ -361,15 +372,25 @@ pub fn key_byte(path: &[u8], key: Key, i: usize) -> u8
     }
 }
 
+// Byte i of a path's key, 0 past its end or if the path has no such key.
+pub fn key_byte(path: &[u8], key: Option<Key>, i: usize) -> u8
+    ensures { result ≡ get_or (bytes_if_any path.now key) i 0 }
+{
+    match key {
+        Some(key) => byte_of(path, key, i),
+        None => 0,
+    }
+}
+
 // Whether the bytes of a path's key are this text. (A loop, because `has_key` takes a tenth longer with `all`.)
 fn same_key(path: &[u8], key: Key, text: &[u8]) -> bool
     ensures { result ≡ same (key_bytes path.now key) text.now }
 {
-    if key_len(path, key) != text.len() {
+    if bytes_len(path, key) != text.len() {
         return false;
     }
     for (i, b) in text.iter().enumerate() {
-        if key_byte(path, key, i) != *b {
+        if byte_of(path, key, i) != *b {
             return false;
         }
     }
@@ -533,6 +554,16 @@ fn cut_stem(name: &[u8], n: usize) -> Option<Stem>
     }
 }
 
+// The first stem of a name is the whole name.
+pub fn first_stem(name: &[u8]) -> Stem
+    ensures { StemAnswer name.now (stems name.now) (Some result) }
+{
+    Stem {
+        len: name.len(),
+        phase: Phase::Underscore,
+    }
+}
+
 // The stem after the one of len bytes that this rule made.
 pub fn next_stem(name: &[u8], len: usize, phase: Phase) -> Option<Stem>
     ensures { StemAnswer name.now (stems_after name.now len phase) result }
@@ -545,30 +576,27 @@ pub fn next_stem(name: &[u8], len: usize, phase: Phase) -> Option<Stem>
 }
 
 impl<'a> Stems<'a> {
-    // The first stem of a name is the whole name.
     pub fn new(name: &'a [u8]) -> Stems<'a>
-        ensures { stems_from result.name.now result.stem ≡ stems name.now }
+        ensures begun { (result.name ≡ name.entry) × (result.last ≡ None) }
+        ensures all { stems_since result.name.now result.last ≡ stems name.now }
     {
-        Stems {
-            name,
-            stem: Some(Stem {
-                len: name.len(),
-                phase: Phase::Underscore,
-            }),
-        }
+        Stems { name, last: None }
     }
 }
 
 impl<'a> Iterator for Stems<'a> {
     type Item = &'a [u8];
 
-    ghost next_gives = { YieldsFirstRef (λ s. stems_from s.name.now s.stem) };
+    ghost next_gives = { YieldsFirstRef (λ s. stems_since s.name.now s.last) };
 
-    ghost remaining = { item_count (λ s. stems_from s.name.now s.stem) };
+    ghost remaining = { item_count (λ s. stems_since s.name.now s.last) };
 
     fn next(&mut self) -> Option<&'a [u8]> {
-        let stem = self.stem?;
-        self.stem = next_stem(self.name, stem.len, stem.phase);
+        let stem = match self.last {
+            None => first_stem(self.name),
+            Some(last) => next_stem(self.name, last.len, last.phase)?,
+        };
+        self.last = Some(stem);
         Some(&self.name[..stem.len])
     }
 }

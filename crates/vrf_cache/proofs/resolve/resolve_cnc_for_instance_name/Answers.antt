@@ -16,7 +16,7 @@ loop-stem-init c =
     let name = c.args.name.now in
     let groups = (held c.args.m.now).groups in
     let bare = sym c.has_path_separator.ensures ∙ c.if-has_path_separator.false in
-    let all = ap stems_left c.into_iter-stem-iterator.ensures.into_iter_gives ∙ c.new-stem-items.ensures in
+    let all = ap stems_left c.into_iter-stem-iterator.ensures.into_iter_gives ∙ c.new-stem-items.ensures.all in
     subst (λ (l : List (List ℕ)). (resolve_cnc name groups ≡ first_claim groups (stems_leaves l)) × All Triable l) (sym all) (resolve-name name groups bare refl, stems-triable name bare c.requires.1)
 
 pub try_cnc_leaf_candidates-c-requires : goal.try_cnc_leaf_candidates-c-requires

@@ -1,7 +1,7 @@
 -- The bytes of the keys with a constant part.
 use Rattle.vrf_path.specs.Keys.{default_prefix, characters_core}
 use Rattle.vrf_path.proofs.Keys.{byte-prefix, byte-root, byte-prefixed, byte-inserted}
-use Rattle.vrf_path.proofs.key_byte.Goals as goal
+use Rattle.vrf_path.proofs.byte_of.Goals as goal
 
 pub returns-then-i-lt9 : goal.returns-then-i-lt9
 unfolding default_prefix

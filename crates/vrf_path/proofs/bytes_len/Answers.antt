@@ -1,6 +1,6 @@
 -- The lengths of the keys with a constant part.
 use Rattle.vrf_path.proofs.Keys.{len-prefixed, len-inserted}
-use Rattle.vrf_path.proofs.key_len.Goals as goal
+use Rattle.vrf_path.proofs.bytes_len.Goals as goal
 
 pub returns-in-Prefixed : goal.returns-in-Prefixed
 returns-in-Prefixed c = len-prefixed _ c.in-Prefixed.is
