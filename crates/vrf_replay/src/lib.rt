@@ -119,8 +119,8 @@ pub fn play(script: &[u8], memory: &mut [u8], scratch: &mut [u8], out: &mut [u8]
     if let Err(stop) = play_calls(script, memory, scratch, &mut answers) {
         answers.line(stop);
     }
-    // `len` is within the buffer that the answers hold, but after a `write!` it is not known that this is `out`. Tried: a clause on `byte`, `end`
-    // and `put` that the buffer keeps its length. In `put` it does not prove, because a failed `write!` says nothing of its writer.
+    // `len` is within the buffer that the answers hold, but it is not known that this is still `out`: `put` is generic over what it writes, and
+    // `Shown::show` promises nothing of the buffer.
     let n = answers.len();
     n.min(out.len())
 }

@@ -1,9 +1,11 @@
-// The answers of a run: lines of text in a lent buffer.
+// The answers of a run: lines of text in a lent buffer. (No `write!`: its formatter takes two to six times as long, and calls the C library's
+// `memcpy` and `memmove`, which the player's static library would then need. For the same reason a text is copied by `put_part`. The functions
+// over a buffer and a place keep the place in a register; as a field it is stored for each byte, in 1.4 to 1.8 times the time.)
 ghost use Rattle.std.specs.Prelude.{◌≡◌, ◌≤◌, length};
 
-use std::fmt;
-use std::fmt::Write;
 use vrf_bitio::Refusal;
+use vrf_names::{decimal_len, put_decimal};
+use vrf_words::put_part;
 
 // What does not fit into the buffer is left out. Every line begins with the number of its call.
 #[derive(Drop)]
@@ -12,6 +14,63 @@ pub struct Answers<'a> {
     to: usize,
     ghost within: { to ≤ length out.now },
     pub call: u64,
+}
+
+// What can be written into a line.
+pub trait Shown {
+    fn show(self, answers: &mut Answers<'_>);
+}
+
+// The hexadecimal digit of a number below 16.
+fn digit(n: u8) -> u8
+    requires { n ≤ 15 }
+{
+    if n < 10 { b'0' + n } else { b'a' - 10 + n }
+}
+
+// Writes a byte at place `to`, if there is space, and answers the place after what was written. So do the next three functions.
+fn byte_at(out: &mut [u8], to: usize, b: u8) -> usize
+    requires { to ≤ length out.old }
+    ensures { (length out.new ≡ length out.old) × (result ≤ length out.old) }
+{
+    if to < out.len() {
+        out[to] = b;
+        return to + 1;
+    }
+    to
+}
+
+fn bytes_at(out: &mut [u8], to: usize, text: &[u8]) -> usize
+    requires { to ≤ length out.old }
+    ensures { (length out.new ≡ length out.old) × (result ≤ length out.old) }
+{
+    let n = text.len().min(out.len() - to);
+    put_part(out, to, &text[..n]);
+    to + n
+}
+
+// A byte that is not printable ASCII, or is a quote or a backslash, is written as `\xHH`.
+fn quoted_byte_at(out: &mut [u8], to: usize, b: u8) -> usize
+    requires { to ≤ length out.old }
+    ensures { (length out.new ≡ length out.old) × (result ≤ length out.old) }
+{
+    if 0x20 <= b && b <= 0x7E && b != b'"' && b != b'\\' {
+        return byte_at(out, to, b);
+    }
+    let slash = byte_at(out, to, b'\\');
+    let x = byte_at(out, slash, b'x');
+    let high = byte_at(out, x, digit(b / 16));
+    byte_at(out, high, digit(b % 16))
+}
+
+fn quoted_at(out: &mut [u8], mut to: usize, text: &[u8]) -> usize
+    requires { to ≤ length out.old }
+    ensures { (length out.new ≡ length out.old) × (result ≤ length out.old) }
+{
+    for b in text {
+        to = quoted_byte_at(out, to, *b);
+    }
+    to
 }
 
 impl<'a> Answers<'a> {
@@ -38,26 +97,34 @@ impl<'a> Answers<'a> {
     }
 
     fn byte(&mut self, b: u8) {
-        if self.to < self.out.len() {
-            self.out[self.to] = b;
-            self.to += 1;
-        }
+        self.to = byte_at(self.out, self.to, b);
     }
 
     pub fn bytes(&mut self, text: &[u8]) {
-        let n = text.len().min(self.out.len() - self.to);
-        self.out[self.to..self.to + n].copy_from_slice(&text[..n]);
-        self.to += n;
+        self.to = bytes_at(self.out, self.to, text);
     }
 
-    // Text of any kind. The result is let go: `write_str` below never errs, because what does not fit is left out.
-    pub fn put<T: fmt::Display + Drop>(&mut self, what: T) {
-        let _ = write!(self, "{what}");
+    // In decimal. The digits are made in an array of their own, because a number that does not fit whole is written as far as it fits.
+    fn decimal(&mut self, n: u64) {
+        let mut digits = [0u8; 20];
+        put_decimal(n, &mut digits, 0);
+        self.bytes(&digits[..decimal_len(n)]);
+    }
+
+    // Sixteen hexadecimal digits, the highest first.
+    pub fn hexadecimal(&mut self, n: u64) {
+        for i in (0..16u32).rev() {
+            self.byte(digit(((n >> (4 * i)) % 16) as u8));
+        }
+    }
+
+    pub fn put<T: Shown>(&mut self, what: T) {
+        what.show(self);
     }
 
     pub fn begin(&mut self) {
-        let call = self.call;
-        self.put(format_args!("{call} "));
+        self.decimal(self.call);
+        self.byte(b' ');
     }
 
     pub fn end(&mut self) {
@@ -65,7 +132,7 @@ impl<'a> Answers<'a> {
     }
 
     // A line with only this text.
-    pub fn line<T: fmt::Display + Drop>(&mut self, what: T) {
+    pub fn line<T: Shown>(&mut self, what: T) {
         self.begin();
         self.put(what);
         self.end();
@@ -78,31 +145,67 @@ impl<'a> Answers<'a> {
         }
     }
 
+    // A value after its label.
+    pub fn labelled<T: Shown>(&mut self, label: &str, what: T) {
+        self.put(label);
+        self.put(what);
+    }
+
     // A value after its label, or the refusal.
-    pub fn value<T: fmt::Display + Drop>(&mut self, label: &str, answer: Result<T, Refusal>) {
+    pub fn value<T: Shown>(&mut self, label: &str, answer: Result<T, Refusal>) {
         match answer {
-            Ok(v) => self.put(format_args!("{label}{v}")),
+            Ok(v) => self.labelled(label, v),
             Err(r) => self.put(r),
         }
     }
 
-    // A text in quotes. A byte that is not printable ASCII, or is a quote or a backslash, is written as `\xHH`.
+    // A text in quotes.
     pub fn quoted(&mut self, text: &[u8]) {
         self.byte(b'"');
-        for b in text {
-            match b {
-                b'"' | b'\\' => self.put(format_args!("\\x{b:02x}")),
-                0x20..=0x7E => self.byte(*b),
-                _ => self.put(format_args!("\\x{b:02x}")),
-            }
-        }
+        self.to = quoted_at(self.out, self.to, text);
         self.byte(b'"');
     }
 }
 
-impl fmt::Write for Answers<'_> {
-    fn write_str(&mut self, s: &str) -> fmt::Result {
-        self.bytes(s.as_bytes());
-        Ok(())
+impl Shown for &str {
+    fn show(self, answers: &mut Answers<'_>) {
+        answers.bytes(self.as_bytes());
+    }
+}
+
+impl Shown for u64 {
+    fn show(self, answers: &mut Answers<'_>) {
+        answers.decimal(self);
+    }
+}
+
+impl Shown for u32 {
+    fn show(self, answers: &mut Answers<'_>) {
+        answers.decimal(u64::from(self));
+    }
+}
+
+impl Shown for u8 {
+    fn show(self, answers: &mut Answers<'_>) {
+        answers.decimal(u64::from(self));
+    }
+}
+
+// With a minus sign below 0.
+impl Shown for i32 {
+    fn show(self, answers: &mut Answers<'_>) {
+        if self < 0 {
+            answers.byte(b'-');
+        }
+        answers.decimal(u64::from(self.unsigned_abs()));
+    }
+}
+
+// As its `Display` prints it.
+impl Shown for Refusal {
+    fn show(self, answers: &mut Answers<'_>) {
+        answers.labelled("refused ", self.reason.number());
+        answers.labelled(" ", self.a);
+        answers.labelled(" ", self.b);
     }
 }

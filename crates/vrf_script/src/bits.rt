@@ -105,13 +105,26 @@ fn text(reading: Reading, reader: &mut BitReader<'_>, answers: &mut Answers<'_>)
 }
 
 // The target is shown after a refusal too: it must be as it was before.
-fn copy(reader: &mut BitReader<'_>, target: &mut [u8], bits: u64, answers: &mut Answers<'_>) {
+fn copy_into(reader: &mut BitReader<'_>, target: &mut [u8], bits: u64, answers: &mut Answers<'_>) {
     match reader.copy_bits_to(target, bits) {
         Ok(()) => answers.put("copied"),
         Err(r) => answers.put(r),
     }
     answers.put(" target ");
     answers.quoted(target);
+}
+
+// (A function of its own, because a function fills its arrays on each call: in `read` the target was filled for every reading.)
+fn copy(
+    reader: &mut BitReader<'_>,
+    size: usize,
+    bits: u64,
+    answers: &mut Answers<'_>,
+) -> Result<(), Stop> {
+    let mut target = [0xA5u8; TARGET];
+    let (part, _) = target.split_at_mut_checked(size).ok_or(Stop::TooLarge)?;
+    copy_into(reader, part, bits, answers);
+    Ok(())
 }
 
 // The answer of a reading that stays in its window.
@@ -128,13 +141,7 @@ fn read(
         Reading::I32 => answers.value("value ", reader.read_i32()),
         Reading::IntPacked => answers.value("value ", reader.read_int_packed()),
         Reading::Text | Reading::Name => text(reading, reader, answers),
-        Reading::Copy { size, bits } => {
-            let mut target = [0xA5u8; TARGET];
-            let (part, _) = target
-                .split_at_mut_checked(size as usize)
-                .ok_or(Stop::TooLarge)?;
-            copy(reader, part, bits, answers);
-        }
+        Reading::Copy { size, bits } => return copy(reader, size as usize, bits, answers),
         _ => answers.put("no such reading"),
     }
     Ok(())
@@ -142,8 +149,7 @@ fn read(
 
 // Ends the line of a reading with the position of its window.
 fn placed(reader: &BitReader<'_>, answers: &mut Answers<'_>) {
-    let position = reader.position();
-    answers.put(format_args!(" at {position}"));
+    answers.labelled(" at ", reader.position());
     answers.end();
 }
 

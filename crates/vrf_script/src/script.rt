@@ -1,5 +1,6 @@
 // Reads the items of a script.
-use std::fmt;
+use crate::answers::{Answers, Shown};
+use vrf_words::put_part;
 
 // Why a run ends before its script does.
 #[derive(Clone, Copy, Debug, PartialEq, Eq)]
@@ -12,13 +13,13 @@ pub enum Stop {
     TooLarge,
 }
 
-impl fmt::Display for Stop {
-    fn fmt<W: fmt::Write>(&self, f: &mut fmt::Formatter<W>) -> fmt::Result {
-        match self {
-            Stop::NoScript => write!(f, "no script"),
-            Stop::NoSuchCall => write!(f, "no such call"),
-            Stop::TooLarge => write!(f, "too large"),
-        }
+impl Shown for Stop {
+    fn show(self, answers: &mut Answers<'_>) {
+        answers.put(match self {
+            Stop::NoScript => "no script",
+            Stop::NoSuchCall => "no such call",
+            Stop::TooLarge => "too large",
+        });
     }
 }
 
@@ -51,7 +52,8 @@ impl<'a> Blob<'a> {
                 let Some((first, others)) = all.split_at_mut_checked(head.len()) else {
                     return Err(Stop::NoScript);
                 };
-                first.copy_from_slice(head);
+                // By `put_part`, since `copy_from_slice` calls the C library's `memmove`.
+                put_part(first, 0, head);
                 others.fill(fill);
                 Ok(all)
             }

@@ -4,6 +4,7 @@
 ghost use Rattle.std.specs.Prelude.{length, IfOk};
 ghost use Rattle.vrf_script_calls.specs.Inner.Blocks.{KeptIn};
 
+use crate::books::move_part;
 use vrf_bitio::Refusal;
 use vrf_schema::writing::write_checkpoint_tables;
 use vrf_script::answers::Answers;
@@ -49,11 +50,12 @@ pub fn write(
     let sum = fnv(buffer);
     answers.begin();
     answers.value("length ", written);
-    answers.put(format_args!(" fnv {sum:016x}"));
+    answers.put(" fnv ");
+    answers.hexadecimal(sum);
     answers.end();
     if let Ok(length) = written {
         let size = length as usize;
-        scratch.copy_within(from..from + size, 0);
+        move_part(scratch, from, 0, size);
         *kept = size;
     }
     Ok(())

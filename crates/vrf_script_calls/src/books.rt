@@ -85,6 +85,23 @@ impl Books {
     }
 }
 
+// Copies n bytes of m to another place in m, which may overlap them: from the end if that place is later. (`copy_within` calls the C library's
+// `memmove`.)
+pub fn move_part(m: &mut [u8], from: usize, to: usize, n: usize)
+    requires { (from + n ≤ length m.old) × (to + n ≤ length m.old) }
+    ensures { length m.new ≡ length m.old }
+{
+    if to < from {
+        for k in 0..n {
+            m[to + k] = m[from + k];
+        }
+    } else {
+        for k in (0..n).rev() {
+            m[to + k] = m[from + k];
+        }
+    }
+}
+
 fn open_book(book: &mut [u8], allowed: Allowances, answers: &mut Answers<'_>) {
     match vrf_schema::calls::open(book, allowed) {
         Ok(()) => answers.line("opened"),
@@ -110,7 +127,7 @@ fn open_sized(
         return books;
     }
     let next = from + n;
-    memory.copy_within(to..end, next);
+    move_part(memory, to, next, end - to);
     open_book(&mut memory[from..next], allowed, answers);
     resized
 }

@@ -20,19 +20,24 @@ fn placed(answer: Result<bool, Refusal>, answers: &mut Answers<'_>) {
 // The count of a run or the GUID of an object, and the position after what was read.
 fn ran(answer: Result<Ran, Refusal>, what: &str, answers: &mut Answers<'_>) {
     match answer {
-        Ok(Ran { count, pos }) => answers.put(format_args!("{what} {count} at {pos}")),
+        Ok(Ran { count, pos }) => {
+            answers.put(what);
+            answers.labelled(" ", count);
+            answers.labelled(" at ", pos);
+        }
         Err(r) => answers.put(r),
     }
 }
 
-// The seven counts of a block. (No `Display`: the type is of a crate below, which does not print.)
+// The seven counts of a block.
 fn counts(n: CheckpointTables, answers: &mut Answers<'_>) {
-    let (guids, groups) = (n.guid_count, n.group_count);
-    let (fields, frame) = (n.exported_fields, n.frame_offset);
-    let (indexed, literal) = (n.indexed_paths, n.literal_paths);
-    let resolved = n.resolved_path_indices;
-    answers.put(format_args!("counts {guids} {groups} {fields} {frame}"));
-    answers.put(format_args!(" {indexed} {literal} {resolved}"));
+    answers.labelled("counts ", n.guid_count);
+    answers.labelled(" ", n.group_count);
+    answers.labelled(" ", n.exported_fields);
+    answers.labelled(" ", n.frame_offset);
+    answers.labelled(" ", n.indexed_paths);
+    answers.labelled(" ", n.literal_paths);
+    answers.labelled(" ", n.resolved_path_indices);
 }
 
 fn tables(answer: Result<CheckpointTables, Refusal>, answers: &mut Answers<'_>) {

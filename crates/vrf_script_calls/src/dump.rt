@@ -7,11 +7,13 @@ use vrf_script::answers::Answers;
 // A group with its filled slots: at most those that it has, and at most those asked for.
 fn group_line(book: &[u8], place: u32, slots: u32, answers: &mut Answers<'_>) {
     answers.begin();
-    answers.put(format_args!("group {place} "));
+    answers.labelled("group ", place);
+    answers.put(" ");
     group(book, place, answers);
     for slot in 0..group_slots(book, place).unwrap_or(0).min(slots) {
         if let Ok(Some(checksum)) = get_field(book, place, slot) {
-            answers.put(format_args!(" field {slot} {checksum}"));
+            answers.labelled(" field ", slot);
+            answers.labelled(" ", checksum);
             name(" ", book, place, slot, answers);
         }
     }
@@ -20,7 +22,8 @@ fn group_line(book: &[u8], place: u32, slots: u32, answers: &mut Answers<'_>) {
 
 fn guid_line(book: &[u8], place: u32, answers: &mut Answers<'_>) {
     answers.begin();
-    answers.put(format_args!("guid {place} "));
+    answers.labelled("guid ", place);
+    answers.put(" ");
     guid(book, place, answers);
     answers.end();
 }

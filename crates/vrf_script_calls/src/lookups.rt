@@ -7,7 +7,7 @@ use vrf_script::call::Lookup;
 // What was found, after its label.
 fn found(answer: Result<Option<u32>, Refusal>, label: &str, answers: &mut Answers<'_>) {
     match answer {
-        Ok(Some(n)) => answers.put(format_args!("{label} {n}")),
+        Ok(Some(n)) => answers.labelled(label, n),
         Ok(None) => answers.put("absent"),
         Err(r) => answers.put(r),
     }
@@ -15,7 +15,7 @@ fn found(answer: Result<Option<u32>, Refusal>, label: &str, answers: &mut Answer
 
 // A place of a group or of a GUID record.
 fn place(answer: Result<Option<u32>, Refusal>, answers: &mut Answers<'_>) {
-    found(answer, "place", answers);
+    found(answer, "place ", answers);
 }
 
 // A text of the book after its label.
@@ -46,10 +46,11 @@ pub fn guid(book: &[u8], place: u32, answers: &mut Answers<'_>) {
 fn counters(book: &[u8], answers: &mut Answers<'_>) {
     match lookups::get_counters(book) {
         Ok(n) => {
-            let (schema, guid, dropped) = (n.schema, n.guid, n.dropped);
-            let (replaced, renamed) = (n.replaced, n.renamed);
-            answers.put(format_args!("counters schema {schema} guid {guid} dropped {dropped}"));
-            answers.put(format_args!(" replaced {replaced} renamed {renamed}"));
+            answers.labelled("counters schema ", n.schema);
+            answers.labelled(" guid ", n.guid);
+            answers.labelled(" dropped ", n.dropped);
+            answers.labelled(" replaced ", n.replaced);
+            answers.labelled(" renamed ", n.renamed);
         }
         Err(r) => answers.put(r),
     }
@@ -61,11 +62,11 @@ pub fn say(book: &[u8], lookup: Lookup<'_>, text: &[u8], answers: &mut Answers<'
         Lookup::GroupByIndex(i) => place(lookups::get_group_by_index(book, i), answers),
         Lookup::GroupByPath(_) => place(lookups::get_group_by_path(book, text), answers),
         Lookup::PathByGuid(guid) => place(lookups::get_path_by_guid(book, guid), answers),
-        Lookup::OuterGuid(guid) => found(lookups::get_outer_guid(book, guid), "guid", answers),
+        Lookup::OuterGuid(guid) => found(lookups::get_outer_guid(book, guid), "guid ", answers),
         Lookup::OuterPath(guid) => place(lookups::get_outer_path(book, guid), answers),
         Lookup::GameplayTagName(tag) => place(lookups::get_gameplay_tag_name(book, tag), answers),
         Lookup::Field { place, slot } => {
-            found(lookups::get_field(book, place, slot), "checksum", answers)
+            found(lookups::get_field(book, place, slot), "checksum ", answers)
         }
         Lookup::Group(place) => group(book, place, answers),
         Lookup::FieldName { place, slot } => name("name ", book, place, slot, answers),

@@ -51,9 +51,9 @@ pasted-in_front l r v at h =
     let low : at ≤ length l = omega arith in
     rw (append_assoc, append_assoc, take-append-le at l r low, drop-append-le (at + length v) l r h)
 
-pub pasted-in_back : (l r v : List ℕ) (at n : ℕ) → length l ≡ at → length v ≡ n → l ++ (v ++ drop n r) ≡ pasted (l ++ r) at v
+pub pasted-in_back : (l r v : List ℕ) (at : ℕ) → length l ≡ at → l ++ pasted r 0 v ≡ pasted (l ++ r) at v
 unfolding pasted
-pasted-in_back l r v at n e size = rw (← e, ← size, take-append_seam, drop-append-add)
+pasted-in_back l r v at e = rw (← e, zero-add (length v), take-append_seam, drop-append-add)
 
 -- n bytes of the front of s, up to place e
 pub part-of_front : (s : List ℕ) (e a n : ℕ) → a + n ≤ e → take (a + n - a) (drop a (take e s)) ≡ part s a n

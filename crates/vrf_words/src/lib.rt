@@ -1,7 +1,7 @@
 // Reads and writes a lent memory as 32-bit words, low byte first, and copies parts of it.
 #![tactic(auto)]
 
-ghost use Rattle.std.specs.Prelude.{◌≡◌, ◌+◌, ◌*◌, ◌/◌, ◌%◌, ◌^◌, ◌≤◌, min, length, replicate};
+ghost use Rattle.std.specs.Prelude.{◌≡◌, ◌+◌, ◌*◌, ◌/◌, ◌%◌, ◌^◌, ◌<◌, ◌≤◌, min, length, replicate};
 ghost use Rattle.vrf_bitio.specs.Pasted.{pasted};
 ghost use Rattle.vrf_words.specs.Words.{part, word};
 ghost use Rattle.vrf_words.specs.Inner.Words.{set_word, Apart};
@@ -59,39 +59,70 @@ fn put_piece<const N: usize>(m: &mut [u8], at: usize, t: &[u8], k: usize)
     m[at + k..at + k + N].copy_from_slice(&piece);
 }
 
-// Writes t into m, from byte `at` on. A text of 8 to 96 bytes is written in pieces of a fixed size. The last piece ends where the text
-// ends, so pieces can overlap and write some bytes twice. Their number is the same for all lengths in a range, and needs no branch on the
-// length. One `copy_from_slice` for every length does branch on it: a block was then written up to 1.8 times as slowly.
+// Writes a text of fewer than eight bytes. (No loop over its bytes: the compiler can make a `memcpy` of one.)
+fn put_few(m: &mut [u8], at: usize, t: &[u8])
+    requires { (length t.now < 8) × (at + length t.now ≤ length m.old) }
+    ensures { m.new ≡ pasted m.old at t.now }
+{
+    let n = t.len();
+    if 3 < n {
+        put_piece::<4>(m, at, t, 0);
+        put_piece::<4>(m, at, t, n - 4);
+    } else if 1 < n {
+        put_piece::<2>(m, at, t, 0);
+        put_piece::<2>(m, at, t, n - 2);
+    } else if 0 < n {
+        put_piece::<1>(m, at, t, 0);
+    }
+}
+
+// Writes a text of 32 bytes or more, 32 bytes in each turn. The last turn writes the last 32 bytes of the text.
+fn put_longest(m: &mut [u8], at: usize, t: &[u8])
+    requires { (32 ≤ length t.now) × (at + length t.now ≤ length m.old) }
+    ensures { m.new ≡ pasted m.old at t.now }
+{
+    let last = t.len() - 32;
+    for i in 0..t.len().div_ceil(32) {
+        put_piece::<32>(m, at, t, (32 * i).min(last));
+    }
+}
+
+// Writes t into m, from byte `at` on. A text of eight bytes or more is written in pieces of a fixed size. The last piece ends where the text
+// ends, so pieces can overlap and write some bytes twice. Their number is the same for all lengths in a range up to 96, and needs no branch on
+// the length. One `copy_from_slice` for every length does branch on it: a block was then written up to 1.8 times as slowly. It also calls the C
+// library's `memmove`, which the static libraries for C would then need.
 pub fn put_part(m: &mut [u8], at: usize, t: &[u8])
     requires { at + length t.now ≤ length m.old }
     ensures { m.new ≡ pasted m.old at t.now }
 {
     let n = t.len();
-    if n < 8 || 96 < n {
-        m[at..at + n].copy_from_slice(t);
+    if n < 8 {
+        put_few(m, at, t);
     } else if n < 32 {
         put_piece::<8>(m, at, t, 0);
         put_piece::<8>(m, at, t, (n - 8).min(8));
         put_piece::<8>(m, at, t, (n - 8).min(16));
         put_piece::<8>(m, at, t, n - 8);
-    } else {
+    } else if n <= 96 {
         put_piece::<32>(m, at, t, 0);
         put_piece::<32>(m, at, t, (n - 32).min(32));
         put_piece::<32>(m, at, t, n - 32);
+    } else {
+        put_longest(m, at, t);
     }
 }
 
-// Copies n bytes of m to a place in m that does not overlap them. `copy_within` allows an overlap too, and is slower for that.
+// Copies n bytes of m to a place in m that does not overlap them. (`copy_within` calls the C library's `memmove`.)
 pub fn move_part(m: &mut [u8], from: usize, to: usize, n: usize)
     requires { (from + n ≤ length m.old) × (to + n ≤ length m.old) × Apart from n to n }
     ensures { m.new ≡ pasted m.old to (part m.old from n) }
 {
     if from < to {
         let (front, back) = m.split_at_mut(to);
-        back[..n].copy_from_slice(&front[from..from + n]);
+        put_part(back, 0, &front[from..from + n]);
     } else {
         let (front, back) = m.split_at_mut(from);
-        front[to..to + n].copy_from_slice(&back[..n]);
+        put_part(front, to, &back[..n]);
     }
 }
 
