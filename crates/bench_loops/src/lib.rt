@@ -11,21 +11,28 @@ use vrf_text::read_fstring;
 // The most passes of a loop. Every loop ends before, at a refused reading.
 const PASSES: u64 = 4_294_967_296;
 
-// The reader of all of s, or of no bits if s is too large for a window.
-fn whole(s: &[u8]) -> BitReader<'_> {
-    BitReader::new(s).unwrap_or(BitReader {
+// The reader of no bits of s.
+fn nothing(s: &[u8]) -> BitReader<'_> {
+    BitReader {
         data: s,
         first: 0,
         count: 0,
         pos: 0,
-    })
+    }
 }
 
-// The reader after the first bits of s, at most 64 of them.
+// The reader of all of s, or of no bits if s is too large for a window.
+fn whole(s: &[u8]) -> BitReader<'_> {
+    BitReader::new(s).unwrap_or(nothing(s))
+}
+
+// The reader after the first bits of s, at most 64 of them, or of no bits if s has fewer.
 fn following(s: &[u8], skip: u64) -> BitReader<'_> {
     let mut reader = whole(s);
-    let _ = reader.read_bits((skip % 65) as u32);
-    reader
+    match reader.read_bits((skip % 65) as u32) {
+        Ok(_) => reader,
+        Err(_) => nothing(s),
+    }
 }
 
 // Reads as many bits as each element of `widths`, and adds the values to the sum.

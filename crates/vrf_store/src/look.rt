@@ -179,7 +179,7 @@ pub fn find_path_place(m: &[u8], k: &[u8]) -> Option<u32>
     requires { WellFormed m.now × (length k.now < 2 ^ 31) }
     ensures { entry result ≡ path_place k.now (content_of (store_of m.now)).groups }
 {
-    let e = groups_by_path(m, groups(m)).find(k)?;
+    let e = groups_by_path(m, groups(m)).find(&k[..])?;
     Some(e / 3)
 }
 
@@ -189,7 +189,7 @@ fn leaf_start(m: &[u8], base: &[u8]) -> u32
     ensures { result ≡ text_start (store_of m.now).leaf_heads (Layout.leaf_buckets (allowances_of m.now)) base.now }
 {
     let b = leaf_buckets(m);
-    get32(leaf_heads(m), text_bucket(base, b) as usize)
+    get32(leaf_heads(m), text_bucket(&base[..], b) as usize)
 }
 
 // The pointer at which the chain for the first n bytes of a name starts. q is the pointer for the whole name. Mostly n is the whole length.

@@ -347,7 +347,7 @@ impl PathIndex<'_> {
         requires { length k.now < 2 ^ 31 }
         ensures { entry result ≡ path_found self.now k.now }
     {
-        let p = get32(self.heads, text_bucket(k, self.buckets) as usize);
+        let p = get32(self.heads, text_bucket(&k[..], self.buckets) as usize);
         walk(
             p,
             3 * self.groups.count,

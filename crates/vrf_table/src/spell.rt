@@ -12,8 +12,8 @@ pub fn join(scratch: &mut [u8], a: &[u8], b: &[u8]) -> usize
     requires { length a.now + length b.now ≤ length scratch.old }
     ensures { SpelledInto (a.now ++ b.now) scratch.old scratch.new result }
 {
-    put_part(scratch, 0, a);
-    put_part(scratch, a.len(), b);
+    put_part(scratch, 0, &a[..]);
+    put_part(scratch, a.len(), &b[..]);
     a.len() + b.len()
 }
 
