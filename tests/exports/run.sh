@@ -1,6 +1,7 @@
 #!/usr/bin/env bash
 # Checks the exported functions: each public function of an exported crate has a contract (`ensures`) and may be called on any input (no
-# `requires`). For each call, exactly one function of vrf_schema has its contract, as `CallContract` or
+# `requires`, and no type whose value a caller makes and must prove a fact of). Each `impl` of a trait there says what the trait's functions
+# give. For each call, exactly one function of vrf_schema has its contract, as `CallContract` or
 # `LookupContract`: so the lists of calls in demand 3 are complete. A call is a constructor of `Call`, or of one of the types of lookups
 # that `Lookup` names. With a folder as its argument it checks that tree; `selftest.sh` uses this.
 set -euo pipefail
@@ -60,6 +61,11 @@ check_crate() { # CRATE
         file=${file#crates/"$1"/}
         if [[ $name = pub\ * ]]; then
             fault "$1: $file: a $name exports functions that are not checked here"
+            continue
+        fi
+        if [[ $name = impl\ * || $name = struct\ * ]]; then
+            [ "$requires" = - ] || fault "$1: $file: $name has a ghost field and a public field"
+            [ "$ensures" != - ] || fault "$1: $file: $name says nothing of the trait's functions"
             continue
         fi
         n=$((n + 1))

@@ -73,6 +73,15 @@ FAULTS
 wrong 'a trait, whose methods have no pub' crates/vrf_names/src/lib.rt '$a\pub trait It {\n    fn one(self) -> u8;\n}' <<'FAULTS'
 exports: vrf_names: src/lib.rt: a pub trait exports functions that are not checked here
 FAULTS
+wrong 'an impl of a trait without a promise' crates/vrf_path/src/lib.rt '/^ +ghost (next_gives|remaining) = /d' <<'FAULTS'
+exports: vrf_path: src/lib.rt: impl for Stems says nothing of the trait's functions
+FAULTS
+wrong 'an impl of a trait without a promise, after a struct with a fact' crates/vrf_bitio/src/lib.rt '/^ +ghost output = /d' <<'FAULTS'
+exports: vrf_bitio: src/lib.rt: impl for Refusal says nothing of the trait's functions
+FAULTS
+wrong 'a type whose callers must prove a fact' crates/vrf_names/src/lib.rt '$a\pub struct Few {\n    pub n: u32,\n    ghost few: { n ≤ 4 },\n}\n\npub fn of_few(f: Few) -> u32\n    ensures { result ≡ f.n }\n{\n    f.n\n}' <<'FAULTS'
+exports: vrf_names: src/lib.rt: struct Few has a ghost field and a public field
+FAULTS
 wrong 'a function that is exported again' crates/vrf_text/src/lib.rt '$a\pub use vrf_bitio::bits_at;' <<'FAULTS'
 exports: vrf_text: src/lib.rt: a pub use exports functions that are not checked here
 FAULTS
