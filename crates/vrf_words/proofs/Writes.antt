@@ -1,6 +1,6 @@
 -- Laws for the functions of this crate: a part of a slice that is read or written is a part of the memory.
 use Rattle.std.specs.Prelude.{◌≡◌, List, [], ◌∷◌, ◌++◌, ℕ, ◌+◌, ◌-◌, ◌*◌, ◌/◌, ◌%◌, ◌^◌, ◌<◌, ◌≤◌, length, take, drop}
-use Rattle.std.proofs.Common.{ap, ◌∙◌, arith, zero-add, append_assoc, get_or-take, get_or-drop}
+use Rattle.std.proofs.Common.{sym, ap, ◌∙◌, arith, zero-add, append_assoc, get_or-take, get_or-drop}
 use Rattle.std.proofs.lemmas.List.{take-append-le, drop-append-le}
 use Rattle.std.proofs.Math.ListN.{get_or}
 use Rattle.std.proofs.Math.Seq.{drop-drop, take-append_seam, drop-append-add}
@@ -51,9 +51,14 @@ pasted-in_front l r v at h =
     let low : at ≤ length l = omega arith in
     rw (append_assoc, append_assoc, take-append-le at l r low, drop-append-le (at + length v) l r h)
 
-pub pasted-in_back : (l r v : List ℕ) (at : ℕ) → length l ≡ at → l ++ pasted r 0 v ≡ pasted (l ++ r) at v
+pub pasted-in_back : (l r v : List ℕ) (at n : ℕ) → length l ≡ at → length v ≡ n → l ++ (v ++ drop n r) ≡ pasted (l ++ r) at v
 unfolding pasted
-pasted-in_back l r v at e = rw (← e, zero-add (length v), take-append_seam, drop-append-add)
+pasted-in_back l r v at n e size = rw (← e, ← size, take-append_seam, drop-append-add)
+
+-- the back by itself, with v written from its place 0 on
+pub pasted-to_back : (l r v : List ℕ) (at : ℕ) → length l ≡ at → l ++ pasted r 0 v ≡ pasted (l ++ r) at v
+unfolding pasted
+pasted-to_back l r v at e = pasted-in_back l r v at (0 + length v) e (sym (zero-add (length v)))
 
 -- n bytes of the front of s, up to place e
 pub part-of_front : (s : List ℕ) (e a n : ℕ) → a + n ≤ e → take (a + n - a) (drop a (take e s)) ≡ part s a n

@@ -4,7 +4,7 @@ use Rattle.vrf_bitio.specs.Pasted.{pasted}
 use Rattle.vrf_words.specs.Words.{part}
 use Rattle.vrf_words.specs.Inner.Words.{below, above}
 use Rattle.vrf_words.proofs.Laws.Words.{length_part}
-use Rattle.vrf_words.proofs.Writes.{pasted-in_front, pasted-in_back, part-of_front}
+use Rattle.vrf_words.proofs.Writes.{pasted-in_front, pasted-to_back, part-of_front}
 use Rattle.vrf_words.proofs.move_part.Goals as goal
 
 pub returns-then-from-to : goal.returns-then-from-to
@@ -18,7 +18,7 @@ returns-then-from-to c =
     let end : a.from + a.n ≤ a.to = elim c.requires.2 [ below g ↦ g | above g ↦ omega arith ] in
     let read = ap (λ (l : List ℕ). take (a.from + a.n - a.from) (drop a.from l)) s.front ∙ part-of_front m a.to a.from a.n end in
     ap (λ (x : List ℕ). front ++ x) (c.put_part.ensures ∙ ap (pasted back 0) read)
-    ∙ pasted-in_back front back v a.to s.front_len
+    ∙ pasted-to_back front back v a.to s.front_len
     ∙ ap (λ (l : List ℕ). pasted l a.to v) (sym s.value)
 
 pub returns-else-from-to : goal.returns-else-from-to
