@@ -1,8 +1,10 @@
-// The answers of a run: lines of text in a lent buffer. (No `write!`: its formatter takes two to six times as long, and calls the C library's
-// `memcpy` and `memmove`, which the player's static library would then need. For the same reason a text is copied by `put_part`. The functions
-// over a buffer and a place keep the place in a register; as a field it is stored for each byte, in 1.4 to 1.8 times the time.)
-ghost use Rattle.std.specs.Prelude.{◌≡◌, ◌≤◌, length};
+// The answers of a run: lines of text in a lent buffer. (The player's lines are made without `write!`: its formatter takes two to seven times as
+// long, and calls the C library's `memcpy` and `memmove`, which the player's static library would then need. For the same reason a text is copied
+// by `put_part`. The functions over a buffer and a place keep the place in a register; as a field it is stored for each byte, in 1.4 to 1.8 times
+// the time.)
+ghost use Rattle.std.specs.Prelude.{◌≡◌, ◌≤◌, length, IsOk};
 
+use std::fmt;
 use vrf_bitio::Refusal;
 use vrf_names::{decimal_len, put_decimal};
 use vrf_words::put_part;
@@ -164,6 +166,16 @@ impl<'a> Answers<'a> {
         self.byte(b'"');
         self.to = quoted_at(self.out, self.to, text);
         self.byte(b'"');
+    }
+}
+
+// So a caller can `write!` any value that has a `Display`. What does not fit is left out, as ever, so no writing fails.
+impl fmt::Write for Answers<'_> {
+    fn write_str(&mut self, s: &str) -> fmt::Result
+        ensures ok { IsOk result }
+    {
+        self.bytes(s.as_bytes());
+        Ok(())
     }
 }
 

@@ -6,3 +6,5 @@ pub mod answers;
 pub mod bits;
 pub mod call;
 pub mod script;
+#[cfg(test)]
+mod tests;

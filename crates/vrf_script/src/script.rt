@@ -1,5 +1,9 @@
 // Reads the items of a script.
+ghost use Rattle.std.specs.Prelude.{Some};
+ghost use Rattle.vrf_script.specs.Inner.Stops.{stop_text};
+
 use crate::answers::{Answers, Shown};
+use std::fmt;
 use vrf_words::put_part;
 
 // Why a run ends before its script does.
@@ -13,6 +17,7 @@ pub enum Stop {
     TooLarge,
 }
 
+// As its `Display` prints it.
 impl Shown for Stop {
     fn show(self, answers: &mut Answers<'_>) {
         answers.put(match self {
@@ -20,6 +25,18 @@ impl Shown for Stop {
             Stop::NoSuchCall => "no such call",
             Stop::TooLarge => "too large",
         });
+    }
+}
+
+impl fmt::Display for Stop {
+    ghost output = { λ stop. Some (stop_text stop) };
+
+    fn fmt<W: fmt::Write>(&self, f: &mut fmt::Formatter<W>) -> fmt::Result {
+        match self {
+            Stop::NoScript => write!(f, "no script"),
+            Stop::NoSuchCall => write!(f, "no such call"),
+            Stop::TooLarge => write!(f, "too large"),
+        }
     }
 }
 

@@ -1,0 +1,2 @@
+-- How the parts of a script are printed.
+pub mod Stops
