@@ -1,12 +1,13 @@
 -- Laws for the functions of this crate: a part of a slice that is read or written is a part of the memory.
 use Rattle.std.specs.Prelude.{◌≡◌, List, [], ◌∷◌, ◌++◌, ℕ, ◌+◌, ◌-◌, ◌*◌, ◌/◌, ◌%◌, ◌^◌, ◌<◌, ◌≤◌, length, take, drop}
-use Rattle.std.proofs.Common.{sym, ap, ◌∙◌, arith, zero-add, append_assoc, get_or-take, get_or-drop}
+use Rattle.std.proofs.Common.{refl, ap, ◌∙◌, arith, zero-add, append_assoc, get_or-take, get_or-drop}
 use Rattle.std.proofs.lemmas.List.{take-append-le, drop-append-le}
 use Rattle.std.proofs.Math.ListN.{get_or}
 use Rattle.std.proofs.Math.Seq.{drop-drop, take-append_seam, drop-append-add}
 use borrow.Rule.Slice.PartMut.{put_mid}
 use Rattle.vrf_bitio.specs.Number.{low_bytes}
 use Rattle.vrf_bitio.specs.Pasted.{pasted}
+use Rattle.vrf_bitio.proofs.Laws.Pasted.{pasted-front}
 use Rattle.vrf_words.specs.Words.{part, word}
 use Rattle.vrf_words.proofs.Laws.Words.{part-part}
 
@@ -55,10 +56,9 @@ pub pasted-in_back : (l r v : List ℕ) (at n : ℕ) → length l ≡ at → len
 unfolding pasted
 pasted-in_back l r v at n e size = rw (← e, ← size, take-append_seam, drop-append-add)
 
--- the back by itself, with v written from its place 0 on
+-- the same, where v was written over the first elements of the back
 pub pasted-to_back : (l r v : List ℕ) (at : ℕ) → length l ≡ at → l ++ pasted r 0 v ≡ pasted (l ++ r) at v
-unfolding pasted
-pasted-to_back l r v at e = pasted-in_back l r v at (0 + length v) e (sym (zero-add (length v)))
+pasted-to_back l r v at e = ap (λ (x : List ℕ). l ++ x) (pasted-front r v) ∙ pasted-in_back l r v at (length v) e refl
 
 -- n bytes of the front of s, up to place e
 pub part-of_front : (s : List ℕ) (e a n : ℕ) → a + n ≤ e → take (a + n - a) (drop a (take e s)) ≡ part s a n
