@@ -1,2 +1,3 @@
--- How the parts of a script are printed.
+-- A text in the answers, and the texts of why a run ends.
+pub mod Written
 pub mod Stops

@@ -3,6 +3,7 @@
 // by `put_part`. The functions over a buffer and a place keep the place in a register; as a field it is stored for each byte, in 1.4 to 1.8 times
 // the time.)
 ghost use Rattle.std.specs.Prelude.{◌≡◌, ◌≤◌, length, IsOk};
+ghost use Rattle.vrf_script.specs.Inner.Written.{WrittenAt};
 
 use std::fmt;
 use vrf_bitio::Refusal;
@@ -44,7 +45,8 @@ fn byte_at(out: &mut [u8], to: usize, b: u8) -> usize
 
 fn bytes_at(out: &mut [u8], to: usize, text: &[u8]) -> usize
     requires { to ≤ length out.old }
-    ensures { (length out.new ≡ length out.old) × (result ≤ length out.old) }
+    ensures bounds { (length out.new ≡ length out.old) × (result ≤ length out.old) }
+    ensures written { WrittenAt out.old to text.now out.new result }
 {
     let n = text.len().min(out.len() - to);
     put_part(out, to, &text[..n]);
@@ -77,7 +79,8 @@ fn quoted_at(out: &mut [u8], mut to: usize, text: &[u8]) -> usize
 
 impl<'a> Answers<'a> {
     pub fn new(out: &'a mut [u8]) -> Answers<'a>
-        ensures { length result.out.now ≡ length out.old }
+        ensures length { length result.out.now ≡ length out.old }
+        ensures begun { (result.out.now ≡ out.old) × (result.to ≡ 0) × (result.call ≡ 0) }
     {
         Answers {
             out,
@@ -88,7 +91,8 @@ impl<'a> Answers<'a> {
 
     // The number of bytes that are written.
     pub fn len(&self) -> usize
-        ensures { result ≤ length self.now.out.now }
+        ensures within { result ≤ length self.now.out.now }
+        ensures place { result ≡ self.now.to }
     {
         self.to
     }
@@ -102,7 +106,10 @@ impl<'a> Answers<'a> {
         self.to = byte_at(self.out, self.to, b);
     }
 
-    pub fn bytes(&mut self, text: &[u8]) {
+    pub fn bytes(&mut self, text: &[u8])
+        ensures written { WrittenAt self.old.out.now self.old.to text.now self.new.out.now self.new.to }
+        ensures call { self.new.call ≡ self.old.call }
+    {
         self.to = bytes_at(self.out, self.to, text);
     }
 
@@ -169,10 +176,13 @@ impl<'a> Answers<'a> {
     }
 }
 
-// So a caller can `write!` any value that has a `Display`. What does not fit is left out, as ever, so no writing fails.
+// So a caller can `write!` any value that has a `Display`. What does not fit is left out, as ever, so `write_str` never fails.
 impl fmt::Write for Answers<'_> {
+    ghost write_str_gives = { λ a text b. WrittenAt a.out.now a.to text b.out.now b.to × (b.call ≡ a.call) };
+
     fn write_str(&mut self, s: &str) -> fmt::Result
-        ensures ok { IsOk result }
+        ensures ok { IsOk result → WrittenAt self.old.out.now self.old.to s.now self.new.out.now self.new.to × (self.new.call ≡ self.old.call) }
+        ensures always { IsOk result }
     {
         self.bytes(s.as_bytes());
         Ok(())

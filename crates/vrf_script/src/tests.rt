@@ -1,5 +1,5 @@
-// What the answers print of a value by its `Display`, and that what is shown in a line is printed alike. (No clause speaks of the bytes in the
-// buffer.)
+// What the buffer of the answers holds after a `write!` of values that have a `Display`, and that a refusal or a stop is shown in a line as it is
+// printed. (No clause speaks of a whole line.)
 use crate::answers::Answers;
 use crate::script::Stop;
 use std::fmt::Write;
